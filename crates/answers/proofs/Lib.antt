@@ -1,0 +1,2 @@
+-- Laws of the ladder of tests.
+pub mod Ladder

@@ -1,0 +1,1 @@
+// The control block: its position, and what calls set in it.

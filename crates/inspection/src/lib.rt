@@ -1,0 +1,1 @@
+// Inspection at log-in: the lowest bad slot, and the blocks that entries name.

@@ -1,0 +1,6 @@
+-- "Volume and entry" of 01, and what inspection says of names.
+pub mod Geometry
+pub mod Name
+pub mod Entry
+pub mod Directory
+pub mod Record
