@@ -1,0 +1,2 @@
+-- Laws of the geometry, of slots and records laid into the volume, and of a change made to every slot.
+pub mod GeometryLaws
