@@ -1,14 +1,13 @@
+-- A lawful volume has at most 1,048,576 bytes.
+use native.Mathlib.Omega.{arith}
 use borrow.Author.Needs.{needs}
+use Rattle.volume.proofs.GeometryLaws.{bounds}
 use Rattle.volume.proofs.Geometry.bytes.Statement.{statement}
 use Rattle.volume.proofs.Geometry.bytes.Tie as tie
-use Rattle.volume.proofs.Geometry.bytes.Reads as reads
-use Rattle.volume.proofs.Geometry.bytes.Lts as lts
 
--- src/lib.rt:56:9
 mul-result : tie.Need-mul-result
-mul-result c = ?
+mul-result c = omega (arith, bounds _ (c .before .pre))
 
--- src/lib.rt:52:5
 returns : tie.Need-returns
 returns c = search needs
 

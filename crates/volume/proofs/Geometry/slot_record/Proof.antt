@@ -1,15 +1,12 @@
+-- The record that holds a slot is one of the volume.
 use borrow.Author.Needs.{needs}
+use Rattle.volume.proofs.GeometryLaws.{slot-record-below}
 use Rattle.volume.proofs.Geometry.slot_record.Statement.{statement}
 use Rattle.volume.proofs.Geometry.slot_record.Tie as tie
-use Rattle.volume.proofs.Geometry.slot_record.Reads as reads
-use Rattle.volume.proofs.Geometry.slot_record.Lts as lts
-use Rattle.volume.proofs.Geometry.start.Reads as start-reads
 
--- src/lib.rt:94:9
 start-requires : tie.Need-start-requires
-start-requires c κs = ?
+start-requires c κs = (c .pre .0, slot-record-below _ (c .pre .0) (c .args .i) (c .pre .1))
 
--- src/lib.rt:90:5
 returns : tie.Need-returns
 returns c = search needs
 
