@@ -41,7 +41,7 @@ unfoldable pub makeAct : Drive → List ℕ → List ℕ → Act
 makeAct d v f =
     unless (makeLadder d v f)
     (done (findSlot (d .geometry) v (d .user) (nameOf f) Empty % 4) keeps
-    (entryTo (findSlot (d .geometry) v (d .user) (nameOf f) Empty) (freshEntry (d .user) (nameOf f)) ∷ []) (made f) [])
+    (entryTo (findSlot (d .geometry) v (d .user) (nameOf f) Empty) (freshEntry (d .user) (nameOf f)) ∷ []) (made f (nameOf f)) [])
 
 -- "old name in 1..11, new in 17..27; all entries of the file take the new one"
 unfoldable pub renameLadder : Drive → List ℕ → List ℕ → List Test
