@@ -1,6 +1,7 @@
 -- The calls that we serve, each with its tests in the paper's order and with all that it leaves.
 pub mod State
 pub mod Tests
+pub mod Lent
 pub mod Outcome
 pub mod LogIn
 pub mod Open
