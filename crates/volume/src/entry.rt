@@ -3,7 +3,16 @@ ghost use mathlib.Core.Path.{_≡_};
 ghost use mathlib.Core.Bool.{Bool, true, false};
 ghost use Prim.Native.Nat.{ℕ, _+_, _*_, _/_, _%_, _≤_, _<_};
 ghost use lib.ListN.{length};
-ghost use Rattle.volume.specs.Entry.{extent};
+ghost use Rattle.volume.specs.Geometry.{lawful};
+ghost use Rattle.volume.specs.Name.{strip};
+ghost use Rattle.volume.specs.Entry.{extent, places, blockIn, countOf, ofFile, ofGroup, matches};
+ghost use Rattle.volume.specs.Directory.{fits};
+use crate::Geometry;
+use crate::Wanted;
+use crate::names;
+
+// The first byte of an empty slot.
+pub const EMPTY: u8 = 0xE5;
 
 // The extent number of an entry or of a control block.
 pub fn extent_of(e: &[u8]) -> usize
@@ -11,4 +20,81 @@ pub fn extent_of(e: &[u8]) -> usize
     ensures { λ r. ⌜ (r ≡ extent (now (e .entry))) × (r < 8448) ⌝ }
 {
     32 * lists::wide(e[14]) + lists::wide(e[12])
+}
+
+// How many records the entry counts in extent x of its group.
+pub fn count_of(e: &[u8], x: usize) -> u8
+    requires { ⌜ length (now e) ≡ 32 ⌝ }
+    ensures { λ r. ⌜ (r ≡ countOf (now (e .entry)) x) × (r ≤ 128) ⌝ }
+{
+    let own = extent_of(e);
+    if x < own {
+        return 128;
+    }
+    if own < x {
+        return 0;
+    }
+    if e[15] < 128 { e[15] } else { 128 }
+}
+
+// The block number in place p of the entry's map.
+pub fn block_in(g: Geometry, e: &[u8], p: usize) -> usize
+    requires { ⌜ (p < places g) × (length (now e) ≡ 32) ⌝ }
+    ensures { λ r. ⌜ (r ≡ blockIn g (now (e .entry)) p) × (r < 256) ⌝ }
+{
+    lists::wide(e[16 + p])
+}
+
+// Is it an entry of this user's file of this name?
+fn of_file(e: &[u8], user: u8, name: &[u8]) -> bool
+    requires { ⌜ (length (now e) ≡ 32) × (length (now name) ≡ 11) ⌝ }
+    ensures { λ r. ⌜ r ≡ ofFile user (strip (now (name .entry))) (now (e .entry)) ⌝ }
+{
+    if e[0] != user {
+        return false;
+    }
+    names::same_name(&e[1..12], name)
+}
+
+// Is it the entry of group k of this file?
+fn of_group(g: Geometry, e: &[u8], user: u8, name: &[u8], k: usize) -> bool
+    requires { ⌜ (lawful g ≡ true) × ((length (now e) ≡ 32) × (length (now name) ≡ 11)) ⌝ }
+    ensures { λ r. ⌜ r ≡ ofGroup g user (strip (now (name .entry))) k (now (e .entry)) ⌝ }
+{
+    if e[0] != user {
+        return false;
+    }
+    let own = g.group(extent_of(e));
+    if own != k {
+        return false;
+    }
+    of_file(e, user, name)
+}
+
+// Is it an entry of this user whose name the pattern matches?
+fn is_match(e: &[u8], user: u8, pattern: &[u8]) -> bool
+    requires { ⌜ (length (now e) ≡ 32) × (length (now pattern) ≡ 11) ⌝ }
+    ensures { λ r. ⌜ r ≡ matches user (strip (now (pattern .entry))) (now (e .entry)) ⌝ }
+{
+    if e[0] != user {
+        return false;
+    }
+    names::like_name(&e[1..12], pattern)
+}
+
+// Does the entry have what is wanted, for this user and this name or pattern?
+pub fn has(g: Geometry, e: &[u8], user: u8, name: &[u8], wanted: Wanted) -> bool
+    requires { ⌜ (lawful g ≡ true) × ((length (now e) ≡ 32) × (length (now name) ≡ 11)) ⌝ }
+    ensures { λ r. ⌜ r ≡ fits g user (strip (now (name .entry))) wanted (now (e .entry)) ⌝ }
+{
+    match wanted {
+        Wanted::Any => true,
+        Wanted::Empty => e[0] == EMPTY,
+        Wanted::File => of_file(e, user, name),
+        Wanted::ReadOnlyFile => of_file(e, user, name) & (128 <= e[9]),
+        Wanted::Group(k) => of_group(g, e, user, name, k),
+        Wanted::Match => is_match(e, user, name),
+        Wanted::ReadOnlyMatch => is_match(e, user, name) & (128 <= e[9]),
+        Wanted::MatchGroup(k) => is_match(e, user, name) & (g.group(extent_of(e)) == k),
+    }
 }

@@ -2,9 +2,12 @@
 ghost use mathlib.Core.Path.{_≡_};
 ghost use mathlib.Core.Bool.{Bool, true, false};
 ghost use Prim.Native.Nat.{ℕ, _+_, _*_, _/_, _%_, _≤_, _<_};
+ghost use Rattle.volume.specs.Entry.{places};
 ghost use Rattle.volume.specs.Geometry.{lawful, bytes, records, extents, start, slots, slotStart, recordStart, groupOf, placeOf, inside};
 
+pub mod directory;
 pub mod entry;
+pub mod names;
 
 // How the volume is cut up: B, T and D of the paper.
 pub struct Geometry {
@@ -45,6 +48,14 @@ impl Geometry {
             & (self.directory < self.total)
     }
 
+    // T times B: the volume's length.
+    pub fn bytes(self) -> usize
+        requires { ⌜ lawful self ≡ true ⌝ }
+        ensures { λ r. ⌜ r ≡ bytes self ⌝ }
+    {
+        self.total * self.block
+    }
+
     // R: records a block.
     pub fn records(self) -> usize
         ensures { λ r. ⌜ r ≡ records self ⌝ }
@@ -57,5 +68,69 @@ impl Geometry {
         ensures { λ r. ⌜ r ≡ extents self ⌝ }
     {
         self.block / Geometry::EXTENT
+    }
+
+    // How many slots the directory has.
+    pub fn slots(self) -> usize
+        requires { ⌜ lawful self ≡ true ⌝ }
+        ensures { λ r. ⌜ (r ≡ slots self) × (r ≤ 2048) ⌝ }
+    {
+        4 * (self.directory * self.records())
+    }
+
+    // Where logical record q begins.
+    pub fn start(self, q: usize) -> usize
+        requires { ⌜ (lawful self ≡ true) × (q < self .total * records self) ⌝ }
+        ensures { λ r. ⌜ (r ≡ start self q) × (r + 128 ≤ bytes self) ⌝ }
+    {
+        q * Geometry::RECORD
+    }
+
+    // Where the directory record begins that holds slot i.
+    pub fn slot_record(self, i: usize) -> usize
+        requires { ⌜ (lawful self ≡ true) × (i < slots self) ⌝ }
+        ensures { λ r. ⌜ (r ≡ start self (i / 4)) × (r + 128 ≤ bytes self) ⌝ }
+    {
+        self.start(i / 4)
+    }
+
+    // Where slot i begins.
+    pub fn slot_start(self, i: usize) -> usize
+        requires { ⌜ (lawful self ≡ true) × (i < slots self) ⌝ }
+        ensures { λ r. ⌜ (r ≡ slotStart self i) × (r + 32 ≤ bytes self) ⌝ }
+    {
+        self.slot_record(i) + i % 4 * Geometry::ENTRY
+    }
+
+    // Where record n begins that lies in block b.
+    pub fn record_start(self, b: usize, n: usize) -> usize
+        requires { ⌜ (lawful self ≡ true) × (b < self .total) ⌝ }
+        ensures { λ r. ⌜ (r ≡ recordStart self b n) × (r + 128 ≤ bytes self) ⌝ }
+    {
+        let records = self.records();
+        self.start(b * records + n % records)
+    }
+
+    // The group of extent x.
+    pub fn group(self, x: usize) -> usize
+        requires { ⌜ lawful self ≡ true ⌝ }
+        ensures { λ r. ⌜ r ≡ groupOf self x ⌝ }
+    {
+        x / self.extents()
+    }
+
+    // The map place of record n.
+    pub fn place(self, n: usize) -> usize
+        requires { ⌜ lawful self ≡ true ⌝ }
+        ensures { λ r. ⌜ (r ≡ placeOf self n) × (r < places self) ⌝ }
+    {
+        n % (128 * self.extents()) / self.records()
+    }
+
+    // Is the block one from D to T-1?
+    pub fn is_inside(self, b: usize) -> bool
+        ensures { λ r. ⌜ r ≡ inside self b ⌝ }
+    {
+        (self.directory <= b) & (b < self.total)
     }
 }
