@@ -3,15 +3,9 @@ use answers::Answer;
 use reading::Kept;
 use volume::Geometry;
 
-mod login;
-mod naming;
-mod opening;
-mod reads;
-mod searching;
 mod small;
 mod state;
 mod tests;
-mod writes;
 
 // A search that is kept between calls: its kind, the user and the pattern of its first call, and its last hit.
 pub struct Search {

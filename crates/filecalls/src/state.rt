@@ -2,19 +2,21 @@
 ghost use mathlib.Core.Path.{_≡_};
 ghost use mathlib.Core.Bool.{Bool, true, false};
 ghost use Prim.Native.Nat.{ℕ};
+ghost use lib.ListN.{length};
 ghost use Rattle.answers.specs.declared.Answer.the-variants.{Done, Refused};
 ghost use Rattle.filecalls.specs.declared.Reply.{Reply};
 ghost use Rattle.filecalls.specs.State.{goodPattern, goodKept, isOpen, closed};
-use answers::Answer;
-use answers::Refusal;
 use crate::Drive;
 use crate::Reply;
 use crate::Search;
+use answers::Answer;
+use answers::Refusal;
 use reading::Kept;
 use volume::Geometry;
 
 // Did the pattern pass 39 and 40?
-fn is_pattern(pattern: &[u8; 12]) -> bool
+fn is_pattern(pattern: &[u8]) -> bool
+    requires { ⌜ length (now pattern) ≡ 12 ⌝ }
     ensures { λ r. ⌜ r ≡ goodPattern (now (pattern .entry)) ⌝ }
 {
     let ex = pattern[11];
@@ -22,7 +24,8 @@ fn is_pattern(pattern: &[u8; 12]) -> bool
 }
 
 // Is a kept search of this kind within the rules, n being the number of slots?
-fn is_kept(kind: Kept, user: u8, last: usize, pattern: &[u8; 12], n: usize) -> bool
+fn is_kept(kind: Kept, user: u8, last: usize, pattern: &[u8], n: usize) -> bool
+    requires { ⌜ length (now pattern) ≡ 12 ⌝ }
     ensures { λ r. ⌜ r ≡ goodKept kind user last (now (pattern .entry)) n ⌝ }
 {
     match kind {

@@ -5,8 +5,8 @@ ghost use Prim.Native.Nat.{ℕ};
 ghost use lib.ListN.{length};
 ghost use Rattle.answers.specs.Refusal.{firstMet};
 ghost use Rattle.filecalls.specs.Lent.{lentTests, namedTests};
-use answers::Refusal;
 use crate::Drive;
+use answers::Refusal;
 
 impl Drive {
     // 32, 33, 34, 35 by the lengths that are lent; a length that is not lent is given as the right one.
