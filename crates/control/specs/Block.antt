@@ -39,9 +39,9 @@ setTo f e n cr =
 unfoldable pub opened : List ℕ → Entry → List ℕ
 opened f e = put (put (set (set (set f 13 0) 14 0) 15 (countOf e (byte f 12))) 1 11 (part e 1 11)) 16 16 (part e 16 16)
 
--- "Control block 1..11 likewise, 12..31 become 0."
-unfoldable pub made : List ℕ → List ℕ
-made f = put (put f 1 11 (nameAt f 1)) 12 20 (replicate 20 0)
+-- "Control block 1..11 likewise, 12..31 become 0": the name without top bits
+unfoldable pub made : List ℕ → List ℕ → List ℕ
+made f name = put (put f 1 11 name) 12 20 (replicate 20 0)
 
 -- "in r0 r1 r2, low byte first"
 unfoldable pub withRandom : List ℕ → ℕ → List ℕ

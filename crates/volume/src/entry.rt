@@ -7,9 +7,9 @@ ghost use Rattle.volume.specs.Geometry.{lawful};
 ghost use Rattle.volume.specs.Name.{strip};
 ghost use Rattle.volume.specs.Entry.{extent, places, blockIn, countOf, ofFile, ofGroup, matches};
 ghost use Rattle.volume.specs.Directory.{fits};
-use crate::names;
 use crate::Geometry;
 use crate::Wanted;
+use crate::names;
 
 // The first byte of an empty slot.
 pub const EMPTY: u8 = 0xE5;

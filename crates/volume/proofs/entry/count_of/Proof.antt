@@ -1,37 +1,40 @@
+-- The branches are the cases of the definition: below the entry's own extent, above it, in it.
+use mathlib.Core.Path.{sym}
+use native.Mathlib.Omega.{arith}
+use denote.Ref.{now}
 use borrow.Author.Needs.{needs}
+use Rattle.volume.proofs.EntryLaws.{count-below, count-above, count-own}
 use Rattle.volume.proofs.entry.count_of.Statement.{statement}
 use Rattle.volume.proofs.entry.count_of.Tie as tie
-use Rattle.volume.proofs.entry.count_of.Reads as reads
-use Rattle.volume.proofs.entry.count_of.Lts as lts
-use Rattle.volume.proofs.entry.extent_of.Reads as extent-of-reads
 
--- src/entry.rt:30:9
 extent-of-requires : tie.Need-extent-of-requires
 extent-of-requires c κs = search needs
 
--- src/entry.rt:32:9
 returns : tie.Need-returns
-returns c = ?
+returns c =
+    let a = c .before .before .before .args in
+    (sym (count-below (now (a .e)) (a .x) (omega arith)), search needs)
 
--- src/entry.rt:35:9
 returns-2 : tie.Need-returns-2
-returns-2 c = ?
+returns-2 c =
+    let a = c .before .before .before .before .args in
+    (sym (count-above (now (a .e)) (a .x) (omega arith)), search needs)
 
--- src/entry.rt:37:8
 shared-slice-read-if3 : tie.Need-shared-slice-read-if3
 shared-slice-read-if3 c = search needs
 
--- src/entry.rt:37:22
 shared-slice-read-result : tie.Need-shared-slice-read-result
 shared-slice-read-result c = search needs
 
--- src/entry.rt:26:1
 returns-3 : tie.Need-returns-3
-returns-3 c = ?
+returns-3 c =
+    let a = c .before .before .before .before .before .before .before .args in
+    (rw (count-own (now (a .e)) (a .x) (omega arith)) (omega arith), search needs)
 
--- src/entry.rt:26:1
 returns-4 : tie.Need-returns-4
-returns-4 c = ?
+returns-4 c =
+    let a = c .before .before .before .before .before .before .args in
+    (rw (count-own (now (a .e)) (a .x) (omega arith)) (omega arith), search needs)
 
 pub count-of-spec : {M : Type 1} → statement M
 count-of-spec =

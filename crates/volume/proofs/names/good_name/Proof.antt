@@ -1,46 +1,47 @@
+-- The bytes passed so far are within the rule, so what is left decides, and then the first byte.
+use mathlib.Core.Path.{sym, _∙_}
+use Prim.Native.Nat.{_≤_, _-_}
+use denote.Ref.{now}
 use borrow.Author.Needs.{needs}
+use borrow.Author.Tests.{not-true, not-false}
+use Rattle.lists.proofs.SearchLaws.{Passed, passed-start, passed-next, passed-fails, passed-all}
+use Rattle.volume.proofs.NameLaws.{goodAt, good-places}
 use Rattle.volume.proofs.names.good_name.Statement.{statement}
 use Rattle.volume.proofs.names.good_name.Tie as tie
-use Rattle.volume.proofs.names.good_name.Reads as reads
-use Rattle.volume.proofs.names.good_name.Lts as lts
 
 abbrev Inv-loop : tie.InvT-loop
-Inv-loop pattern name k₀ k = ?
+Inv-loop pattern name k₀ k = (k ≤ 11) × Passed (goodAt pattern name) 0 11 k
 
 abbrev μ-loop : tie.MeasureT-loop
-μ-loop pattern name k₀ k = ?
+μ-loop pattern name k₀ k = 11 - k
 
--- src/names.rt:45:5
 loop-holds : tie.Need-loop-holds Inv-loop μ-loop
-loop-holds c = search needs
+loop-holds c = (search needs, passed-start)
 
--- src/names.rt:46:17
 shared-slice-read-x : tie.Need-shared-slice-read-x Inv-loop μ-loop
 shared-slice-read-x c = search needs
 
--- src/names.rt:48:13
 returns : tie.Need-returns Inv-loop μ-loop
-returns c = search needs
+returns c =
+    let l = c .before .before .before in
+    sym (good-places 11 (l .before .args .pattern) (now (l .before .args .name)) (search needs) ∙ rw (passed-fails (l .loop .inv .1) (search needs) (not-true _ (c .if1 .taken))))
 
--- src/names.rt:50:9
 add-k : tie.Need-add-k Inv-loop μ-loop
 add-k c = search needs
 
--- src/names.rt:45:5
 loop-less : tie.Need-loop-less Inv-loop μ-loop
 loop-less c = search needs
 
--- src/names.rt:45:5
 loop-again : tie.Need-loop-again Inv-loop μ-loop
-loop-again c = search needs
+loop-again c = (search needs, passed-next (c .before .before .before .loop .inv .1) (search needs) (not-false _ (c .if1 .left)))
 
--- src/names.rt:52:5
 shared-slice-read-result : tie.Need-shared-slice-read-result Inv-loop μ-loop
 shared-slice-read-result c = search needs
 
--- src/names.rt:40:1
 returns-2 : tie.Need-returns-2 Inv-loop μ-loop
-returns-2 c = search needs
+returns-2 c =
+    let l = c .before .before in
+    sym (good-places 11 (l .before .args .pattern) (now (l .before .args .name)) (search needs) ∙ rw (passed-all (l .loop .inv .1) (search needs)))
 
 pub good-name-spec : {M : Type 1} → statement M
 good-name-spec =

@@ -1,46 +1,48 @@
+-- The pattern matched the places passed so far, so what is left decides.
+use mathlib.Core.Path.{sym, _∙_}
+use Prim.Native.Nat.{_≤_, _-_}
+use denote.Ref.{now}
 use borrow.Author.Needs.{needs}
+use borrow.Author.Tests.{not-true, not-false}
+use Rattle.lists.proofs.SearchLaws.{Passed, passed-start, passed-next, passed-fails, passed-all}
+use Rattle.volume.proofs.NameLaws.{likeAt, like-places}
 use Rattle.volume.proofs.names.like_name.Statement.{statement}
 use Rattle.volume.proofs.names.like_name.Tie as tie
-use Rattle.volume.proofs.names.like_name.Reads as reads
-use Rattle.volume.proofs.names.like_name.Lts as lts
 
 abbrev Inv-loop : tie.InvT-loop
-Inv-loop name pattern k₀ k = ?
+Inv-loop name pattern k₀ k = (k ≤ 11) × Passed (likeAt name pattern) 0 11 k
 
 abbrev μ-loop : tie.MeasureT-loop
-μ-loop name pattern k₀ k = ?
+μ-loop name pattern k₀ k = 11 - k
 
--- src/names.rt:29:5
 loop-holds : tie.Need-loop-holds Inv-loop μ-loop
-loop-holds c = search needs
+loop-holds c = (search needs, passed-start)
 
--- src/names.rt:30:17
 shared-slice-read-p : tie.Need-shared-slice-read-p Inv-loop μ-loop
 shared-slice-read-p c = search needs
 
--- src/names.rt:31:27
 shared-slice-read-if1 : tie.Need-shared-slice-read-if1 Inv-loop μ-loop
 shared-slice-read-if1 c = search needs
 
--- src/names.rt:32:13
 returns : tie.Need-returns Inv-loop μ-loop
-returns c = search needs
+returns c =
+    let l = c .before .before .before .before in
+    sym (like-places 11 (now (l .before .args .name)) (now (l .before .args .pattern)) (search needs) (search needs)
+    ∙ passed-fails (l .loop .inv .1) (search needs) (not-true _ (c .if1 .taken)))
 
--- src/names.rt:34:9
 add-k : tie.Need-add-k Inv-loop μ-loop
 add-k c = search needs
 
--- src/names.rt:29:5
 loop-less : tie.Need-loop-less Inv-loop μ-loop
 loop-less c = search needs
 
--- src/names.rt:29:5
 loop-again : tie.Need-loop-again Inv-loop μ-loop
-loop-again c = search needs
+loop-again c = (search needs, passed-next (c .before .before .before .before .loop .inv .1) (search needs) (not-false _ (c .if1 .left)))
 
--- src/names.rt:24:1
 returns-2 : tie.Need-returns-2 Inv-loop μ-loop
-returns-2 c = search needs
+returns-2 c =
+    let l = c .before in
+    sym (like-places 11 (now (l .before .args .name)) (now (l .before .args .pattern)) (search needs) (search needs) ∙ passed-all (l .loop .inv .1) (search needs))
 
 pub like-name-spec : {M : Type 1} → statement M
 like-name-spec =

@@ -1,0 +1,11 @@
+-- The calls that we serve, each with its tests in the paper's order and with all that it leaves.
+pub mod State
+pub mod Tests
+pub mod Outcome
+pub mod LogIn
+pub mod Open
+pub mod Search
+pub mod Names
+pub mod Read
+pub mod Write
+pub mod Small

@@ -1,0 +1,32 @@
+-- The calls that look at no volume: write protect (28), user (32), set random record (36).
+use mathlib.Core.Bool.{Bool, not, cond, _&&_}
+use mathlib.Core.List.{List, [], _∷_}
+use Prim.Native.Nat.{ℕ}
+use lib.Dec.{leb, ltb, eqb}
+use Rattle.control.specs.Block.{position, positionFits, withRandom}
+use Rattle.answers.specs.declared.Refusal.the-variants.{UserCode}
+use Rattle.answers.specs.Refusal.{Test, test}
+use Rattle.filecalls.specs.declared.Drive.{Drive}
+use Rattle.filecalls.specs.Tests.{closedState, blockLength, driveCode, tooLarge}
+use Rattle.filecalls.specs.Outcome.{keeps, protects, becomes, Act, done, unless}
+
+-- "protects until the next log-in"
+unfoldable pub protectTests : Drive → List Test
+protectTests d = closedState d ∷ []
+
+unfoldable pub protectAct : Drive → Act
+protectAct d = unless (protectTests d) (done 0 protects [] [] [])
+
+-- "0..15 sets, answer 0; 255 answers the current code"
+unfoldable pub userTests : Drive → ℕ → List Test
+userTests d code = closedState d ∷ test UserCode (ltb 15 code && ltb code 255) ∷ []
+
+unfoldable pub userAct : Drive → ℕ → Act
+userAct d code = unless (userTests d code) (cond (eqb code 255) (done (d .user) keeps [] [] []) (done 0 (becomes code) [] [] []))
+
+-- "the sequential position in r0 r1 r2"
+unfoldable pub setRandomTests : Drive → List ℕ → List Test
+setRandomTests d f = closedState d ∷ blockLength f ∷ driveCode f ∷ tooLarge (positionFits f) ∷ []
+
+unfoldable pub setRandomAct : Drive → List ℕ → Act
+setRandomAct d f = unless (setRandomTests d f) (done 0 keeps [] (withRandom f (position f)) [])

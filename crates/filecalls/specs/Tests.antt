@@ -1,0 +1,47 @@
+-- The tests that look at the state and at what is lent, each with its refusal.
+use mathlib.Core.Bool.{Bool, not}
+use mathlib.Core.List.{List}
+use Prim.Native.Nat.{ℕ}
+use lib.Dec.{leb, ltb, eqb}
+use lib.ListN.{length}
+use Rattle.lists.specs.Bytes.{byte}
+use Rattle.volume.specs.Geometry.{bytes}
+use Rattle.volume.specs.Name.{nameAt, goodName}
+use Rattle.answers.specs.declared.Refusal.the-variants.{Closed, VolumeLength, BlockLength, BufferLength, DriveCode, Name, Position, Beyond, Protected}
+use Rattle.answers.specs.Refusal.{Test, test}
+use Rattle.filecalls.specs.declared.Drive.{Drive}
+use Rattle.filecalls.specs.State.{isOpen}
+
+-- 32: "geometry outside the rules, or (not log-in) closed state"
+abbrev pub closedState : Drive → Test
+closedState d = test Closed (not (isOpen d))
+
+-- 33, 34, 35: "length of volume; control block not 36; transfer buffer not 128"
+abbrev pub volumeLength : Drive → List ℕ → Test
+volumeLength d v = test VolumeLength (not (eqb (length v) (bytes (d .geometry))))
+
+abbrev pub blockLength : List ℕ → Test
+blockLength f = test BlockLength (not (eqb (length f) 36))
+
+abbrev pub bufferLength : List ℕ → Test
+bufferLength b = test BufferLength (not (eqb (length b) 128))
+
+-- 42: "dr not 0 or 1"
+abbrev pub driveCode : List ℕ → Test
+driveCode f = test DriveCode (ltb 1 (byte f 0))
+
+-- 39: "a name outside the inspection's byte rule; 3FH allowed in open, search, delete only": the name from byte a on
+abbrev pub badName : Bool → List ℕ → ℕ → Test
+badName pattern f a = test Name (not (goodName pattern (nameAt f a)))
+
+-- 40: "ex, s2 or cr too large where used"
+abbrev pub tooLarge : Bool → Test
+tooLarge fits = test Position (not fits)
+
+-- 6
+abbrev pub beyond : Bool → Test
+beyond met = test Beyond met
+
+-- 37
+abbrev pub protectedDrive : Drive → Test
+protectedDrive d = test Protected (d .protected)

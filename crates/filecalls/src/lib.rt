@@ -1,0 +1,27 @@
+// The file calls: every call is a method of the drive state that takes the state and hands it back.
+use answers::Answer;
+use reading::Kept;
+use volume::Geometry;
+
+// A search that is kept between calls: its kind, the user and the pattern of its first call, and its last hit.
+pub struct Search {
+    pub kind: Kept,
+    pub user: u8,
+    pub last: usize,
+    pub pattern: [u8; 12],
+}
+
+// The drive's state.
+pub struct Drive {
+    pub geometry: Geometry,
+    pub user: u8,
+    pub protected: bool,
+    pub search: Search,
+    pub held: [u64; 4],
+}
+
+// What a call answers, and the state that it hands back.
+pub struct Reply {
+    pub answer: Answer,
+    pub drive: Drive,
+}

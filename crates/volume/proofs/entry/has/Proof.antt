@@ -1,0 +1,117 @@
+-- Each arm is the definition's case of the same name.
+use borrow.Author.Needs.{needs}
+use Rattle.volume.proofs.entry.has.Statement.{statement}
+use Rattle.volume.proofs.entry.has.Tie as tie
+
+enum-told : tie.Need-enum-told
+enum-told c = search needs
+
+enum-told-2 : tie.Need-enum-told-2
+enum-told-2 c = search needs
+
+shared-slice-read-result : tie.Need-shared-slice-read-result
+shared-slice-read-result c = search needs
+
+enum-told-3 : tie.Need-enum-told-3
+enum-told-3 c = search needs
+
+of-file-requires : tie.Need-of-file-requires
+of-file-requires c κs = search needs
+
+enum-told-4 : tie.Need-enum-told-4
+enum-told-4 c = search needs
+
+of-file-requires-2 : tie.Need-of-file-requires-2
+of-file-requires-2 c κs = search needs
+
+shared-slice-read-result-2 : tie.Need-shared-slice-read-result-2
+shared-slice-read-result-2 c = search needs
+
+enum-known-wanted : tie.Need-enum-known-wanted
+enum-known-wanted c = search needs
+
+of-group-requires : tie.Need-of-group-requires
+of-group-requires c κs = search needs
+
+enum-told-5 : tie.Need-enum-told-5
+enum-told-5 c = search needs
+
+is-match-requires : tie.Need-is-match-requires
+is-match-requires c κs = search needs
+
+enum-told-6 : tie.Need-enum-told-6
+enum-told-6 c = search needs
+
+is-match-requires-2 : tie.Need-is-match-requires-2
+is-match-requires-2 c κs = search needs
+
+shared-slice-read-result-3 : tie.Need-shared-slice-read-result-3
+shared-slice-read-result-3 c = search needs
+
+enum-known-wanted-2 : tie.Need-enum-known-wanted-2
+enum-known-wanted-2 c = search needs
+
+is-match-requires-3 : tie.Need-is-match-requires-3
+is-match-requires-3 c κs = search needs
+
+extent-of-requires : tie.Need-extent-of-requires
+extent-of-requires c κs = search needs
+
+group-requires : tie.Need-group-requires
+group-requires c κs = search needs
+
+returns : tie.Need-returns
+returns c = search needs
+
+returns-2 : tie.Need-returns-2
+returns-2 c = rw (c .before .enum-told2 .given .1)
+
+returns-3 : tie.Need-returns-3
+returns-3 c = rw (c .before .enum-told3 .given .1) (c .of-file .ensures)
+
+returns-4 : tie.Need-returns-4
+returns-4 c = rw (c .before .before .enum-told4 .given .1, ← c .before .of-file2 .ensures)
+
+returns-5 : tie.Need-returns-5
+returns-5 c = rw (c .before .before .wanted .given .1) (c .of-group .ensures)
+
+returns-6 : tie.Need-returns-6
+returns-6 c = rw (c .before .enum-told5 .given .1) (c .is-match .ensures)
+
+returns-7 : tie.Need-returns-7
+returns-7 c = rw (c .before .before .enum-told6 .given .1, ← c .before .is-match2 .ensures)
+
+returns-8 : tie.Need-returns-8
+returns-8 c = rw (c .before .before .before .before .wanted2 .given .1, ← c .before .before .is-match3 .ensures, ← c .before .extent-of .ensures .0, ← c .group .ensures)
+
+pub has-spec : {M : Type 1} → statement M
+has-spec =
+    tie.close
+    (tie.spec
+    enum-told
+    enum-told-2
+    shared-slice-read-result
+    enum-told-3
+    of-file-requires
+    enum-told-4
+    of-file-requires-2
+    shared-slice-read-result-2
+    enum-known-wanted
+    of-group-requires
+    enum-told-5
+    is-match-requires
+    enum-told-6
+    is-match-requires-2
+    shared-slice-read-result-3
+    enum-known-wanted-2
+    is-match-requires-3
+    extent-of-requires
+    group-requires
+    returns
+    returns-2
+    returns-3
+    returns-4
+    returns-5
+    returns-6
+    returns-7
+    returns-8)
