@@ -1,0 +1,153 @@
+-- Scripts: calls one after the other, each given the state and the volume that the last one left, with what each answers
+-- and bytes that it leaves. `seen` performs the calls by their definitions, `told` is what the script says; a script holds
+-- where the two are equal.
+use mathlib.Core.Bool.{cond}
+use mathlib.Core.List.{List, [], _∷_}
+use Prim.Native.Nat.{ℕ}
+use lib.ListN.{length}
+use Rattle.lists.specs.Search.{lowFrom, anyFrom, everyFrom, countFrom, fold}
+use Rattle.lists.specs.Bytes.{part, put, all}
+use Rattle.volume.specs.declared.Geometry.{Geometry}
+use Rattle.volume.specs.Geometry.{lawful, start, slots, slotStart, recordStart, groupOf, placeOf, inside}
+use Rattle.volume.specs.Name.{strip, nameAt, same, like, goodName}
+use Rattle.volume.specs.Entry.{places, blockIn, withBlock, countOf, ofFile, ofGroup, matches}
+use Rattle.volume.specs.Directory.{slotAt, putSlot, findSlot, mapSlot}
+use Rattle.volume.specs.Record.{recordSlot, counted, present, recordAt, putRecord, slotRecord}
+use Rattle.blocks.specs.Held.{digit, holds, hold, release, wordOf, wordsOf, lowestFree, freeCount}
+use Rattle.control.specs.Block.{position, random, setTo, opened, made, withRandom}
+use Rattle.answers.specs.declared.Refusal.the-variants.{Closed}
+use Rattle.answers.specs.declared.Answer.{Answer}
+use Rattle.answers.specs.declared.Answer.the-variants.{Refused}
+use Rattle.answers.specs.Refusal.{firstMet}
+use Rattle.answers.specs.Answer.{numberOf, valueOf, succeeded}
+use Rattle.inspection.specs.GoodSlot.{goodFields, goodTopBits, inPlaces, names, namedBelow, goodPlace, seenBelow, goodSlot, lowestBad}
+use Rattle.inspection.specs.Named.{named, heldOf}
+use Rattle.reading.specs.Open.{openSlot, closeSlot}
+use Rattle.reading.specs.Search.{patternOf, hitFrom}
+use Rattle.reading.specs.Size.{entryEnd, larger, sizeOf}
+use Rattle.reading.specs.Read.{readBlock, readTests, readBytes}
+use Rattle.changing.specs.Sweep.{renamed, attributed, changed}
+use Rattle.changing.specs.Delete.{deleteTests, freePlace, freeEntry, freeSlot, freeMatches}
+use Rattle.changing.specs.Make.{makeTests, freshEntry}
+use Rattle.changing.specs.Rename.{renameTests}
+use Rattle.changing.specs.Write.{alloc, likeEntry, grown, writeSlot, baseEntry, needsBlock, writeBlock, writtenEntry, writeTests}
+use Rattle.filecalls.specs.declared.Drive.{Drive}
+use Rattle.filecalls.specs.State.{isOpen, closed}
+use Rattle.filecalls.specs.Outcome.{Outcome, outcome, left, unless, stored, storedAll, changedState}
+use Rattle.filecalls.specs.LogIn.{logIn as logInReply, logInTests, refusedLogIn}
+use Rattle.filecalls.specs.Open.{openTests, openAct, closeTests, closeAct, sizeTests, sizeAct}
+use Rattle.filecalls.specs.Search.{keptAt, newSearch, shown, firstTests, searchFirstAct, nextTests, searchNextAct}
+use Rattle.filecalls.specs.Names.{deleteLadder, deleteAct, makeLadder, makeAct, renameLadder, renameAct, attributesLadder, attributesAct}
+use Rattle.filecalls.specs.Read.{sequentialTests, randomTests, readDone, readSequentialAct, readRandomAct}
+use Rattle.filecalls.specs.Write.{writeEntry, writeChange, writeDone, writeSequentialAct, writeRandomAct, emptyTests, emptyRecordAct}
+use Rattle.filecalls.specs.Small.{protectTests, protectAct, userTests, userAct, setRandomTests, setRandomAct}
+
+-- The calls that we serve, each with what it is lent beside the volume: a control block, a transfer buffer.
+pub data Call : Type 0 where
+  logIn : Geometry → Call
+  openFile : List ℕ → Call
+  closeFile : List ℕ → Call
+  searchFirst : List ℕ → List ℕ → Call
+  searchNext : List ℕ → Call
+  delete : List ℕ → Call
+  readNext : List ℕ → List ℕ → Call
+  writeNext : List ℕ → List ℕ → Call
+  make : List ℕ → Call
+  rename : List ℕ → Call
+  protect : Call
+  attributes : List ℕ → Call
+  user : ℕ → Call
+  read : List ℕ → List ℕ → Call
+  write : List ℕ → List ℕ → Call
+  size : List ℕ → Call
+  setRandom : List ℕ → Call
+  emptyRecord : List ℕ → Call
+
+-- all that a call leaves, by its definition
+unfoldable pub perform : Call → Drive → List ℕ → Outcome
+perform (logIn g) d v = left (logInReply g v) v [] []
+perform (openFile f) d v = outcome d v f [] (openAct d v f)
+perform (closeFile f) d v = outcome d v f [] (closeAct d v f)
+perform (searchFirst f b) d v = outcome d v f b (searchFirstAct d v f b)
+perform (searchNext b) d v = outcome d v [] b (searchNextAct d v b)
+perform (delete f) d v = outcome d v f [] (deleteAct d v f)
+perform (readNext f b) d v = outcome d v f b (readSequentialAct d v f b)
+perform (writeNext f b) d v = outcome d v f b (writeSequentialAct d v f b)
+perform (make f) d v = outcome d v f [] (makeAct d v f)
+perform (rename f) d v = outcome d v f [] (renameAct d v f)
+perform protect d v = outcome d v [] [] (protectAct d)
+perform (attributes f) d v = outcome d v f [] (attributesAct d v f)
+perform (user u) d v = outcome d v [] [] (userAct d u)
+perform (read f b) d v = outcome d v f b (readRandomAct d v f b)
+perform (write f b) d v = outcome d v f b (writeRandomAct d v f b)
+perform (size f) d v = outcome d v f [] (sizeAct d v f)
+perform (setRandom f) d v = outcome d v f [] (setRandomAct d f)
+perform (emptyRecord f) d v = outcome d v f [] (emptyRecordAct d v f)
+
+-- What a call answers: whether it succeeded, the number, and the value beside it.
+abbrev pub answered : Answer → List ℕ
+answered a = cond (succeeded a) 1 0 ∷ numberOf a ∷ valueOf a ∷ []
+
+-- done with a code, logged in with so many free blocks, refused by a number, refused for a bad slot
+abbrev pub done : ℕ → List ℕ
+done code = 1 ∷ code ∷ 0 ∷ []
+
+abbrev pub free : ℕ → List ℕ
+free blocks = 1 ∷ 0 ∷ blocks ∷ []
+
+abbrev pub refused : ℕ → List ℕ
+refused number = 0 ∷ number ∷ 0 ∷ []
+
+abbrev pub badSlot : ℕ → List ℕ
+badSlot slot = 0 ∷ 36 ∷ slot ∷ []
+
+-- A line of a script: a call with what it answers, or something to be seen after the last call: the number of slots, the
+-- bytes from a place on of the volume, of the control block, of the transfer buffer.
+pub data Line : Type 0 where
+  call : Call → List ℕ → Line
+  slotsAre : ℕ → Line
+  volumeAt : ℕ → List ℕ → Line
+  blockAt : ℕ → List ℕ → Line
+  bufferAt : ℕ → List ℕ → Line
+
+-- what the lines show by the definitions, after a last call that left o
+unfoldable pub seenAfter : Outcome → List Line → List (List ℕ)
+seenAfter o [] = []
+seenAfter o (call c answer ∷ ls) =
+    let next : Outcome = perform c (o .drive) (o .volume) in
+    answered (next .answer) ∷ seenAfter next ls
+seenAfter o (slotsAre n ∷ ls) = (slots (o .drive .geometry) ∷ []) ∷ seenAfter o ls
+seenAfter o (volumeAt a l ∷ ls) = part (o .volume) a (length l) ∷ seenAfter o ls
+seenAfter o (blockAt a l ∷ ls) = part (o .block) a (length l) ∷ seenAfter o ls
+seenAfter o (bufferAt a l ∷ ls) = part (o .buffer) a (length l) ∷ seenAfter o ls
+
+-- what the lines say
+unfoldable pub toldBy : List Line → List (List ℕ)
+toldBy [] = []
+toldBy (call c answer ∷ ls) = answer ∷ toldBy ls
+toldBy (slotsAre n ∷ ls) = (n ∷ []) ∷ toldBy ls
+toldBy (volumeAt a l ∷ ls) = l ∷ toldBy ls
+toldBy (blockAt a l ∷ ls) = l ∷ toldBy ls
+toldBy (bufferAt a l ∷ ls) = l ∷ toldBy ls
+
+-- A script: a volume, and lines that begin with it and with the closed state.
+pub record Script : Type 0 where
+  pub volume : List ℕ
+  pub lines : List Line
+
+abbrev pub script : List ℕ → List Line → Script
+script volume lines = record { volume = volume; lines = lines }
+
+abbrev pub before : List ℕ → Outcome
+before v = record { answer = Refused Closed; drive = closed; volume = v; block = []; buffer = [] }
+
+-- Both sides of a statement: what the scripts show, and what they say. To unfold `seen` is to unfold every definition.
+unfoldable pub seen : List Script → List (List (List ℕ))
+unfolding seenAfter perform lowFrom anyFrom everyFrom countFrom fold part put all lawful start slotStart recordStart groupOf placeOf inside strip nameAt same like goodName places blockIn withBlock countOf ofFile ofGroup matches slotAt putSlot findSlot mapSlot recordSlot counted present recordAt putRecord slotRecord digit holds hold release wordOf wordsOf lowestFree freeCount position random setTo opened made withRandom firstMet goodFields goodTopBits inPlaces names namedBelow goodPlace seenBelow goodSlot lowestBad named heldOf openSlot closeSlot patternOf hitFrom entryEnd larger sizeOf readBlock readTests readBytes renamed attributed changed deleteTests freePlace freeEntry freeSlot freeMatches makeTests freshEntry renameTests alloc likeEntry grown writeSlot baseEntry needsBlock writeBlock writtenEntry writeTests isOpen outcome unless stored storedAll changedState logInReply logInTests refusedLogIn openTests openAct closeTests closeAct sizeTests sizeAct keptAt newSearch shown firstTests searchFirstAct nextTests searchNextAct deleteLadder deleteAct makeLadder makeAct renameLadder renameAct attributesLadder attributesAct sequentialTests randomTests readDone readSequentialAct readRandomAct writeEntry writeChange writeDone writeSequentialAct writeRandomAct emptyTests emptyRecordAct protectTests protectAct userTests userAct setRandomTests setRandomAct
+seen [] = []
+seen (s ∷ ss) = seenAfter (before (s .volume)) (s .lines) ∷ seen ss
+
+unfoldable pub told : List Script → List (List (List ℕ))
+unfolding toldBy
+told [] = []
+told (s ∷ ss) = toldBy (s .lines) ∷ told ss

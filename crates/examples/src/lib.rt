@@ -1,0 +1,1 @@
+// The paper's examples, evaluated: definitions and statements only, no code.
