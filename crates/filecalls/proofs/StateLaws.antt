@@ -13,17 +13,12 @@ use Rattle.answers.proofs.Ladder.{unmet}
 use Rattle.filecalls.specs.declared.Drive.{Drive}
 use Rattle.filecalls.specs.State.{goodKept, isOpen}
 use Rattle.filecalls.specs.Tests.{closedState, driveCode, badName}
+use Rattle.filecalls.specs.Ready.{Open, Lent}
 use Rattle.filecalls.specs.Lent.{lentTests, namedTests}
 
 pub and-parts : (a b : Bool) → (a && b) ≡ true → (a ≡ true) × (b ≡ true)
 and-parts true b e = (refl, e)
 and-parts false b e = absurd (false≢true e)
-
--- an open state
-pub record Open (d : Drive) : Type 0 where
-  pub law : lawful (d .geometry) ≡ true
-  pub user15 : d .user ≤ 15
-  pub kept : goodKept (d .search .kind) (d .search .user) (d .search .last) (d .search .pattern) (slots (d .geometry)) ≡ true
 
 pub is-open : (d : Drive) → isOpen d ≡ true → Open d
 unfolding isOpen
@@ -31,13 +26,6 @@ is-open d e =
     let p = and-parts (lawful (d .geometry) && leb (d .user) 15) _ e in
     let q = and-parts (lawful (d .geometry)) _ (p .0) in
     record { law = q .0; user15 = leb-true _ _ (q .1); kept = p .1 }
-
--- the lengths that are lent are right
-pub record Lent (d : Drive) (v f b : ℕ) : Type 0 where
-  pub state : Open d
-  pub volume : v ≡ bytes (d .geometry)
-  pub block : f ≡ 36
-  pub buffer : b ≡ 128
 
 same-length : (a b : ℕ) → not (eqb a b) ≡ false → a ≡ b
 same-length a b e = eqb-true a b (not-false (eqb a b) e)

@@ -1,7 +1,6 @@
 -- The calls that we serve, each with its tests in the paper's order and with all that it leaves.
 pub mod State
 pub mod Tests
-pub mod Lent
 pub mod Outcome
 pub mod LogIn
 pub mod Open
@@ -10,3 +9,5 @@ pub mod Names
 pub mod Read
 pub mod Write
 pub mod Small
+pub mod Ready
+pub mod Lent

@@ -5,7 +5,8 @@ use Rattle.volume.specs.Name.{goodName}
 use Rattle.answers.proofs.Ladder.{ladder-two}
 use Rattle.answers.specs.declared.Refusal.the-variants.{DriveCode, Name}
 use Rattle.filecalls.proofs.OutcomeLaws.{refuses, clears}
-use Rattle.filecalls.proofs.StateLaws.{Lent, lent-clear}
+use Rattle.filecalls.proofs.StateLaws.{lent-clear}
+use Rattle.filecalls.specs.Ready.{Lent}
 use Rattle.filecalls.specs.Tests.{driveCode, badName}
 use Rattle.filecalls.specs.Lent.{lentTests, namedTests}
 use Rattle.answers.proofs.Ladder.{ladder-stop, ladder-pass}
