@@ -1,5 +1,6 @@
 -- Laws of entries: what an entry counts below, in and above its own extent, and the entry in a slot as it is lent.
-use mathlib.Core.Path.{_≡_}
+use mathlib.Core.Path.{_≡_, refl, sym}
+use mathlib.Core.Bool.{Bool, true, false, _&&_, and-true, and-false, true≢false, false≢true}
 use mathlib.Core.List.{List}
 use Prim.Native.Nat.{ℕ, _+_, _-_, _<_, _≤_, min}
 use native.Mathlib.Omega.{arith}
@@ -35,3 +36,14 @@ unfolding slotAt part
 lent-slot g v i at e =
     let z : at + 32 - at ≡ 32 = omega arith in
     rw (z, e)
+
+-- "and" in the order in which code asks: the user and the group first, then the name
+pub group-passes : (user group entry : Bool) → (user && group) ≡ true → entry ≡ (entry && group)
+group-passes true true entry e = sym (and-true entry)
+group-passes true false entry e = absurd (false≢true e)
+group-passes false group entry e = absurd (false≢true e)
+
+pub group-fails : (user name group : Bool) → (user && group) ≡ false → false ≡ ((user && name) && group)
+group-fails true name true e = absurd (true≢false e)
+group-fails true name false e = sym (and-false name)
+group-fails false name group e = refl

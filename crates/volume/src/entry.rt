@@ -1,11 +1,13 @@
 // An entry: its 32 bytes, lent as a part of the volume.
 ghost use mathlib.Core.Path.{_≡_};
-ghost use mathlib.Core.Bool.{Bool, true, false};
+ghost use mathlib.Core.Bool.{Bool, true, false, _&&_};
 ghost use Prim.Native.Nat.{ℕ, _+_, _*_, _/_, _%_, _≤_, _<_};
 ghost use lib.ListN.{length};
-ghost use Rattle.volume.specs.Geometry.{lawful};
+ghost use lib.Dec.{eqb};
+ghost use Rattle.lists.specs.Bytes.{byte};
+ghost use Rattle.volume.specs.Geometry.{lawful, groupOf};
 ghost use Rattle.volume.specs.Name.{strip};
-ghost use Rattle.volume.specs.Entry.{extent, places, blockIn, countOf, ofFile, ofGroup, matches};
+ghost use Rattle.volume.specs.Entry.{extent, places, blockIn, countOf, ofFile, matches};
 ghost use Rattle.volume.specs.Directory.{fits};
 use crate::Geometry;
 use crate::Wanted;
@@ -56,19 +58,15 @@ fn of_file(e: &[u8], user: u8, name: &[u8]) -> bool
     names::same_name(&e[1..12], name)
 }
 
-// Is it the entry of group k of this file?
-fn of_group(g: Geometry, e: &[u8], user: u8, name: &[u8], k: usize) -> bool
-    requires { ⌜ (lawful g ≡ true) × ((length (now e) ≡ 32) × (length (now name) ≡ 11)) ⌝ }
-    ensures { λ r. ⌜ r ≡ ofGroup g user (strip (now (name .entry))) k (now (e .entry)) ⌝ }
+// Is it an entry of this user in group k?
+fn in_group(g: Geometry, e: &[u8], user: u8, k: usize) -> bool
+    requires { ⌜ (lawful g ≡ true) × (length (now e) ≡ 32) ⌝ }
+    ensures { λ r. ⌜ r ≡ (eqb (byte (now (e .entry)) 0) user && eqb (groupOf g (extent (now (e .entry)))) k) ⌝ }
 {
     if e[0] != user {
         return false;
     }
-    let own = g.group(extent_of(e));
-    if own != k {
-        return false;
-    }
-    of_file(e, user, name)
+    g.group(extent_of(e)) == k
 }
 
 // Is it an entry of this user whose name the pattern matches?
@@ -92,9 +90,17 @@ pub fn has(g: Geometry, e: &[u8], user: u8, name: &[u8], wanted: Wanted) -> bool
         Wanted::Empty => e[0] == EMPTY,
         Wanted::File => of_file(e, user, name),
         Wanted::ReadOnlyFile => of_file(e, user, name) & (128 <= e[9]),
-        Wanted::Group(k) => of_group(g, e, user, name, k),
+        Wanted::Group(k) => if in_group(g, e, user, k) {
+            of_file(e, user, name)
+        } else {
+            false
+        },
         Wanted::Match => is_match(e, user, name),
         Wanted::ReadOnlyMatch => is_match(e, user, name) & (128 <= e[9]),
-        Wanted::MatchGroup(k) => is_match(e, user, name) & (g.group(extent_of(e)) == k),
+        Wanted::MatchGroup(k) => if in_group(g, e, user, k) {
+            is_match(e, user, name)
+        } else {
+            false
+        },
     }
 }

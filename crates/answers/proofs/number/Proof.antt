@@ -1,44 +1,33 @@
-use mathlib.Core.Path.{_≡_, refl, sym, ap, _∙_}
+-- Each arm is the definition's case of the same name.
+use mathlib.Core.Path.{_∙_}
 use borrow.Author.Needs.{needs}
 use Rattle.answers.proofs.number.Statement.{statement}
 use Rattle.answers.proofs.number.Tie as tie
-use Rattle.answers.proofs.number.Reads as reads
-use Rattle.answers.proofs.number.Lts as lts
-use Rattle.answers.proofs.refusal_number.Reads as refusal-number-reads
 
--- src/lib.rt:99:22
 enum-known-a : tie.Need-enum-known-a
 enum-known-a c = search needs
 
--- src/lib.rt:100:29
 enum-told : tie.Need-enum-told
 enum-told c = search needs
 
--- src/lib.rt:101:31
 enum-told-2 : tie.Need-enum-told-2
 enum-told-2 c = search needs
 
--- src/lib.rt:102:25
 enum-known-a-2 : tie.Need-enum-known-a-2
 enum-known-a-2 c = search needs
 
--- src/lib.rt:102:33
 refusal-number-requires : tie.Need-refusal-number-requires
 refusal-number-requires c κs = search needs
 
--- src/lib.rt:95:1
 returns : tie.Need-returns
 returns c = search needs
 
--- src/lib.rt:95:1
 returns-2 : tie.Need-returns-2
 returns-2 c = search needs
 
--- src/lib.rt:95:1
 returns-3 : tie.Need-returns-3
 returns-3 c = search needs
 
--- src/lib.rt:95:1
 returns-4 : tie.Need-returns-4
 returns-4 c = c .refusal-number .ensures ∙ rw (c .before .before .a2 .given .1)
 

@@ -1,4 +1,12 @@
--- Each arm is the definition's case of the same name.
+-- Each arm is the definition's case of the same name; user and group are asked before the name.
+use Rattle.volume.proofs.EntryLaws.{group-passes, group-fails}
+use Rattle.volume.specs.Entry.{extent, ofFile, ofGroup, matches}
+use Rattle.volume.specs.Name.{strip, nameOf, same, like}
+use Rattle.volume.specs.Geometry.{groupOf}
+use Rattle.lists.specs.Bytes.{byte}
+use lib.Dec.{eqb}
+use denote.Ref.{now}
+use mathlib.Core.Path.{sym, _∙_}
 use borrow.Author.Needs.{needs}
 use Rattle.volume.proofs.entry.has.Statement.{statement}
 use Rattle.volume.proofs.entry.has.Tie as tie
@@ -30,8 +38,11 @@ shared-slice-read-result-2 c = search needs
 enum-known-wanted : tie.Need-enum-known-wanted
 enum-known-wanted c = search needs
 
-of-group-requires : tie.Need-of-group-requires
-of-group-requires c κs = search needs
+in-group-requires : tie.Need-in-group-requires
+in-group-requires c κs = search needs
+
+of-file-requires-3 : tie.Need-of-file-requires-3
+of-file-requires-3 c κs = search needs
 
 enum-told-5 : tie.Need-enum-told-5
 enum-told-5 c = search needs
@@ -51,14 +62,11 @@ shared-slice-read-result-3 c = search needs
 enum-known-wanted-2 : tie.Need-enum-known-wanted-2
 enum-known-wanted-2 c = search needs
 
+in-group-requires-2 : tie.Need-in-group-requires-2
+in-group-requires-2 c κs = search needs
+
 is-match-requires-3 : tie.Need-is-match-requires-3
 is-match-requires-3 c κs = search needs
-
-extent-of-requires : tie.Need-extent-of-requires
-extent-of-requires c κs = search needs
-
-group-requires : tie.Need-group-requires
-group-requires c κs = search needs
 
 returns : tie.Need-returns
 returns c = search needs
@@ -73,16 +81,33 @@ returns-4 : tie.Need-returns-4
 returns-4 c = rw (c .before .before .enum-told4 .given .1, ← c .before .of-file2 .ensures)
 
 returns-5 : tie.Need-returns-5
-returns-5 c = rw (c .before .before .wanted .given .1) (c .of-group .ensures)
+unfolding ofGroup
+returns-5 c =
+    let a = c .before .before .before .before .before .before .before .before .args in
+    rw (c .before .before .before .before .wanted .given .1) (c .of-file3 .ensures ∙ group-passes (eqb (byte (now (a .e)) 0) (a .user)) _ _ (sym (c .before .before .in-group .ensures) ∙ c .before .if1 .taken))
 
 returns-6 : tie.Need-returns-6
-returns-6 c = rw (c .before .enum-told5 .given .1) (c .is-match .ensures)
+unfolding ofGroup ofFile
+returns-6 c =
+    let a = c .before .before .before .before .before .before .before .args in
+    rw (c .before .before .before .wanted .given .1) (group-fails (eqb (byte (now (a .e)) 0) (a .user)) (same (nameOf (now (a .e))) (strip (now (a .name)))) (eqb (groupOf (a .g) (extent (now (a .e)))) (c .before .before .before .wanted .given .0 .0)) (sym (c .before .in-group .ensures) ∙ c .if1 .left))
 
 returns-7 : tie.Need-returns-7
-returns-7 c = rw (c .before .before .enum-told6 .given .1, ← c .before .is-match2 .ensures)
+returns-7 c = rw (c .before .enum-told5 .given .1) (c .is-match .ensures)
 
 returns-8 : tie.Need-returns-8
-returns-8 c = rw (c .before .before .before .before .wanted2 .given .1, ← c .before .before .is-match3 .ensures, ← c .before .extent-of .ensures .0, ← c .group .ensures)
+returns-8 c = rw (c .before .before .enum-told6 .given .1, ← c .before .is-match2 .ensures)
+
+returns-9 : tie.Need-returns-9
+returns-9 c =
+    let a = c .before .before .before .before .before .before .before .before .args in
+    rw (c .before .before .before .before .wanted2 .given .1) (c .is-match3 .ensures ∙ group-passes (eqb (byte (now (a .e)) 0) (a .user)) _ _ (sym (c .before .before .in-group2 .ensures) ∙ c .before .if2 .taken))
+
+returns-10 : tie.Need-returns-10
+unfolding matches
+returns-10 c =
+    let a = c .before .before .before .before .before .before .before .args in
+    rw (c .before .before .before .wanted2 .given .1) (group-fails (eqb (byte (now (a .e)) 0) (a .user)) (like (nameOf (now (a .e))) (strip (now (a .name)))) (eqb (groupOf (a .g) (extent (now (a .e)))) (c .before .before .before .wanted2 .given .0 .0)) (sym (c .before .in-group2 .ensures) ∙ c .if2 .left))
 
 pub has-spec : {M : Type 1} → statement M
 has-spec =
@@ -97,16 +122,16 @@ has-spec =
     of-file-requires-2
     shared-slice-read-result-2
     enum-known-wanted
-    of-group-requires
+    in-group-requires
+    of-file-requires-3
     enum-told-5
     is-match-requires
     enum-told-6
     is-match-requires-2
     shared-slice-read-result-3
     enum-known-wanted-2
+    in-group-requires-2
     is-match-requires-3
-    extent-of-requires
-    group-requires
     returns
     returns-2
     returns-3
@@ -114,4 +139,6 @@ has-spec =
     returns-5
     returns-6
     returns-7
-    returns-8)
+    returns-8
+    returns-9
+    returns-10)
