@@ -39,10 +39,14 @@ unmet why true ts n e = absurd (false≢true (sym n ∙ sym (ap isNone (rest n))
     rest n = rw n
 unmet why false ts n e = (refl, e)
 
--- the last test of a ladder, and two and three tests as code asks them
+-- the last test of a ladder, and one, two and three tests as code asks them
 first-none : (why : Refusal) (met : Bool) → isNone why ≡ false → first (refusing why met) None ≡ refusing why met
 first-none why true n = rw n
 first-none why false n = refl
+
+pub ladder-one : (w : Refusal) (m : Bool) → isNone w ≡ false → refusing w m ≡ firstMet (test w m ∷ [])
+unfolding firstMet
+ladder-one w m h = sym (first-none w m h)
 
 pub ladder-two : (w x : Refusal) (m n : Bool) → isNone x ≡ false → first (refusing w m) (refusing x n) ≡ firstMet (test w m ∷ test x n ∷ [])
 unfolding firstMet

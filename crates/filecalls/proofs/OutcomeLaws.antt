@@ -9,11 +9,8 @@ use Rattle.answers.specs.declared.Answer.the-variants.{Refused}
 use Rattle.answers.specs.Refusal.{Test, test, isNone, first, refusing, firstMet}
 use Rattle.answers.proofs.Ladder.{ladder-stop, ladder-pass}
 use Rattle.filecalls.specs.declared.Drive.{Drive}
-use Rattle.filecalls.specs.Outcome.{Act, deny, unless, Outcome, outcome}
-
--- the outcome of a refusal
-abbrev pub refusal : Drive → List ℕ → List ℕ → List ℕ → Refusal → Outcome
-refusal d v f b why = record { answer = Refused why; drive = d; volume = v; block = f; buffer = b }
+use Rattle.filecalls.specs.declared.Reply.{Reply}
+use Rattle.filecalls.specs.Outcome.{Act, deny, unless, Outcome, outcome, left}
 
 -- a first group of tests refuses
 pub stops : (xs ys : List Test) (act : Act) → isNone (firstMet xs) ≡ false → unless (xs ++ ys) act ≡ deny (firstMet xs)
@@ -45,3 +42,16 @@ refuses {why} {t} xs e i h = ap isNone (sym e) ∙ sym i ∙ not-true t h
 
 pub clears : {why : Refusal} {t : Bool} (xs : List Test) → why ≡ firstMet xs → t ≡ isNone why → not t ≡ false → isNone (firstMet xs) ≡ true
 clears {why} {t} xs e i h = ap isNone (sym e) ∙ sym i ∙ not-false t h
+
+-- what code replies: a group of tests refuses; a single test is met; all have passed
+module _ (d : Drive) (v f b : List ℕ) where
+  pub refused-at : {why : Refusal} {r : Reply} {t : Bool} (xs ys : List Test) (act : Act)
+      → why ≡ firstMet xs → t ≡ isNone why → not t ≡ true → r ≡ record { answer = Refused why; drive = d }
+      → left r v f b ≡ outcome d v f b (unless (xs ++ ys) act)
+  unfolding outcome
+  refused-at {why} {r} {t} xs ys act e i h p = rw (p, stops xs ys act (refuses xs e i h), e)
+
+  pub refused-by : {r : Reply} (why : Refusal) (ys : List Test) (act : Act) → isNone why ≡ false → r ≡ record { answer = Refused why; drive = d }
+      → left r v f b ≡ outcome d v f b (unless (test why true ∷ ys) act)
+  unfolding outcome
+  refused-by {r} why ys act n p = rw (p, met why ys act n)
