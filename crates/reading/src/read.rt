@@ -1,16 +1,16 @@
 // The reads: where record n lies, or the first refusal; then the record and the control block.
 ghost use mathlib.Core.Path.{_≡_};
-ghost use mathlib.Core.Bool.{Bool, true, false, cond};
-ghost use Prim.Native.Nat.{ℕ, _+_, _≤_, _<_};
+ghost use mathlib.Core.Bool.{true, false, cond};
+ghost use Prim.Native.Nat.{_<_};
 ghost use lib.ListN.{length};
 ghost use Rattle.volume.specs.Geometry.{lawful, bytes, slots};
 ghost use Rattle.volume.specs.Name.{strip, nameOf};
 ghost use Rattle.volume.specs.Directory.{slotAt};
-ghost use Rattle.volume.specs.Record.{counted, recordSlot, recordBlock};
+ghost use Rattle.volume.specs.Record.{counted, recordSlot, recordAt};
 ghost use Rattle.control.specs.Block.{setTo};
 ghost use Rattle.answers.specs.Refusal.{isNone, firstMet};
-ghost use Rattle.reading.specs.Read.{readTests, readBlock, readBytes};
-ghost use Rattle.reading.specs.Plan.{readPlan, Found};
+ghost use Rattle.reading.specs.Read.{readTests, readBytes};
+ghost use Rattle.reading.specs.Plan.{planIn, readPlan};
 use answers::Refusal;
 use volume::Geometry;
 use volume::Wanted;

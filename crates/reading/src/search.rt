@@ -1,7 +1,7 @@
 // Search: the next slot that a search hits, and the directory record that shows it.
 ghost use mathlib.Core.Path.{_≡_};
 ghost use mathlib.Core.Bool.{true, cond};
-ghost use Prim.Native.Nat.{ℕ, _≤_};
+ghost use Prim.Native.Nat.{_≤_};
 ghost use lib.Dec.{ltb};
 ghost use lib.ListN.{length};
 ghost use Rattle.volume.specs.Geometry.{lawful, bytes, slots};
@@ -37,16 +37,24 @@ fn sought_by(g: Geometry, kind: Kept, ex: u8) -> Wanted
     requires { ⌜ lawful g ≡ true ⌝ }
     ensures { λ r. ⌜ r ≡ sought g kind ex ⌝ }
 {
-    let group = g.group(lists::wide(ex));
     match kind {
         Kept::Nothing => Wanted::Any,
         Kept::Everything => Wanted::Any,
         Kept::Pattern => if ex == 63 {
             Wanted::Match
         } else {
-            Wanted::MatchGroup(group)
+            Wanted::MatchGroup(g.group(lists::wide(ex)))
         },
     }
+}
+
+// The slot that a search hits, from slot `from` on.
+fn hit_from(g: Geometry, volume: &[u8], kind: Kept, user: u8, pattern: &[u8], from: usize) -> usize
+    requires { ⌜ (lawful g ≡ true) × ((length (now volume) ≡ bytes g) × ((length (now pattern) ≡ 12) × (from ≤ slots g))) ⌝ }
+    ensures { λ r. ⌜ (r ≡ hitFrom g (now (volume .entry)) kind user (now (pattern .entry)) from) × (r ≤ slots g) ⌝ }
+{
+    let wanted = sought_by(g, kind, pattern[11]);
+    volume::directory::find_from(g, volume, from, user, &pattern[0..11], wanted)
 }
 
 // Searches from slot `from` on: the record of the hit goes to the buffer where there is one; answers its slot.
@@ -63,8 +71,7 @@ pub fn search_from(
     ensures { λ r. ⌜ (r ≡ hitFrom g (now (volume .entry)) kind user (now (pattern .entry)) from) × (r ≤ slots g) ⌝ }
     ensures { λ r. ⌜ now (buffer .exit) ≡ cond (ltb r (slots g)) (slotRecord g (now (volume .entry)) r) (now (buffer .entry)) ⌝ }
 {
-    let wanted = sought_by(g, kind, pattern[11]);
-    let slot = volume::directory::find_from(g, volume, from, user, &pattern[0..11], wanted);
+    let slot = hit_from(g, volume, kind, user, pattern, from);
     let n = g.slots();
     if slot < n {
         let at = g.slot_record(slot);

@@ -1,7 +1,7 @@
 // Size: the file's end by its entries.
 ghost use mathlib.Core.Path.{_≡_};
 ghost use mathlib.Core.Bool.{true};
-ghost use Prim.Native.Nat.{ℕ, _≤_, _<_};
+ghost use Prim.Native.Nat.{_<_};
 ghost use lib.ListN.{length};
 ghost use Rattle.volume.specs.Geometry.{lawful, bytes, slots};
 ghost use Rattle.volume.specs.Name.{strip};
@@ -14,9 +14,8 @@ fn entry_end(e: &[u8]) -> usize
     requires { ⌜ length (now e) ≡ 32 ⌝ }
     ensures { λ r. ⌜ (r ≡ entryEnd (now (e .entry))) × (r < 2000000) ⌝ }
 {
-    let rc = lists::wide(e[15]);
-    let count = if rc < 128 { rc } else { 128 };
-    128 * volume::entry::extent_of(e) + count
+    let own = volume::entry::extent_of(e);
+    128 * own + lists::wide(volume::entry::count_of(e, own))
 }
 
 // The larger of m and what slot i says of the file.
