@@ -1,6 +1,6 @@
 // The control block: its position, and what calls set in it.
 ghost use mathlib.Core.Path.{_≡_};
-ghost use Prim.Native.Nat.{ℕ, _+_, _*_, _/_, _%_, _≤_, _<_};
+ghost use Prim.Native.Nat.{_<_};
 ghost use lib.ListN.{length};
 ghost use Rattle.control.specs.Block.{position, random, setTo, opened, made, withRandom};
 

@@ -3,3 +3,4 @@ pub mod Open
 pub mod Search
 pub mod Size
 pub mod Read
+pub mod Plan
