@@ -1,4 +1,8 @@
--- What the code rests on and what callers cite: the held blocks as inspection goes on, a slot's tests.
+-- What the code rests on: "any", the held blocks as inspection goes on, a slot's tests.
+-- What theorems cite: good slots, accepted directories, the blocks that entries name.
 pub mod AnyLaws
 pub mod HeldLaws
 pub mod SlotLaws
+pub mod GoodLaws
+pub mod AcceptedLaws
+pub mod NamedLaws
