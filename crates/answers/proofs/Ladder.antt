@@ -4,6 +4,7 @@ use mathlib.Core.Bool.{Bool, true, false, cond, true≢false, false≢true}
 use mathlib.Core.List.{List, [], _∷_, _++_}
 use Prim.Native.Nat.{ℕ}
 use Rattle.answers.specs.declared.Refusal.{Refusal}
+use Rattle.answers.specs.declared.Refusal.the-variants.{None}
 use Rattle.answers.specs.Refusal.{isNone, Test, test, refusing, first, firstMet}
 
 first-first : (a b c : Refusal) → first (first a b) c ≡ first a (first b c)
@@ -37,3 +38,21 @@ unmet why true ts n e = absurd (false≢true (sym n ∙ sym (ap isNone (rest n))
     rest : isNone why ≡ false → first why (firstMet ts) ≡ why
     rest n = rw n
 unmet why false ts n e = (refl, e)
+
+-- the last test of a ladder, and one, two and three tests as code asks them
+first-none : (why : Refusal) (met : Bool) → isNone why ≡ false → first (refusing why met) None ≡ refusing why met
+first-none why true n = rw n
+first-none why false n = refl
+
+pub ladder-one : (w : Refusal) (m : Bool) → isNone w ≡ false → refusing w m ≡ firstMet (test w m ∷ [])
+unfolding firstMet
+ladder-one w m h = sym (first-none w m h)
+
+pub ladder-two : (w x : Refusal) (m n : Bool) → isNone x ≡ false → first (refusing w m) (refusing x n) ≡ firstMet (test w m ∷ test x n ∷ [])
+unfolding firstMet
+ladder-two w x m n h = ap (first (refusing w m)) (sym (first-none x n h))
+
+pub ladder-three : (w x y : Refusal) (m n o : Bool) → isNone y ≡ false
+    → first (refusing w m) (first (refusing x n) (refusing y o)) ≡ firstMet (test w m ∷ test x n ∷ test y o ∷ [])
+unfolding firstMet
+ladder-three w x y m n o h = ap (first (refusing w m)) (ladder-two x y n o h)

@@ -9,3 +9,5 @@ pub mod Names
 pub mod Read
 pub mod Write
 pub mod Small
+pub mod Ready
+pub mod Lent

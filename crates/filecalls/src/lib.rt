@@ -3,6 +3,10 @@ use answers::Answer;
 use reading::Kept;
 use volume::Geometry;
 
+mod small;
+mod state;
+mod tests;
+
 // A search that is kept between calls: its kind, the user and the pattern of its first call, and its last hit.
 pub struct Search {
     pub kind: Kept,

@@ -1,0 +1,3 @@
+-- Laws of the state and of what calls leave.
+pub mod StateLaws
+pub mod OutcomeLaws

@@ -1,0 +1,57 @@
+-- What a call leaves, read down its ladder: a group of tests refuses, or it passes and the rest decides.
+use mathlib.Core.Path.{_≡_, refl, sym, ap, _∙_}
+use mathlib.Core.Bool.{Bool, true, false, not, cond}
+use mathlib.Core.List.{List, [], _∷_, _++_}
+use Prim.Native.Nat.{ℕ}
+use borrow.Author.Tests.{not-true, not-false}
+use Rattle.answers.specs.declared.Refusal.{Refusal}
+use Rattle.answers.specs.declared.Answer.the-variants.{Refused}
+use Rattle.answers.specs.Refusal.{Test, test, isNone, first, refusing, firstMet}
+use Rattle.answers.proofs.Ladder.{ladder-stop, ladder-pass}
+use Rattle.filecalls.specs.declared.Drive.{Drive}
+use Rattle.filecalls.specs.declared.Reply.{Reply}
+use Rattle.filecalls.specs.Outcome.{Act, deny, unless, Outcome, outcome, left}
+
+-- a first group of tests refuses
+pub stops : (xs ys : List Test) (act : Act) → isNone (firstMet xs) ≡ false → unless (xs ++ ys) act ≡ deny (firstMet xs)
+unfolding unless
+stops xs ys act e = rw (ladder-stop xs ys e, e)
+
+-- it does not
+pub passes : (xs ys : List Test) (act : Act) → isNone (firstMet xs) ≡ true → unless (xs ++ ys) act ≡ unless ys act
+unfolding unless
+passes xs ys act e = rw (ladder-pass xs ys e)
+
+-- one test, met and not met
+pub met : (why : Refusal) (ys : List Test) (act : Act) → isNone why ≡ false → unless (test why true ∷ ys) act ≡ deny why
+unfolding unless firstMet
+met why ys act n = rw (n, n)
+
+pub not-met : (why : Refusal) (ys : List Test) (act : Act) → unless (test why false ∷ ys) act ≡ unless ys act
+unfolding unless firstMet
+not-met why ys act = refl
+
+-- no tests left
+pub all-passed : (act : Act) → unless [] act ≡ act
+unfolding unless firstMet
+all-passed act = refl
+
+-- what code learns of a group of tests from `if !is_none(why)`
+pub refuses : {why : Refusal} {t : Bool} (xs : List Test) → why ≡ firstMet xs → t ≡ isNone why → not t ≡ true → isNone (firstMet xs) ≡ false
+refuses {why} {t} xs e i h = ap isNone (sym e) ∙ sym i ∙ not-true t h
+
+pub clears : {why : Refusal} {t : Bool} (xs : List Test) → why ≡ firstMet xs → t ≡ isNone why → not t ≡ false → isNone (firstMet xs) ≡ true
+clears {why} {t} xs e i h = ap isNone (sym e) ∙ sym i ∙ not-false t h
+
+-- what code replies: a group of tests refuses; a single test is met; all have passed
+module _ (d : Drive) (v f b : List ℕ) where
+  pub refused-at : {why : Refusal} {r : Reply} {t : Bool} (xs ys : List Test) (act : Act)
+      → why ≡ firstMet xs → t ≡ isNone why → not t ≡ true → r ≡ record { answer = Refused why; drive = d }
+      → left r v f b ≡ outcome d v f b (unless (xs ++ ys) act)
+  unfolding outcome
+  refused-at {why} {r} {t} xs ys act e i h p = rw (p, stops xs ys act (refuses xs e i h), e)
+
+  pub refused-by : {r : Reply} (why : Refusal) (ys : List Test) (act : Act) → isNone why ≡ false → r ≡ record { answer = Refused why; drive = d }
+      → left r v f b ≡ outcome d v f b (unless (test why true ∷ ys) act)
+  unfolding outcome
+  refused-by {r} why ys act n p = rw (p, met why ys act n)

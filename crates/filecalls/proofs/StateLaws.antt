@@ -1,0 +1,59 @@
+-- What an open state tells, and what the tests of lent lengths tell where they do not refuse.
+use mathlib.Core.Path.{_≡_, refl, sym, ap, _∙_}
+use mathlib.Core.Bool.{Bool, true, false, not, _&&_, false≢true}
+use mathlib.Core.List.{List, [], _∷_}
+use Prim.Native.Nat.{ℕ, _≤_}
+use lib.Dec.{leb, eqb}
+use lib.ListN.{length}
+use borrow.Author.Tests.{not-false, eqb-true, leb-true}
+use Rattle.volume.specs.Geometry.{lawful, bytes, slots}
+use Rattle.answers.specs.declared.Refusal.the-variants.{Closed, VolumeLength, BlockLength, BufferLength, DriveCode, Name}
+use Rattle.answers.specs.Refusal.{Test, test, isNone, firstMet}
+use Rattle.answers.proofs.Ladder.{unmet}
+use Rattle.filecalls.specs.declared.Drive.{Drive}
+use Rattle.filecalls.specs.State.{goodKept, isOpen}
+use Rattle.filecalls.specs.Tests.{closedState, driveCode, badName}
+use Rattle.filecalls.specs.Ready.{Open, Lent}
+use Rattle.filecalls.specs.Lent.{lentTests, namedTests}
+
+pub and-parts : (a b : Bool) → (a && b) ≡ true → (a ≡ true) × (b ≡ true)
+and-parts true b e = (refl, e)
+and-parts false b e = absurd (false≢true e)
+
+pub is-open : (d : Drive) → isOpen d ≡ true → Open d
+unfolding isOpen
+is-open d e =
+    let p = and-parts (lawful (d .geometry) && leb (d .user) 15) _ e in
+    let q = and-parts (lawful (d .geometry)) _ (p .0) in
+    record { law = q .0; user15 = leb-true _ _ (q .1); kept = p .1 }
+
+same-length : (a b : ℕ) → not (eqb a b) ≡ false → a ≡ b
+same-length a b e = eqb-true a b (not-false (eqb a b) e)
+
+pub lent-clear : (d : Drive) (v f b : ℕ) → isNone (firstMet (lentTests d v f b)) ≡ true → Lent d v f b
+unfolding lentTests
+lent-clear d v f b e =
+    let s = unmet Closed _ _ refl e in
+    let x = unmet VolumeLength _ _ refl (s .1) in
+    let y = unmet BlockLength _ _ refl (x .1) in
+    let z = unmet BufferLength _ _ refl (y .1) in
+    record {
+      state = is-open d (not-false (isOpen d) (s .0));
+      volume = same-length v (bytes (d .geometry)) (x .0);
+      block = same-length f 36 (y .0);
+      buffer = same-length b 128 (z .0);
+    }
+
+pub named-clear : (d : Drive) (v f : List ℕ) (b : ℕ) (p : Bool) → isNone (firstMet (namedTests d v f b p)) ≡ true → Lent d (length v) (length f) b
+unfolding namedTests
+named-clear d v f b p e =
+    let s = unmet Closed _ _ refl e in
+    let x = unmet VolumeLength _ _ refl (s .1) in
+    let y = unmet BlockLength _ _ refl (x .1) in
+    let z = unmet BufferLength _ _ refl (y .1) in
+    record {
+      state = is-open d (not-false (isOpen d) (s .0));
+      volume = same-length (length v) (bytes (d .geometry)) (x .0);
+      block = same-length (length f) 36 (y .0);
+      buffer = same-length b 128 (z .0);
+    }

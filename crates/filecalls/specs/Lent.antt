@@ -1,0 +1,47 @@
+-- The ladder in the groups in which the code asks it; not for the reader of the paper.
+use mathlib.Core.Bool.{Bool, true, false, not, _&&_}
+use mathlib.Core.List.{List, [], _∷_, _++_}
+use Prim.Native.Nat.{ℕ}
+use lib.Dec.{ltb, eqb}
+use lib.ListN.{length}
+use Rattle.lists.specs.Bytes.{byte}
+use Rattle.volume.specs.Geometry.{bytes}
+use Rattle.volume.specs.Name.{nameOf, goodName}
+use Rattle.control.specs.Block.{position, positionFits}
+use Rattle.answers.specs.declared.Refusal.the-variants.{VolumeLength, BlockLength, BufferLength, DriveCode, Name, Position}
+use Rattle.answers.specs.Refusal.{Test, test}
+use Rattle.filecalls.specs.declared.Drive.{Drive}
+use Rattle.filecalls.specs.Search.{examined}
+use Rattle.filecalls.specs.Tests.{closedState, driveCode, badName, tooLarge, beyond}
+
+-- 32 to 35, by the lengths that are lent
+unfoldable pub lentTests : Drive → ℕ → ℕ → ℕ → List Test
+lentTests d v f b =
+    closedState d ∷ test VolumeLength (not (eqb v (bytes (d .geometry)))) ∷ test BlockLength (not (eqb f 36)) ∷ test BufferLength (not (eqb b 128)) ∷ []
+
+-- the same, 42 and 39
+unfoldable pub namedTests : Drive → List ℕ → List ℕ → ℕ → Bool → List Test
+namedTests d v f b pattern =
+    closedState d
+    ∷ test VolumeLength (not (eqb (length v) (bytes (d .geometry))))
+    ∷ test BlockLength (not (eqb (length f) 36))
+    ∷ test BufferLength (not (eqb b 128))
+    ∷ driveCode f
+    ∷ badName pattern f 1
+    ∷ []
+
+-- the same, and what a sequential call and a random one ask of the control block
+unfoldable pub sequentialLent : Drive → List ℕ → List ℕ → ℕ → List Test
+sequentialLent d v f b = namedTests d v f b false ++ (tooLarge (positionFits f) ∷ beyond (eqb (position f) 65536) ∷ [])
+
+unfoldable pub randomLent : Drive → List ℕ → List ℕ → ℕ → List Test
+randomLent d v f b = namedTests d v f b false ++ (beyond (not (eqb (byte f 35) 0)) ∷ [])
+
+-- the tests of search first but the last
+unfoldable pub firstLent : Drive → List ℕ → List ℕ → List ℕ → List Test
+firstLent d v f b =
+    lentTests d (length v) (length f) (length b)
+    ++ (test DriveCode (ltb 1 (byte f 0) && examined f)
+    ∷ test Name (examined f && not (goodName true (nameOf f)))
+    ∷ test Position (examined f && ltb 31 (byte f 12) && not (eqb (byte f 12) 63))
+    ∷ [])

@@ -1,0 +1,72 @@
+// The calls that look at no volume: write protect (28), user (32), set random record (36).
+ghost use mathlib.Core.Path.{_≡_};
+ghost use mathlib.Core.List.{List, []};
+ghost use Rattle.answers.specs.Refusal.{firstMet};
+ghost use Rattle.filecalls.specs.Outcome.{outcome, left};
+ghost use Rattle.filecalls.specs.Small.{setRandomTests, protectAct, userAct, setRandomAct};
+use crate::Drive;
+use crate::Reply;
+use answers::Answer;
+use answers::Refusal;
+
+impl Drive {
+    // 32, 34, 42 and 40 of function 36, which is lent no volume.
+    fn position_why(self, f: &[u8]) -> Refusal
+        ensures { λ r. ⌜ r ≡ firstMet (setRandomTests self (now (f .entry))) ⌝ }
+    {
+        if !self.is_open() {
+            return Refusal::Closed;
+        }
+        let whole = f.len() == 36;
+        if !whole {
+            return Refusal::BlockLength;
+        }
+        let fits = (f[12] <= 31) & (f[14] <= 15) & (f[32] <= 128);
+        let a = answers::refuse(Refusal::DriveCode, 1 < f[0]);
+        let b = answers::refuse(Refusal::Position, !fits);
+        answers::first_of(a, b)
+    }
+
+    // Function 28: protects the drive until the next log-in.
+    pub fn protect(self) -> Reply
+        ensures { λ r. ⌜ left r [] [] [] ≡ outcome self [] [] [] (protectAct self) ⌝ }
+    {
+        if !self.is_open() {
+            return self.refused(Refusal::Closed);
+        }
+        let mut drive = self;
+        drive.protected = true;
+        drive.done(0)
+    }
+
+    // Function 32: sets the user, or answers the current one for 255.
+    pub fn user_code(self, code: u8) -> Reply
+        ensures { λ r. ⌜ left r [] [] [] ≡ outcome self [] [] [] (userAct self code) ⌝ }
+    {
+        if !self.is_open() {
+            return self.refused(Refusal::Closed);
+        }
+        if (15 < code) & (code < 255) {
+            return self.refused(Refusal::UserCode);
+        }
+        if code == 255 {
+            return self.done(self.user);
+        }
+        let mut drive = self;
+        drive.user = code;
+        drive.done(0)
+    }
+
+    // Function 36: the sequential position in r0 r1 r2.
+    pub fn set_random(self, f: &mut [u8]) -> Reply
+        ensures { λ r. ⌜ left r [] (now (f .exit)) [] ≡ outcome self [] (now (f .entry)) [] (setRandomAct self (now (f .entry))) ⌝ }
+    {
+        let why = self.position_why(f);
+        if !answers::is_none(why) {
+            return self.refused(why);
+        }
+        let n = control::position_of(f);
+        control::set_random(f, n);
+        self.done(0)
+    }
+}

@@ -1,0 +1,99 @@
+// The state: whether it counts as closed, the closed value, and the replies that leave it as it is.
+ghost use mathlib.Core.Path.{_≡_};
+ghost use mathlib.Core.Bool.{Bool, true, false};
+ghost use Prim.Native.Nat.{ℕ};
+ghost use lib.ListN.{length};
+ghost use Rattle.answers.specs.declared.Answer.the-variants.{Done, Refused};
+ghost use Rattle.filecalls.specs.declared.Reply.{Reply};
+ghost use Rattle.filecalls.specs.State.{goodPattern, goodKept, isOpen, closed};
+use crate::Drive;
+use crate::Reply;
+use crate::Search;
+use answers::Answer;
+use answers::Refusal;
+use reading::Kept;
+use volume::Geometry;
+
+// Did the pattern pass 39 and 40?
+fn is_pattern(pattern: &[u8]) -> bool
+    requires { ⌜ length (now pattern) ≡ 12 ⌝ }
+    ensures { λ r. ⌜ r ≡ goodPattern (now (pattern .entry)) ⌝ }
+{
+    let ex = pattern[11];
+    volume::names::good_name(true, &pattern[0..11]) & ((ex <= 31) | (ex == 63))
+}
+
+// Is a kept search of this kind within the rules, n being the number of slots?
+fn is_kept(kind: Kept, user: u8, last: usize, pattern: &[u8], n: usize) -> bool
+    requires { ⌜ length (now pattern) ≡ 12 ⌝ }
+    ensures { λ r. ⌜ r ≡ goodKept kind user last (now (pattern .entry)) n ⌝ }
+{
+    match kind {
+        Kept::Nothing => true,
+        Kept::Pattern => (user <= 15) & (last < n) & is_pattern(pattern),
+        Kept::Everything => (user <= 15) & (last < n),
+    }
+}
+
+// The closed state.
+pub fn closed_drive() -> Drive
+    ensures { λ r. ⌜ r ≡ closed ⌝ }
+{
+    let geometry = Geometry {
+        block: 0,
+        total: 0,
+        directory: 0,
+    };
+    let pattern = [0u8; 12];
+    let search = Search {
+        kind: Kept::Nothing,
+        user: 0,
+        last: 0,
+        pattern,
+    };
+    let held = [0u64; 4];
+    Drive {
+        geometry,
+        user: 0,
+        protected: false,
+        search,
+        held,
+    }
+}
+
+impl Drive {
+    // Is the state one that counts as open?
+    pub fn is_open(self) -> bool
+        ensures { λ r. ⌜ r ≡ isOpen self ⌝ }
+    {
+        let g = self.geometry;
+        if !g.is_lawful() {
+            return false;
+        }
+        let q = self.search;
+        let kind = q.kind;
+        let pattern = q.pattern;
+        let n = g.slots();
+        (self.user <= 15) & is_kept(kind, q.user, q.last, &pattern, n)
+    }
+
+    // Refused: the state as given.
+    pub fn refused(self, why: Refusal) -> Reply
+        ensures { λ r. ⌜ r ≡ record { answer = Refused why; drive = self } ⌝ }
+    {
+        Reply {
+            answer: Answer::Refused(why),
+            drive: self,
+        }
+    }
+
+    // Done with this code: the state as given.
+    pub fn done(self, code: u8) -> Reply
+        ensures { λ r. ⌜ r ≡ record { answer = Done code; drive = self } ⌝ }
+    {
+        Reply {
+            answer: Answer::Done(code),
+            drive: self,
+        }
+    }
+}
