@@ -1,3 +1,4 @@
 -- "Inspection at log-in."
 pub mod GoodSlot
 pub mod Named
+pub mod HeldBelow

@@ -1,1 +1,168 @@
 // Inspection at log-in: the lowest bad slot, and the blocks that entries name.
+ghost use mathlib.Core.Path.{_≡_};
+ghost use mathlib.Core.Bool.{Bool, true, false, _&&_};
+ghost use Prim.Native.Nat.{ℕ, _+_, _≤_, _<_};
+ghost use lib.ListN.{length};
+ghost use Rattle.lists.specs.Search.{any, every};
+ghost use Rattle.volume.specs.Geometry.{lawful, bytes, slots};
+ghost use Rattle.volume.specs.Name.{strip, nameOf, goodName};
+ghost use Rattle.volume.specs.Entry.{places, ofGroup};
+ghost use Rattle.volume.specs.Directory.{slotAt};
+ghost use Rattle.blocks.specs.Held.{wordsOf};
+ghost use Rattle.inspection.specs.GoodSlot.{goodFields, goodTopBits, goodPlace, seenBelow, goodSlot, lowestBad};
+ghost use Rattle.inspection.specs.Named.{heldOf};
+ghost use Rattle.inspection.specs.HeldBelow.{heldBelow, heldUpTo};
+use volume::Geometry;
+use volume::Wanted;
+use volume::entry;
+use volume::names;
+
+// Places of an entry's map.
+const PLACES: usize = 16;
+
+// The lowest bad slot, the number of slots where none is bad; then the held blocks too.
+pub struct Inspected {
+    pub slot: usize,
+    pub held: [u64; 4],
+}
+
+// Is what was looked at good? If so, the blocks held with it.
+pub struct Taken {
+    pub good: bool,
+    pub held: [u64; 4],
+}
+
+// Are the bytes other than name and map good?
+fn good_fields(e: &[u8]) -> bool
+    requires { ⌜ length (now e) ≡ 32 ⌝ }
+    ensures { λ r. ⌜ r ≡ goodFields (now (e .entry)) ⌝ }
+{
+    (e[0] <= 15) & (e[12] <= 31) & (e[13] == 0) & (e[14] <= 15) & (e[15] <= 128)
+}
+
+// Do bytes 9 and 10 alone carry a top bit, if any?
+fn good_top_bits(e: &[u8]) -> bool
+    requires { ⌜ length (now e) ≡ 32 ⌝ }
+    ensures { λ r. ⌜ r ≡ goodTopBits (now (e .entry)) ⌝ }
+{
+    let mut k = 0;
+    while k < 11 {
+        if !((e[1 + k] < 128) | (k == 8) | (k == 9)) {
+            return false;
+        }
+        k += 1;
+    }
+    true
+}
+
+// Is everything good that the entry alone shows, but its map?
+fn good_entry(e: &[u8]) -> bool
+    requires { ⌜ length (now e) ≡ 32 ⌝ }
+    ensures { λ r. ⌜ r ≡ goodFields (now (e .entry)) && goodName false (nameOf (now (e .entry))) && goodTopBits (now (e .entry)) ⌝ }
+{
+    if !good_fields(e) {
+        return false;
+    }
+    if !names::good_name(false, &e[1..12]) {
+        return false;
+    }
+    good_top_bits(e)
+}
+
+// Each place of slot i: 0, or a block from D to T-1 that is not held yet, and held from then on.
+fn take_map(g: Geometry, volume: &[u8], i: usize, before: [u64; 4]) -> Taken
+    requires { ⌜ (lawful g ≡ true) × (length (now volume) ≡ bytes g) ⌝ }
+    requires { ⌜ (i < slots g) × (before ≡ wordsOf (heldBelow g (now volume) i)) ⌝ }
+    ensures { λ r. ⌜ r .good ≡ every (places g) (goodPlace g (now (volume .entry)) i) ⌝ }
+    ensures { λ r. ⌜ (r .good ≡ true → r .held ≡ wordsOf (heldUpTo g (now (volume .entry)) i (places g))) ⌝ }
+{
+    let at = g.slot_start(i);
+    let mut held = before;
+    let mut p = 0;
+    while p < PLACES {
+        let b = entry::block_in(g, &volume[at..at + 32], p);
+        if b != 0 {
+            if !g.is_inside(b) | blocks::is_held(held, b) {
+                return Taken { good: false, held };
+            }
+            let next = blocks::hold(held, b);
+            held = next;
+        }
+        p += 1;
+    }
+    Taken { good: true, held }
+}
+
+// Does one of the n lowest slots have group k of this user's file of this name?
+fn is_below(g: Geometry, volume: &[u8], n: usize, user: u8, name: &[u8], k: usize) -> bool
+    requires { ⌜ (lawful g ≡ true) × (length (now volume) ≡ bytes g) ⌝ }
+    requires { ⌜ (n ≤ slots g) × (length (now name) ≡ 11) ⌝ }
+    ensures { λ r. ⌜ r ≡ any n (λ j. ofGroup g user (strip (now (name .entry))) k (slotAt g (now (volume .entry)) j)) ⌝ }
+{
+    let mut j = 0;
+    while j < n {
+        let at = g.slot_start(j);
+        if entry::has(g, &volume[at..at + 32], user, name, Wanted::Group(k)) {
+            return true;
+        }
+        j += 1;
+    }
+    false
+}
+
+// Does a lower slot have the user, name and group of the entry e, which stands in slot i?
+fn is_seen(g: Geometry, volume: &[u8], i: usize, e: &[u8]) -> bool
+    requires { ⌜ (lawful g ≡ true) × (length (now volume) ≡ bytes g) ⌝ }
+    requires { ⌜ (i < slots g) × ((length (now e) ≡ 32) × (now e ≡ slotAt g (now volume) i)) ⌝ }
+    ensures { λ r. ⌜ r ≡ seenBelow g (now (volume .entry)) i ⌝ }
+{
+    let k = g.group(entry::extent_of(e));
+    is_below(g, volume, i, e[0], &e[1..12], k)
+}
+
+// Slot i over the blocks of the lower slots.
+fn take_slot(g: Geometry, volume: &[u8], i: usize, held: [u64; 4]) -> Taken
+    requires { ⌜ (lawful g ≡ true) × (length (now volume) ≡ bytes g) ⌝ }
+    requires { ⌜ (i < slots g) × (held ≡ wordsOf (heldBelow g (now volume) i)) ⌝ }
+    ensures { λ r. ⌜ r .good ≡ goodSlot g (now (volume .entry)) i ⌝ }
+    ensures { λ r. ⌜ (r .good ≡ true → r .held ≡ wordsOf (heldBelow g (now (volume .entry)) (i + 1))) ⌝ }
+{
+    let at = g.slot_start(i);
+    if volume[at] == entry::EMPTY {
+        return Taken { good: true, held };
+    }
+    if !good_entry(&volume[at..at + 32]) {
+        return Taken { good: false, held };
+    }
+    let taken = take_map(g, volume, i, held);
+    if !taken.good {
+        return Taken { good: false, held };
+    }
+    let next = taken.held;
+    let seen = is_seen(g, volume, i, &volume[at..at + 32]);
+    Taken {
+        good: !seen,
+        held: next,
+    }
+}
+
+// The lowest bad slot, and the blocks that the entries name.
+pub fn inspect(g: Geometry, volume: &[u8]) -> Inspected
+    requires { ⌜ (lawful g ≡ true) × (length (now volume) ≡ bytes g) ⌝ }
+    ensures { λ r. ⌜ (r .slot ≡ lowestBad g (now (volume .entry))) × (r .slot ≤ slots g) ⌝ }
+    ensures { λ r. ⌜ (r .slot ≡ slots g → r .held ≡ heldOf g (now (volume .entry))) ⌝ }
+{
+    let n = g.slots();
+    let mut held = [0u64; 4];
+    let mut i = 0;
+    while i < n {
+        let taken = take_slot(g, volume, i, held);
+        if !taken.good {
+            return Inspected { slot: i, held };
+        }
+        let next = taken.held;
+        held = next;
+        i += 1;
+    }
+    Inspected { slot: i, held }
+}

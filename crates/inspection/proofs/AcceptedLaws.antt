@@ -1,0 +1,136 @@
+-- "Log-in accepts exactly when all slots are good": what an accepted directory is as a whole.
+-- In it a block stands in one place of one slot, and a user's file has one entry of each group.
+use mathlib.Core.Path.{_≡_, refl, sym, ap, _∙_}
+use mathlib.Core.Bool.{Bool, true, false, not, _&&_, true≢false}
+use mathlib.Core.Logic.{_⊎_, inl, inr, _≢_}
+use mathlib.Core.List.{List}
+use Prim.Native.Nat.{ℕ, _+_, _≤_, _<_}
+use native.Mathlib.Decide.{ℕ-discrete, decLt}
+use native.Mathlib.Omega.{arith}
+use borrow.Author.Tests.{not-true, not-false, eqb-true, eq-eqb}
+use lib.Dec.{eqb}
+use Rattle.lists.specs.Bytes.{byte}
+use Rattle.lists.proofs.SearchLaws.{Low, low-le, low-hit, low-miss, low-no}
+use Rattle.volume.specs.declared.Geometry.{Geometry}
+use Rattle.volume.specs.Geometry.{slots, groupOf}
+use Rattle.volume.specs.Name.{nameOf, same}
+use Rattle.volume.specs.Entry.{Entry, isEmpty, extent, places, blockIn, ofFile, ofGroup}
+use Rattle.volume.specs.Directory.{slotAt}
+use Rattle.volume.proofs.NameLaws.{same-refl, same-true}
+use Rattle.inspection.specs.GoodSlot.{goodSlot, lowestBad}
+use Rattle.inspection.proofs.GoodLaws.{both, Good, good-facts}
+
+-- ---- all slots are good
+abbrev bad : Geometry → List ℕ → ℕ → Bool
+bad g v i = not (goodSlot g v i)
+
+-- the lowest bad slot
+pub record LowestBad (g : Geometry) (v : List ℕ) (i : ℕ) : Type 0 where
+  pub below : i < slots g
+  pub is-bad : goodSlot g v i ≡ false
+  pub lower-good : (j : ℕ) → j < i → goodSlot g v j ≡ true
+
+module _ (g : Geometry) (v : List ℕ) where
+  pub lowest-bad-le : lowestBad g v ≤ slots g
+  unfolding lowestBad
+  lowest-bad-le = omega (arith, low-le (bad g v) 0 (slots g))
+
+  pub accepted : lowestBad g v ≡ slots g → (i : ℕ) → i < slots g → goodSlot g v i ≡ true
+  unfolding lowestBad
+  accepted e i h = not-false (goodSlot g v i) (low-miss (bad g v) 0 (slots g) (omega arith) i (omega arith) (omega arith))
+
+  pub accepts : ((i : ℕ) → i < slots g → goodSlot g v i ≡ true) → lowestBad g v ≡ slots g
+  unfolding lowestBad
+  accepts h = low-no (bad g v) 0 (slots g) (λ i a l. ap not (h i (omega arith))) ∙ omega arith
+
+  pub refused : lowestBad g v < slots g → LowestBad g v (lowestBad g v)
+  unfolding lowestBad
+  refused h =
+      let l = low-hit (bad g v) 0 (slots g) (lowestBad g v) refl (omega arith) in
+      record { below = h; is-bad = not-true _ (l .passes); lower-good = λ j k. not-false _ (l .first j (omega arith) k) }
+
+-- ---- the same user, name and group
+module _ (g : Geometry) where
+  -- entry f has the user, name and group of entry e
+  abbrev pub twin : Entry → Entry → Bool
+  twin e f = ofGroup g (byte e 0) (nameOf e) (groupOf g (extent e)) f
+
+  pub record Twins (e f : Entry) : Type 0 where
+    pub user : byte e 0 ≡ byte f 0
+    pub name : nameOf e ≡ nameOf f
+    pub group : groupOf g (extent e) ≡ groupOf g (extent f)
+
+  pub twin-true : (e f : Entry) → twin e f ≡ true → Twins e f
+  unfolding ofGroup ofFile
+  twin-true e f h =
+      let user = eqb (byte f 0) (byte e 0) in
+      let name = same (nameOf f) (nameOf e) in
+      let group = eqb (groupOf g (extent f)) (groupOf g (extent e)) in
+      let p = both (user && name) group h in
+      let q = both user name (p .0) in
+      record {
+        user = sym (eqb-true (byte f 0) (byte e 0) (q .0));
+        name = sym (same-true (nameOf f) (nameOf e) (q .1));
+        group = sym (eqb-true (groupOf g (extent f)) (groupOf g (extent e)) (p .1));
+      }
+
+  pub twins : (e f : Entry) → Twins e f → twin e f ≡ true
+  unfolding ofGroup ofFile
+  twins e f t =
+      rw (eq-eqb (byte f 0) (byte e 0) (sym (t .user)), t .name, same-refl (nameOf f), eq-eqb (groupOf g (extent f)) (groupOf g (extent e)) (sym (t .group)))
+
+  pub twin-sym : (e f : Entry) → twin e f ≡ true → twin f e ≡ true
+  twin-sym e f h =
+      let t = twin-true e f h in
+      twins f e (record { user = sym (t .user); name = sym (t .name); group = sym (t .group) })
+
+-- ---- in an accepted directory
+module _ (g : Geometry) (v : List ℕ) (ok : lowestBad g v ≡ slots g) where
+  pub good-entry : (i : ℕ) → i < slots g → isEmpty (slotAt g v i) ≡ false → Good g v i
+  good-entry i h used = good-facts g v i (accepted g v ok i h) used
+
+  -- a place of the map of an entry
+  pub record Place (i p : ℕ) : Type 0 where
+    pub slot : i < slots g
+    pub used : isEmpty (slotAt g v i) ≡ false
+    pub place : p < places g
+
+  -- a block stands in one place of one slot
+  pub one-place : (i p j q : ℕ) → Place i p → Place j q → blockIn g (slotAt g v i) p ≢ 0 → blockIn g (slotAt g v i) p ≡ blockIn g (slotAt g v j) q → (i ≡ j) × (p ≡ q)
+  one-place i p j q a b n e = go (ℕ-discrete i j) (ℕ-discrete p q)
+    where
+      m : blockIn g (slotAt g v j) q ≢ 0
+      m z = n (e ∙ z)
+
+      places-apart : (x y : ℕ) → Place i x → y < x → blockIn g (slotAt g v i) x ≢ 0 → blockIn g (slotAt g v i) y ≢ blockIn g (slotAt g v i) x
+      places-apart x y c h k = good-entry i (c .slot) (c .used) .once x y h (c .place) k
+
+      within : i ≡ j → p ≢ q → ⊥
+      within z k =
+          let f : blockIn g (slotAt g v i) p ≡ blockIn g (slotAt g v i) q = e ∙ ap (λ (x : ℕ). blockIn g (slotAt g v x) q) (sym z) in
+          elim (decLt p q) [
+            | yes h ↦ places-apart q p (record { slot = a .slot; used = a .used; place = b .place }) h (λ w. n (f ∙ w)) f
+            | no h ↦ places-apart p q a (omega arith) n (sym f)
+          ]
+
+      across : i ≢ j → ⊥
+      across k = elim (decLt i j) [
+        | yes h ↦ good-entry j (b .slot) (b .used) .alone q (b .place) m i h (a .used) p (a .place) e
+        | no h ↦ good-entry i (a .slot) (a .used) .alone p (a .place) n j (omega arith) (b .used) q (b .place) (sym e)
+      ]
+
+      go : Dec (i ≡ j) → Dec (p ≡ q) → (i ≡ j) × (p ≡ q)
+      go (yes z) (yes w) = (z, w)
+      go (yes z) (no w) = absurd (within z w)
+      go (no z) w = absurd (across z)
+
+  -- two entries of one user, name and group are one
+  pub one-entry : (i j : ℕ) → i < slots g → j < slots g → isEmpty (slotAt g v i) ≡ false → isEmpty (slotAt g v j) ≡ false
+      → twin g (slotAt g v i) (slotAt g v j) ≡ true → i ≡ j
+  one-entry i j a b c d t = elim (ℕ-discrete i j) [
+    | yes z ↦ z
+    | no n ↦ elim (decLt i j) [
+      | yes h ↦ absurd (true≢false (sym (twin-sym g (slotAt g v i) (slotAt g v j) t) ∙ good-entry j b d .unlike i h))
+      | no h ↦ absurd (true≢false (sym t ∙ good-entry i a c .unlike j (omega arith)))
+    ]
+  ]
