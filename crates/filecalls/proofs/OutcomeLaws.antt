@@ -5,12 +5,12 @@ use mathlib.Core.List.{List, [], _∷_, _++_}
 use Prim.Native.Nat.{ℕ}
 use borrow.Author.Tests.{not-true, not-false}
 use Rattle.answers.specs.declared.Refusal.{Refusal}
-use Rattle.answers.specs.declared.Answer.the-variants.{Refused}
+use Rattle.answers.specs.declared.Answer.the-variants.{Done, Refused}
 use Rattle.answers.specs.Refusal.{Test, test, isNone, first, refusing, firstMet}
 use Rattle.answers.proofs.Ladder.{ladder-stop, ladder-pass}
 use Rattle.filecalls.specs.declared.Drive.{Drive}
 use Rattle.filecalls.specs.declared.Reply.{Reply}
-use Rattle.filecalls.specs.Outcome.{Act, deny, unless, Outcome, outcome, left}
+use Rattle.filecalls.specs.Outcome.{keeps, Act, deny, done, unless, outcome, left, changedState, storedAll}
 
 -- a first group of tests refuses
 pub stops : (xs ys : List Test) (act : Act) → isNone (firstMet xs) ≡ false → unless (xs ++ ys) act ≡ deny (firstMet xs)
@@ -43,15 +43,35 @@ refuses {why} {t} xs e i h = ap isNone (sym e) ∙ sym i ∙ not-true t h
 pub clears : {why : Refusal} {t : Bool} (xs : List Test) → why ≡ firstMet xs → t ≡ isNone why → not t ≡ false → isNone (firstMet xs) ≡ true
 clears {why} {t} xs e i h = ap isNone (sym e) ∙ sym i ∙ not-false t h
 
--- what code replies: a group of tests refuses; a single test is met; all have passed
+-- a test after tests that have passed, met and not met; and a test by itself
+pub stops-then : (xs : List Test) (why : Refusal) (m : Bool) (ys : List Test) (act : Act)
+    → isNone (firstMet xs) ≡ true → m ≡ true → isNone why ≡ false → unless (xs ++ (test why m ∷ ys)) act ≡ deny why
+stops-then xs why m ys act n e w = passes xs (test why m ∷ ys) act n ∙ rw e (met why ys act w)
+
+pub goes-on : (xs : List Test) (why : Refusal) (m : Bool) (ys : List Test) (act : Act)
+    → isNone (firstMet xs) ≡ true → m ≡ false → unless (xs ++ (test why m ∷ ys)) act ≡ unless ys act
+goes-on xs why m ys act n e = passes xs (test why m ∷ ys) act n ∙ rw e (not-met why ys act)
+
+pub stops-here : (why : Refusal) (m : Bool) (ys : List Test) (act : Act) → m ≡ true → isNone why ≡ false → unless (test why m ∷ ys) act ≡ deny why
+stops-here why m ys act e w = rw e (met why ys act w)
+
+pub goes-by : (why : Refusal) (m : Bool) (ys : List Test) (act : Act) → m ≡ false → unless (test why m ∷ ys) act ≡ unless ys act
+goes-by why m ys act e = rw e (not-met why ys act)
+
+-- the reply to a refusal, and the reply to an act that leaves state and volume as they are
 module _ (d : Drive) (v f b : List ℕ) where
+  pub says-no : {r : Reply} {why : Refusal} {u : Act} → u ≡ deny why → r ≡ record { answer = Refused why; drive = d } → left r v f b ≡ outcome d v f b u
+  unfolding outcome
+  says-no {r} {why} {u} e p = rw (p, e)
+
+  pub says-done : {r : Reply} {k : ℕ} {u : Act} (f′ b′ : List ℕ) → u ≡ done k keeps [] f′ b′ → r ≡ record { answer = Done k; drive = d }
+      → left r v f′ b′ ≡ outcome d v f b u
+  unfolding outcome changedState storedAll
+  says-done {r} {k} {u} f′ b′ e p = rw (p, e)
+
+  -- a first group of tests refuses, as code learns it
   pub refused-at : {why : Refusal} {r : Reply} {t : Bool} (xs ys : List Test) (act : Act)
       → why ≡ firstMet xs → t ≡ isNone why → not t ≡ true → r ≡ record { answer = Refused why; drive = d }
       → left r v f b ≡ outcome d v f b (unless (xs ++ ys) act)
   unfolding outcome
   refused-at {why} {r} {t} xs ys act e i h p = rw (p, stops xs ys act (refuses xs e i h), e)
-
-  pub refused-by : {r : Reply} (why : Refusal) (ys : List Test) (act : Act) → isNone why ≡ false → r ≡ record { answer = Refused why; drive = d }
-      → left r v f b ≡ outcome d v f b (unless (test why true ∷ ys) act)
-  unfolding outcome
-  refused-by {r} why ys act n p = rw (p, met why ys act n)

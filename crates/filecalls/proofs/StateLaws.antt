@@ -7,6 +7,7 @@ use lib.Dec.{leb, eqb}
 use lib.ListN.{length}
 use borrow.Author.Tests.{not-false, eqb-true, leb-true}
 use Rattle.volume.specs.Geometry.{lawful, bytes, slots}
+use Rattle.answers.specs.declared.Refusal.{Refusal}
 use Rattle.answers.specs.declared.Refusal.the-variants.{Closed, VolumeLength, BlockLength, BufferLength, DriveCode, Name}
 use Rattle.answers.specs.Refusal.{Test, test, isNone, firstMet}
 use Rattle.answers.proofs.Ladder.{unmet}
@@ -14,7 +15,7 @@ use Rattle.filecalls.specs.declared.Drive.{Drive}
 use Rattle.filecalls.specs.State.{goodKept, isOpen}
 use Rattle.filecalls.specs.Tests.{closedState, driveCode, badName}
 use Rattle.filecalls.specs.Ready.{Open, Lent}
-use Rattle.filecalls.specs.Lent.{lentTests, namedTests}
+use Rattle.filecalls.specs.Lent.{lentTests, namedTests, plainTests}
 
 pub and-parts : (a b : Bool) → (a && b) ≡ true → (a ≡ true) × (b ≡ true)
 and-parts true b e = (refl, e)
@@ -57,3 +58,19 @@ named-clear d v f b p e =
       block = same-length (length f) 36 (y .0);
       buffer = same-length b 128 (z .0);
     }
+
+-- a call that is lent no buffer passes the right length for one
+pub no-buffer : (d : Drive) (v f : List ℕ) (p : Bool) → firstMet (namedTests d v f 128 p) ≡ firstMet (plainTests d v f p)
+unfolding namedTests firstMet
+no-buffer d v f p = refl
+
+-- what code knows once `named_why` has not refused a call without a buffer
+pub record Named (d : Drive) (v f : List ℕ) (p : Bool) : Type 0 where
+  pub none : isNone (firstMet (plainTests d v f p)) ≡ true
+  pub lent : Lent d (length v) (length f) 128
+
+pub named : (d : Drive) (v f : List ℕ) (p : Bool) {why : Refusal} {t : Bool} → why ≡ firstMet (namedTests d v f 128 p) → t ≡ isNone why → not t ≡ false
+    → Named d v f p
+named d v f p {why} {t} e i h =
+    let n : isNone (firstMet (namedTests d v f 128 p)) ≡ true = ap isNone (sym e) ∙ sym i ∙ not-false t h in
+    record { none = sym (ap isNone (no-buffer d v f p)) ∙ n; lent = named-clear d v f 128 p n }

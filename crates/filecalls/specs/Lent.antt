@@ -12,7 +12,7 @@ use Rattle.answers.specs.declared.Refusal.the-variants.{VolumeLength, BlockLeng
 use Rattle.answers.specs.Refusal.{Test, test}
 use Rattle.filecalls.specs.declared.Drive.{Drive}
 use Rattle.filecalls.specs.Search.{examined}
-use Rattle.filecalls.specs.Tests.{closedState, driveCode, badName, tooLarge, beyond}
+use Rattle.filecalls.specs.Tests.{closedState, volumeLength, blockLength, driveCode, badName, tooLarge, beyond}
 
 -- 32 to 35, by the lengths that are lent
 unfoldable pub lentTests : Drive → ℕ → ℕ → ℕ → List Test
@@ -29,6 +29,10 @@ namedTests d v f b pattern =
     ∷ driveCode f
     ∷ badName pattern f 1
     ∷ []
+
+-- the same of a call that is lent no buffer
+abbrev pub plainTests : Drive → List ℕ → List ℕ → Bool → List Test
+plainTests d v f pattern = closedState d ∷ volumeLength d v ∷ blockLength f ∷ driveCode f ∷ badName pattern f 1 ∷ []
 
 -- the same, and what a sequential call and a random one ask of the control block
 unfoldable pub sequentialLent : Drive → List ℕ → List ℕ → ℕ → List Test

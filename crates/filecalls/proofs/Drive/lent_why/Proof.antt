@@ -1,4 +1,4 @@
-use mathlib.Core.Bool.{true, false, not}
+use mathlib.Core.Bool.{true, not}
 use lib.Dec.{eqb}
 use Rattle.volume.specs.Geometry.{bytes}
 use Rattle.filecalls.specs.Tests.{closedState}
@@ -8,53 +8,37 @@ use Rattle.answers.specs.declared.Refusal.the-variants.{VolumeLength, BlockLeng
 use mathlib.Core.List.{[], _∷_}
 use Rattle.filecalls.proofs.StateLaws.{is-open}
 use Rattle.filecalls.specs.Lent.{lentTests}
-use Rattle.answers.specs.Refusal.{firstMet}
-use borrow.Author.Tests.{not-true, not-false}
-use mathlib.Core.Path.{_≡_, refl, sym, ap, _∙_}
+use borrow.Author.Tests.{not-false}
+use mathlib.Core.Path.{_≡_, refl, sym, _∙_}
 use borrow.Author.Needs.{needs}
 use Rattle.filecalls.proofs.Drive.lent_why.Statement.{statement}
 use Rattle.filecalls.proofs.Drive.lent_why.Tie as tie
-use Rattle.filecalls.proofs.Drive.lent_why.Reads as reads
-use Rattle.filecalls.proofs.Drive.lent_why.Lts as lts
-use Rattle.answers.proofs.first_of.Reads as first-of-reads
-use Rattle.answers.proofs.refuse.Reads as refuse-reads
-use Rattle.filecalls.proofs.Drive.is_open.Reads as is-open-reads
-use Rattle.volume.proofs.Geometry.bytes.Reads as bytes-reads
 
--- src/tests.rt:16:13
 is-open-requires : tie.Need-is-open-requires
 is-open-requires c κs = search needs
 
--- src/tests.rt:17:13
 returns : tie.Need-returns
 unfolding lentTests firstMet
 returns c = rw (← c .before .is-open .ensures, c .if1 .taken)
 
--- src/tests.rt:20:66
 bytes-requires : tie.Need-bytes-requires
 bytes-requires c κs = is-open _ (sym (c .before .before .is-open .ensures) ∙ not-false (c .before .before .is-open .result) (c .before .if1 .left)) .law
 
--- src/tests.rt:20:13
 refuse-requires : tie.Need-refuse-requires
 refuse-requires c κs = search needs
 
--- src/tests.rt:21:13
 refuse-requires-2 : tie.Need-refuse-requires-2
 refuse-requires-2 c κs = search needs
 
--- src/tests.rt:22:13
 refuse-requires-3 : tie.Need-refuse-requires-3
 refuse-requires-3 c κs = search needs
 
--- src/tests.rt:23:30
 first-of-requires : tie.Need-first-of-requires
 first-of-requires c κs = search needs
 
--- src/tests.rt:23:9
 first-of-requires-2 : tie.Need-first-of-requires-2
 first-of-requires-2 c κs = search needs
 
--- src/tests.rt:13:5
 returns-2 : tie.Need-returns-2
 unfolding lentTests firstMet
 returns-2 c =

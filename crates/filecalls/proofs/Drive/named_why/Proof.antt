@@ -1,33 +1,22 @@
 use lib.Dec.{ltb}
 use mathlib.Core.Bool.{not}
-use Rattle.lists.specs.Bytes.{byte}
-use Rattle.volume.specs.Name.{goodName}
-use Rattle.answers.proofs.Ladder.{ladder-two}
+use Rattle.lists.specs.Bytes.{byte, part}
+use Rattle.volume.specs.Name.{goodName, nameAt}
+use Rattle.answers.proofs.Ladder.{ladder-two, ladder-stop, ladder-pass}
 use Rattle.answers.specs.declared.Refusal.the-variants.{DriveCode, Name}
 use Rattle.filecalls.proofs.OutcomeLaws.{refuses, clears}
 use Rattle.filecalls.proofs.StateLaws.{lent-clear}
 use Rattle.filecalls.specs.Ready.{Lent}
 use Rattle.filecalls.specs.Tests.{driveCode, badName}
 use Rattle.filecalls.specs.Lent.{lentTests, namedTests}
-use Rattle.answers.proofs.Ladder.{ladder-stop, ladder-pass}
-use Rattle.answers.specs.Refusal.{firstMet}
-use Rattle.volume.specs.Name.{nameAt}
-use Rattle.lists.specs.Bytes.{part}
 use lib.ListN.{length}
 use denote.Ref.{now}
 use native.Mathlib.Omega.{arith}
 use mathlib.Core.List.{[], _∷_}
-use mathlib.Core.Path.{_≡_, refl, sym, ap, _∙_}
+use mathlib.Core.Path.{refl, sym, _∙_}
 use borrow.Author.Needs.{needs}
 use Rattle.filecalls.proofs.Drive.named_why.Statement.{statement}
 use Rattle.filecalls.proofs.Drive.named_why.Tie as tie
-use Rattle.filecalls.proofs.Drive.named_why.Reads as reads
-use Rattle.filecalls.proofs.Drive.named_why.Lts as lts
-use Rattle.answers.proofs.first_of.Reads as first-of-reads
-use Rattle.answers.proofs.is_none.Reads as is-none-reads
-use Rattle.answers.proofs.refuse.Reads as refuse-reads
-use Rattle.filecalls.proofs.Drive.lent_why.Reads as lent-why-reads
-use Rattle.volume.proofs.names.good_name.Reads as good-name-reads
 
 clear : (c : tie.Else1) → Lent (c .before .before .before .before .before .args .self) (length (now (c .before .before .before .before .before .args .volume))) (length (now (c .before .before .before .before .before .args .f))) (c .before .before .before .before .before .args .buffer)
 clear c =
@@ -35,15 +24,12 @@ clear c =
     lent-clear (a .self) (length (now (a .volume))) (length (now (a .f))) (a .buffer)
     (clears (lentTests (a .self) (length (now (a .volume))) (length (now (a .f))) (a .buffer)) (c .before .before .lent-why .ensures) (c .before .is-none .ensures) (c .if1 .left))
 
--- src/tests.rt:30:13
 lent-why-requires : tie.Need-lent-why-requires
 lent-why-requires c κs = search needs
 
--- src/tests.rt:31:13
 is-none-requires : tie.Need-is-none-requires
 is-none-requires c κs = search needs
 
--- src/tests.rt:32:13
 returns : tie.Need-returns
 unfolding namedTests lentTests
 returns c =
@@ -51,39 +37,30 @@ returns c =
     let xs = lentTests (a .self) (length (now (a .volume))) (length (now (a .f))) (a .buffer) in
     c .before .before .lent-why .ensures ∙ sym (ladder-stop xs (driveCode (now (a .f)) ∷ badName (a .pattern) (now (a .f)) 1 ∷ []) (refuses xs (c .before .before .lent-why .ensures) (c .before .is-none .ensures) (c .if1 .taken)))
 
--- src/tests.rt:34:57
 shared-slice-read-refuse : tie.Need-shared-slice-read-refuse
 shared-slice-read-refuse c = omega (arith, clear (c .before) .block)
 
--- src/tests.rt:34:13
 refuse-requires : tie.Need-refuse-requires
 refuse-requires c κs = search needs
 
--- src/tests.rt:35:83
 sub-good-name : tie.Need-sub-good-name
 sub-good-name c = search needs
 
--- src/tests.rt:35:83
 part-good-name-start : tie.Need-part-good-name-start
 part-good-name-start c = search needs
 
--- src/tests.rt:35:83
 part-good-name-end : tie.Need-part-good-name-end
 part-good-name-end c = omega (arith, clear (c .before .before) .block)
 
--- src/tests.rt:35:49
 good-name-requires : tie.Need-good-name-requires
 good-name-requires c κs = search needs
 
--- src/tests.rt:35:13
 refuse-requires-2 : tie.Need-refuse-requires-2
 refuse-requires-2 c κs = search needs
 
--- src/tests.rt:36:9
 first-of-requires : tie.Need-first-of-requires
 first-of-requires c κs = search needs
 
--- src/tests.rt:27:5
 returns-2 : tie.Need-returns-2
 unfolding namedTests lentTests nameAt part
 returns-2 c =

@@ -1,34 +1,23 @@
 use Rattle.filecalls.specs.Small.{protectAct, protectTests}
 use Rattle.filecalls.specs.Outcome.{outcome, unless, changedState, storedAll}
 use Rattle.answers.specs.Refusal.{firstMet}
-use mathlib.Core.Path.{_≡_, refl, sym, ap, _∙_}
 use borrow.Author.Needs.{needs}
 use Rattle.filecalls.proofs.Drive.protect.Statement.{statement}
 use Rattle.filecalls.proofs.Drive.protect.Tie as tie
-use Rattle.filecalls.proofs.Drive.protect.Reads as reads
-use Rattle.filecalls.proofs.Drive.protect.Lts as lts
-use Rattle.filecalls.proofs.Drive.done.Reads as done-reads
-use Rattle.filecalls.proofs.Drive.is_open.Reads as is-open-reads
-use Rattle.filecalls.proofs.Drive.refused.Reads as refused-reads
 
--- src/small.rt:16:13
 is-open-requires : tie.Need-is-open-requires
 is-open-requires c κs = search needs
 
--- src/small.rt:17:13
 refused-requires : tie.Need-refused-requires
 refused-requires c κs = search needs
 
--- src/small.rt:17:13
 returns : tie.Need-returns
 unfolding outcome protectAct protectTests unless firstMet
 returns c = rw (← c .before .before .is-open .ensures, c .before .if1 .taken, c .refused .ensures)
 
--- src/small.rt:21:9
 done-requires : tie.Need-done-requires
 done-requires c κs = search needs
 
--- src/small.rt:13:5
 returns-2 : tie.Need-returns-2
 unfolding outcome protectAct protectTests unless firstMet changedState storedAll
 returns-2 c = rw (← c .before .before .is-open .ensures, c .before .if1 .left, c .done .ensures)

@@ -1,28 +1,21 @@
 use Rattle.filecalls.proofs.OutcomeLaws.{refuses, clears}
 use Rattle.filecalls.proofs.StateLaws.{named-clear}
-use Rattle.filecalls.specs.Tests.{closedState, blockLength, driveCode, tooLarge, beyond}
-use Rattle.filecalls.specs.Lent.{namedTests, sequentialLent, randomLent}
-use Rattle.filecalls.specs.Ready.{Lent}
-use Rattle.answers.proofs.Ladder.{ladder-stop, ladder-pass, ladder-one, ladder-two}
+use Rattle.filecalls.specs.Tests.{beyond}
+use Rattle.filecalls.specs.Lent.{namedTests, randomLent}
+use Rattle.answers.proofs.Ladder.{ladder-stop, ladder-pass, ladder-one}
 use Rattle.answers.specs.Refusal.{firstMet, test, isNone}
-use Rattle.answers.specs.declared.Refusal.the-variants.{Closed, BlockLength, DriveCode, Position, Beyond}
-use Rattle.control.specs.Block.{position, positionFits}
+use Rattle.answers.specs.declared.Refusal.the-variants.{Beyond}
 use Rattle.lists.specs.Bytes.{byte}
 use lib.ListN.{length}
-use lib.Dec.{leb, ltb, eqb}
+use lib.Dec.{eqb}
 use denote.Ref.{now}
 use native.Mathlib.Omega.{arith}
-use mathlib.Core.List.{List, [], _∷_}
-use mathlib.Core.Bool.{Bool, true, false, not}
-use mathlib.Core.Path.{_≡_, refl, sym, ap, _∙_}
+use mathlib.Core.List.{[], _∷_}
+use mathlib.Core.Bool.{true, false, not}
+use mathlib.Core.Path.{_≡_, refl, sym, _∙_}
 use borrow.Author.Needs.{needs}
 use Rattle.filecalls.proofs.Drive.random_why.Statement.{statement}
 use Rattle.filecalls.proofs.Drive.random_why.Tie as tie
-use Rattle.filecalls.proofs.Drive.random_why.Reads as reads
-use Rattle.filecalls.proofs.Drive.random_why.Lts as lts
-use Rattle.answers.proofs.is_none.Reads as is-none-reads
-use Rattle.answers.proofs.refuse.Reads as refuse-reads
-use Rattle.filecalls.proofs.Drive.named_why.Reads as named-why-reads
 
 none : (c : tie.Else1) → isNone (firstMet (namedTests (c .before .before .before .before .before .args .self) (now (c .before .before .before .before .before .args .volume)) (now (c .before .before .before .before .before .args .f)) (c .before .before .before .before .before .args .buffer) false)) ≡ true
 none c =
@@ -32,15 +25,12 @@ none c =
 whole : (c : tie.Else1) → length (now (c .before .before .before .before .before .args .f)) ≡ 36
 whole c = named-clear (c .before .before .before .before .before .args .self) (now (c .before .before .before .before .before .args .volume)) (now (c .before .before .before .before .before .args .f)) (c .before .before .before .before .before .args .buffer) false (none c) .block
 
--- src/tests.rt:58:13
 named-why-requires : tie.Need-named-why-requires
 named-why-requires c κs = search needs
 
--- src/tests.rt:59:13
 is-none-requires : tie.Need-is-none-requires
 is-none-requires c κs = search needs
 
--- src/tests.rt:60:13
 returns : tie.Need-returns
 unfolding randomLent
 returns c =
@@ -49,15 +39,12 @@ returns c =
     c .before .before .named-why .ensures
     ∙ sym (ladder-stop xs (beyond (not (eqb (byte (now (a .f)) 35) 0)) ∷ []) (refuses xs (c .before .before .named-why .ensures) (c .before .is-none .ensures) (c .if1 .taken)))
 
--- src/tests.rt:62:42
 shared-slice-read-refuse : tie.Need-shared-slice-read-refuse
 shared-slice-read-refuse c = omega (arith, whole (c .before))
 
--- src/tests.rt:62:9
 refuse-requires : tie.Need-refuse-requires
 refuse-requires c κs = search needs
 
--- src/tests.rt:55:5
 returns-2 : tie.Need-returns-2
 unfolding randomLent
 returns-2 c =

@@ -1,30 +1,21 @@
 use Rattle.filecalls.proofs.OutcomeLaws.{refuses, clears}
 use Rattle.filecalls.proofs.StateLaws.{named-clear}
-use Rattle.filecalls.specs.Tests.{closedState, blockLength, driveCode, tooLarge, beyond}
-use Rattle.filecalls.specs.Lent.{namedTests, sequentialLent, randomLent}
-use Rattle.filecalls.specs.Ready.{Lent}
-use Rattle.answers.proofs.Ladder.{ladder-stop, ladder-pass, ladder-one, ladder-two}
+use Rattle.filecalls.specs.Tests.{tooLarge, beyond}
+use Rattle.filecalls.specs.Lent.{namedTests, sequentialLent}
+use Rattle.answers.proofs.Ladder.{ladder-stop, ladder-pass, ladder-two}
 use Rattle.answers.specs.Refusal.{firstMet, test, isNone}
-use Rattle.answers.specs.declared.Refusal.the-variants.{Closed, BlockLength, DriveCode, Position, Beyond}
+use Rattle.answers.specs.declared.Refusal.the-variants.{Position, Beyond}
 use Rattle.control.specs.Block.{position, positionFits}
-use Rattle.lists.specs.Bytes.{byte}
 use lib.ListN.{length}
-use lib.Dec.{leb, ltb, eqb}
+use lib.Dec.{eqb}
 use denote.Ref.{now}
 use native.Mathlib.Omega.{arith}
-use mathlib.Core.List.{List, [], _∷_}
-use mathlib.Core.Bool.{Bool, true, false, not}
-use mathlib.Core.Path.{_≡_, refl, sym, ap, _∙_}
+use mathlib.Core.List.{[], _∷_}
+use mathlib.Core.Bool.{true, false, not}
+use mathlib.Core.Path.{_≡_, refl, sym, _∙_}
 use borrow.Author.Needs.{needs}
 use Rattle.filecalls.proofs.Drive.sequential_why.Statement.{statement}
 use Rattle.filecalls.proofs.Drive.sequential_why.Tie as tie
-use Rattle.filecalls.proofs.Drive.sequential_why.Reads as reads
-use Rattle.filecalls.proofs.Drive.sequential_why.Lts as lts
-use Rattle.answers.proofs.first_of.Reads as first-of-reads
-use Rattle.answers.proofs.is_none.Reads as is-none-reads
-use Rattle.answers.proofs.refuse.Reads as refuse-reads
-use Rattle.control.proofs.position_of.Reads as position-of-reads
-use Rattle.filecalls.proofs.Drive.named_why.Reads as named-why-reads
 
 none : (c : tie.Else1) → isNone (firstMet (namedTests (c .before .before .before .before .before .args .self) (now (c .before .before .before .before .before .args .volume)) (now (c .before .before .before .before .before .args .f)) (c .before .before .before .before .before .args .buffer) false)) ≡ true
 none c =
@@ -34,15 +25,12 @@ none c =
 whole : (c : tie.Else1) → length (now (c .before .before .before .before .before .args .f)) ≡ 36
 whole c = named-clear (c .before .before .before .before .before .args .self) (now (c .before .before .before .before .before .args .volume)) (now (c .before .before .before .before .before .args .f)) (c .before .before .before .before .before .args .buffer) false (none c) .block
 
--- src/tests.rt:43:13
 named-why-requires : tie.Need-named-why-requires
 named-why-requires c κs = search needs
 
--- src/tests.rt:44:13
 is-none-requires : tie.Need-is-none-requires
 is-none-requires c κs = search needs
 
--- src/tests.rt:45:13
 returns : tie.Need-returns
 unfolding sequentialLent
 returns c =
@@ -51,35 +39,27 @@ returns c =
     c .before .before .named-why .ensures
     ∙ sym (ladder-stop xs (tooLarge (positionFits (now (a .f))) ∷ beyond (eqb (position (now (a .f))) 65536) ∷ []) (refuses xs (c .before .before .named-why .ensures) (c .before .is-none .ensures) (c .if1 .taken)))
 
--- src/tests.rt:47:21
 shared-slice-read-fits : tie.Need-shared-slice-read-fits
 shared-slice-read-fits c = omega (arith, whole (c .before))
 
--- src/tests.rt:47:37
 shared-slice-read-fits-2 : tie.Need-shared-slice-read-fits-2
 shared-slice-read-fits-2 c = omega (arith, whole (c .before .before))
 
--- src/tests.rt:47:53
 shared-slice-read-fits-3 : tie.Need-shared-slice-read-fits-3
 shared-slice-read-fits-3 c = omega (arith, whole (c .before .before .before))
 
--- src/tests.rt:48:13
 position-of-requires : tie.Need-position-of-requires
 position-of-requires c κs = whole (c .before .before .before)
 
--- src/tests.rt:49:13
 refuse-requires : tie.Need-refuse-requires
 refuse-requires c κs = search needs
 
--- src/tests.rt:50:13
 refuse-requires-2 : tie.Need-refuse-requires-2
 refuse-requires-2 c κs = search needs
 
--- src/tests.rt:51:9
 first-of-requires : tie.Need-first-of-requires
 first-of-requires c κs = search needs
 
--- src/tests.rt:40:5
 returns-2 : tie.Need-returns-2
 unfolding sequentialLent
 returns-2 c =

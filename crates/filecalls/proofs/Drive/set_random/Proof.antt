@@ -1,7 +1,6 @@
-use Rattle.filecalls.proofs.OutcomeLaws.{refused-at, clears, passes}
+use Rattle.filecalls.proofs.OutcomeLaws.{refused-at, clears}
 use Rattle.filecalls.specs.Small.{setRandomTests, setRandomAct}
-use Rattle.filecalls.specs.Outcome.{keeps, done, unless, outcome, left, changedState, storedAll}
-use Rattle.control.specs.Block.{position, withRandom}
+use Rattle.filecalls.specs.Outcome.{unless, outcome, changedState, storedAll}
 use Rattle.answers.proofs.Ladder.{unmet}
 use Rattle.answers.specs.Refusal.{firstMet, isNone}
 use Rattle.answers.specs.declared.Refusal.the-variants.{Closed, BlockLength}
@@ -10,20 +9,12 @@ use lib.ListN.{length}
 use lib.Dec.{eqb}
 use denote.Ref.{now}
 use native.Mathlib.Omega.{arith}
-use mathlib.Core.Bool.{Bool, true, false, not}
-use mathlib.Core.List.{List, [], _∷_, append-nil}
-use mathlib.Core.Path.{_≡_, refl, sym, ap, _∙_}
+use mathlib.Core.Bool.{true}
+use mathlib.Core.List.{[]}
+use mathlib.Core.Path.{_≡_, refl}
 use borrow.Author.Needs.{needs}
 use Rattle.filecalls.proofs.Drive.set_random.Statement.{statement}
 use Rattle.filecalls.proofs.Drive.set_random.Tie as tie
-use Rattle.filecalls.proofs.Drive.set_random.Reads as reads
-use Rattle.filecalls.proofs.Drive.set_random.Lts as lts
-use Rattle.answers.proofs.is_none.Reads as is-none-reads
-use Rattle.control.proofs.position_of.Reads as position-of-reads
-use Rattle.control.proofs.set_random.Reads as set-random-reads
-use Rattle.filecalls.proofs.Drive.done.Reads as done-reads
-use Rattle.filecalls.proofs.Drive.position_why.Reads as position-why-reads
-use Rattle.filecalls.proofs.Drive.refused.Reads as refused-reads
 
 none : (c : tie.Else1) → isNone (firstMet (setRandomTests (c .before .before .before .before .before .args .self) (now (c .before .before .before .before .before .args .f)))) ≡ true
 none c = clears (setRandomTests (c .before .before .before .before .before .args .self) (now (c .before .before .before .before .before .args .f))) (c .before .before .position-why .ensures) (c .before .is-none .ensures) (c .if1 .left)
@@ -35,46 +26,36 @@ whole c =
     let y = unmet BlockLength _ _ refl (x .1) in
     eqb-true _ _ (not-false (eqb (length (now (c .before .before .before .before .before .args .f))) 36) (y .0))
 
--- src/small.rt:64:13
 position-why-requires : tie.Need-position-why-requires
 position-why-requires c κs = search needs
 
--- src/small.rt:65:13
 is-none-requires : tie.Need-is-none-requires
 is-none-requires c κs = search needs
 
--- src/small.rt:66:13
 refused-requires : tie.Need-refused-requires
 refused-requires c κs = search needs
 
--- src/small.rt:66:13
 same-length : tie.Need-same-length
 same-length c = search needs
 
--- src/small.rt:66:13
 returns : tie.Need-returns
 unfolding setRandomAct setRandomTests
 returns c =
     let a = c .before .before .before .before .before .before .args in
     refused-at (a .self) [] (now (a .f)) [] (setRandomTests (a .self) (now (a .f))) [] _ (c .before .before .before .position-why .ensures) (c .before .before .is-none .ensures) (c .before .if1 .taken) (c .refused .ensures)
 
--- src/small.rt:68:13
 position-of-requires : tie.Need-position-of-requires
 position-of-requires c κs = whole (c .before)
 
--- src/small.rt:69:9
 set-random-requires : tie.Need-set-random-requires
 set-random-requires c κs = (whole (c .before .before .before), omega (arith, c .before .position-of .ensures .1))
 
--- src/small.rt:70:9
 done-requires : tie.Need-done-requires
 done-requires c κs = search needs
 
--- src/small.rt:61:5
 same-length-2 : tie.Need-same-length-2
 same-length-2 c = search needs
 
--- src/small.rt:61:5
 returns-2 : tie.Need-returns-2
 unfolding setRandomAct setRandomTests unless outcome changedState storedAll
 returns-2 c = rw (none (c .before .before .before .before .before .before .before), c .done .ensures, c .before .before .before .set-random .ensures, c .before .before .before .before .before .position-of .ensures .0)

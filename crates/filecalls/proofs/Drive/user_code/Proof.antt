@@ -2,52 +2,37 @@ use Rattle.filecalls.specs.Small.{userAct, userTests}
 use Rattle.filecalls.specs.Outcome.{outcome, unless, changedState, storedAll}
 use Rattle.answers.specs.Refusal.{firstMet}
 use borrow.Author.Tests.{eq-eqb, ne-eqb}
-use mathlib.Core.Path.{_≡_, refl, sym, ap, _∙_}
 use borrow.Author.Needs.{needs}
 use Rattle.filecalls.proofs.Drive.user_code.Statement.{statement}
 use Rattle.filecalls.proofs.Drive.user_code.Tie as tie
-use Rattle.filecalls.proofs.Drive.user_code.Reads as reads
-use Rattle.filecalls.proofs.Drive.user_code.Lts as lts
-use Rattle.filecalls.proofs.Drive.done.Reads as done-reads
-use Rattle.filecalls.proofs.Drive.is_open.Reads as is-open-reads
-use Rattle.filecalls.proofs.Drive.refused.Reads as refused-reads
 
--- src/small.rt:28:13
 is-open-requires : tie.Need-is-open-requires
 is-open-requires c κs = search needs
 
--- src/small.rt:29:13
 refused-requires : tie.Need-refused-requires
 refused-requires c κs = search needs
 
--- src/small.rt:29:13
 returns : tie.Need-returns
 unfolding outcome userAct userTests unless firstMet
 returns c = rw (← c .before .before .is-open .ensures, c .before .if1 .taken, c .refused .ensures)
 
--- src/small.rt:32:13
 refused-requires-2 : tie.Need-refused-requires-2
 refused-requires-2 c κs = search needs
 
--- src/small.rt:32:13
 returns-2 : tie.Need-returns-2
 unfolding outcome userAct userTests unless firstMet
 returns-2 c = rw (← c .before .before .before .is-open .ensures, c .before .before .if1 .left, c .before .if2 .taken, c .refused2 .ensures)
 
--- src/small.rt:35:13
 done-requires : tie.Need-done-requires
 done-requires c κs = search needs
 
--- src/small.rt:35:13
 returns-3 : tie.Need-returns-3
 unfolding outcome userAct userTests unless firstMet changedState storedAll
 returns-3 c = rw (← c .before .before .before .before .is-open .ensures, c .before .before .before .if1 .left, c .before .before .if2 .left, eq-eqb _ _ (c .before .if3 .taken), c .done .ensures)
 
--- src/small.rt:39:9
 done-requires-2 : tie.Need-done-requires-2
 done-requires-2 c κs = search needs
 
--- src/small.rt:25:5
 returns-4 : tie.Need-returns-4
 unfolding outcome userAct userTests unless firstMet changedState storedAll
 returns-4 c = rw (← c .before .before .before .before .is-open .ensures, c .before .before .before .if1 .left, c .before .before .if2 .left, ne-eqb _ _ (c .before .if3 .left), c .done2 .ensures)

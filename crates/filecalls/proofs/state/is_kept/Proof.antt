@@ -1,36 +1,25 @@
-use mathlib.Core.Path.{_≡_, refl, sym, ap, _∙_}
 use borrow.Author.Needs.{needs}
 use Rattle.filecalls.proofs.state.is_kept.Statement.{statement}
 use Rattle.filecalls.proofs.state.is_kept.Tie as tie
-use Rattle.filecalls.proofs.state.is_kept.Reads as reads
-use Rattle.filecalls.proofs.state.is_kept.Lts as lts
-use Rattle.filecalls.proofs.state.is_pattern.Reads as is-pattern-reads
 
--- src/state.rt:32:26
 enum-told : tie.Need-enum-told
 enum-told c = search needs
 
--- src/state.rt:33:27
 enum-told-2 : tie.Need-enum-told-2
 enum-told-2 c = search needs
 
--- src/state.rt:33:54
 is-pattern-requires : tie.Need-is-pattern-requires
 is-pattern-requires c κs = search needs
 
--- src/state.rt:34:30
 enum-told-3 : tie.Need-enum-told-3
 enum-told-3 c = search needs
 
--- src/state.rt:27:1
 returns : tie.Need-returns
 returns c = search needs
 
--- src/state.rt:27:1
 returns-2 : tie.Need-returns-2
 returns-2 c = rw (c .before .enum-told2 .given .1, c .is-pattern .ensures)
 
--- src/state.rt:27:1
 returns-3 : tie.Need-returns-3
 returns-3 c = rw (c .enum-told3 .given .1)
 
