@@ -5,13 +5,13 @@ use mathlib.Core.Bool.{Bool, true, false, _&&_, _||_, false≢true}
 use mathlib.Core.Logic.{_⊎_, inl, inr, ⊎-elim, _≢_}
 use Prim.Native.Nat.{ℕ, suc, _+_, _*_, _/_, _%_, _≤_, _<_}
 use native.Mathlib.Decide.{ℕ-discrete}
-use native.Mathlib.Nat.{mul-le-mul, mul-le-mul-right, mod-lt, div-lt-iff-lt-mul}
+use native.Mathlib.Nat.{mul-le-mul, mul-le-mul-right, mod-lt, div-lt-iff-lt-mul, div-add-mod', div-div-eq-div-mul}
 use native.Mathlib.Omega.{arith}
-use lib.Arith.{digits-lt, digits-div}
+use lib.Arith.{digits-lt, digits-div, mod-mul}
 use lib.Dec.{ltb}
 use borrow.Author.Tests.{leb-true, ltb-true, ltb-false, eqb-true}
 use Rattle.volume.specs.declared.Geometry.{Geometry}
-use Rattle.volume.specs.Geometry.{lawful, bytes, records, extents, start, slots, slotStart, recordStart, placeOf}
+use Rattle.volume.specs.Geometry.{lawful, bytes, records, extents, start, slots, slotStart, recordStart, groupOf, placeOf}
 use Rattle.volume.specs.Entry.{places}
 
 -- ---- the sizes
@@ -172,3 +172,14 @@ module _ (g : Geometry) (good : lawful g ≡ true) where
   place-lt n =
       let k : n % (128 * extents g) < 128 * extents g = mod-lt n (omega (arith, bounds g good)) in
       div-lt-iff-lt-mul (bounds g good .some-records) .1 (rw (bounds g good .entry-records) k)
+
+  -- a record's number from its group, its place and its place in the block
+  pub record-number : (n : ℕ) → n ≡ groupOf g (n / 128) * (128 * extents g) + (placeOf g n * records g + n % records g)
+  unfolding groupOf placeOf
+  record-number n =
+      let some = bounds g good .some-records in
+      let k : n % (128 * extents g) ≡ n / records g % places g * records g + n % records g
+      = rw (← bounds g good .entry-records) (mod-mul n {m = places g} {c = records g} (omega (arith, place-lt n)) some) in
+      let p : n % (128 * extents g) / records g ≡ n / records g % places g = rw k (digits-div (n / records g % places g) (mod-lt n some)) in
+      let q : n / 128 / extents g ≡ n / (128 * extents g) = div-div-eq-div-mul n 128 (extents g) in
+      sym (div-add-mod' n (128 * extents g)) ∙ rw (q, p, k)

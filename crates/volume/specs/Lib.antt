@@ -4,3 +4,4 @@ pub mod Name
 pub mod Entry
 pub mod Directory
 pub mod Record
+pub mod Sweep
