@@ -1,0 +1,2 @@
+-- Laws of the edits that a sweep makes.
+pub mod EditLaws
