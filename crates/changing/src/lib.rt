@@ -1,5 +1,6 @@
 // The calls that change the volume, over what is lent to them: make, delete, rename, attributes, and the writes.
 
+pub mod delete;
 pub mod names;
 pub mod sweep;
 
