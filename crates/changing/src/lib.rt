@@ -2,6 +2,7 @@
 
 pub mod delete;
 pub mod names;
+pub mod rename;
 pub mod sweep;
 
 // How entries change in a sweep over the directory.
