@@ -1,6 +1,7 @@
 // The calls that change the volume, over what is lent to them: make, delete, rename, attributes, and the writes.
 
 pub mod delete;
+pub mod make;
 pub mod names;
 pub mod rename;
 pub mod sweep;

@@ -1,6 +1,5 @@
 // Names as they go into entries: without their top bits.
 ghost use mathlib.Core.Path.{_≡_};
-ghost use Prim.Native.Nat.{ℕ};
 ghost use lib.ListN.{length};
 ghost use Rattle.volume.specs.Name.{strip};
 
