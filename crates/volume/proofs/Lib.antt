@@ -2,3 +2,4 @@
 pub mod GeometryLaws
 pub mod NameLaws
 pub mod EntryLaws
+pub mod DirectoryLaws
