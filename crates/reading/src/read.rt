@@ -66,7 +66,16 @@ fn plan(g: Geometry, volume: &[u8], user: u8, name: &[u8], n: usize, missing: Re
 }
 
 // The record goes to the buffer, and the control block is set to it.
-fn act(g: Geometry, volume: &[u8], f: &mut [u8], buffer: &mut [u8], slot: usize, block: usize, n: usize, cr: u8)
+fn act(
+    g: Geometry,
+    volume: &[u8],
+    f: &mut [u8],
+    buffer: &mut [u8],
+    slot: usize,
+    block: usize,
+    n: usize,
+    cr: u8,
+)
     requires { ⌜ (lawful g ≡ true) × ((length (now volume) ≡ bytes g) × ((length (now f) ≡ 36) × (length (now buffer) ≡ 128))) ⌝ }
     requires { ⌜ (slot < slots g) × ((block < g .total) × (n < 65536)) ⌝ }
     ensures { λ _. ⌜ now (f .exit) ≡ setTo (now (f .entry)) (slotAt g (now (volume .entry)) slot) n cr ⌝ }
@@ -79,7 +88,16 @@ fn act(g: Geometry, volume: &[u8], f: &mut [u8], buffer: &mut [u8], slot: usize,
 }
 
 // Reads record n of the file in the control block: answers the first refusal, None where the record was read.
-pub fn read_record(g: Geometry, volume: &[u8], f: &mut [u8], buffer: &mut [u8], user: u8, n: usize, cr: u8, missing: Refusal) -> Refusal
+pub fn read_record(
+    g: Geometry,
+    volume: &[u8],
+    f: &mut [u8],
+    buffer: &mut [u8],
+    user: u8,
+    n: usize,
+    cr: u8,
+    missing: Refusal,
+) -> Refusal
     requires { ⌜ (lawful g ≡ true) × ((length (now volume) ≡ bytes g) × ((length (now f) ≡ 36) × (length (now buffer) ≡ 128))) ⌝ }
     requires { ⌜ (n < 65536) × (isNone missing ≡ false) ⌝ }
     ensures { λ r. ⌜ r ≡ firstMet (readTests g (now (volume .entry)) user (nameOf (now (f .entry))) n missing) ⌝ }

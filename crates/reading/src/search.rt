@@ -15,7 +15,11 @@ use volume::Wanted;
 pub fn kind_of(dr: u8) -> Kept
     ensures { λ r. ⌜ r ≡ kindOf dr ⌝ }
 {
-    if dr == 63 { Kept::Everything } else { Kept::Pattern }
+    if dr == 63 {
+        Kept::Everything
+    } else {
+        Kept::Pattern
+    }
 }
 
 // The pattern that a search keeps: the name's eleven bytes and ex.
@@ -37,12 +41,24 @@ fn sought_by(g: Geometry, kind: Kept, ex: u8) -> Wanted
     match kind {
         Kept::Nothing => Wanted::Any,
         Kept::Everything => Wanted::Any,
-        Kept::Pattern => if ex == 63 { Wanted::Match } else { Wanted::MatchGroup(group) },
+        Kept::Pattern => if ex == 63 {
+            Wanted::Match
+        } else {
+            Wanted::MatchGroup(group)
+        },
     }
 }
 
 // Searches from slot `from` on: the record of the hit goes to the buffer where there is one; answers its slot.
-pub fn search_from(g: Geometry, volume: &[u8], buffer: &mut [u8], kind: Kept, user: u8, pattern: &[u8; 12], from: usize) -> usize
+pub fn search_from(
+    g: Geometry,
+    volume: &[u8],
+    buffer: &mut [u8],
+    kind: Kept,
+    user: u8,
+    pattern: &[u8; 12],
+    from: usize,
+) -> usize
     requires { ⌜ (lawful g ≡ true) × ((length (now volume) ≡ bytes g) × ((length (now buffer) ≡ 128) × (from ≤ slots g))) ⌝ }
     ensures { λ r. ⌜ (r ≡ hitFrom g (now (volume .entry)) kind user (now (pattern .entry)) from) × (r ≤ slots g) ⌝ }
     ensures { λ r. ⌜ now (buffer .exit) ≡ cond (ltb r (slots g)) (slotRecord g (now (volume .entry)) r) (now (buffer .entry)) ⌝ }

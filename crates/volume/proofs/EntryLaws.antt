@@ -1,10 +1,15 @@
--- Laws of entries: what an entry counts below, in and above its own extent.
+-- Laws of entries: what an entry counts below, in and above its own extent, and the entry in a slot as it is lent.
 use mathlib.Core.Path.{_≡_}
-use Prim.Native.Nat.{ℕ, _<_, _≤_, min}
+use mathlib.Core.List.{List}
+use Prim.Native.Nat.{ℕ, _+_, _-_, _<_, _≤_, min}
 use native.Mathlib.Omega.{arith}
+use lib.ListN.{take, drop}
 use borrow.Author.Tests.{lt-ltb, le-ltb}
-use Rattle.lists.specs.Bytes.{byte}
+use Rattle.lists.specs.Bytes.{byte, part}
+use Rattle.volume.specs.declared.Geometry.{Geometry}
+use Rattle.volume.specs.Geometry.{slotStart}
 use Rattle.volume.specs.Entry.{Entry, extent, countOf}
+use Rattle.volume.specs.Directory.{slotAt}
 
 module _ (e : Entry) (x : ℕ) where
   pub count-below : x < extent e → countOf e x ≡ 128
@@ -23,3 +28,10 @@ module _ (e : Entry) (x : ℕ) where
       let l : extent e ≤ x = omega arith in
       let h : x ≤ extent e = omega arith in
       rw (le-ltb x (extent e) l, le-ltb (extent e) x h)
+
+-- `&volume[at..at + 32]`, where at is the start of slot i
+pub lent-slot : (g : Geometry) (v : List ℕ) (i at : ℕ) → at ≡ slotStart g i → take (at + 32 - at) (drop at v) ≡ slotAt g v i
+unfolding slotAt part
+lent-slot g v i at e =
+    let z : at + 32 - at ≡ 32 = omega arith in
+    rw (z, e)

@@ -8,12 +8,19 @@ ghost use Rattle.lists.specs.Bytes.{put};
 ghost use Rattle.volume.specs.Geometry.{lawful, bytes, slots};
 ghost use Rattle.volume.specs.Name.{strip};
 ghost use Rattle.volume.specs.Directory.{slotFits, findSlot, putSlot};
-use crate::entry;
 use crate::Geometry;
 use crate::Wanted;
+use crate::entry;
 
 // The lowest slot from `from` on that has what is wanted, the number of slots where none has.
-pub fn find_from(g: Geometry, volume: &[u8], from: usize, user: u8, name: &[u8], wanted: Wanted) -> usize
+pub fn find_from(
+    g: Geometry,
+    volume: &[u8],
+    from: usize,
+    user: u8,
+    name: &[u8],
+    wanted: Wanted,
+) -> usize
     requires { ⌜ (lawful g ≡ true) × (length (now volume) ≡ bytes g) ⌝ }
     requires { ⌜ (from ≤ slots g) × (length (now name) ≡ 11) ⌝ }
     ensures { λ r. ⌜ (r ≡ lowFrom (slotFits g (now (volume .entry)) user (strip (now (name .entry))) wanted) from (slots g - from)) × (r ≤ slots g) ⌝ }
