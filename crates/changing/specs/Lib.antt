@@ -4,3 +4,4 @@ pub mod Delete
 pub mod Make
 pub mod Rename
 pub mod Write
+pub mod WritePlan

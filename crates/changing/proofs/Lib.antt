@@ -1,0 +1,5 @@
+-- Laws of the calls that change the volume.
+pub mod FindLaws
+pub mod AllocLaws
+pub mod GrowLaws
+pub mod WriteLaws
