@@ -1,5 +1,8 @@
--- Laws of the edits that a sweep makes, of searches that go on where another ended, of ladders of tests, and of make.
+-- Laws of the calls that change the volume: of the edits that a sweep makes, of read-only entries sought from the first
+-- entry on, of make, and of the writes.
 pub mod EditLaws
-pub mod FindLaws
-pub mod LadderLaws
+pub mod ReadOnlyLaws
 pub mod MakeLaws
+pub mod AllocLaws
+pub mod GrowLaws
+pub mod WriteLaws

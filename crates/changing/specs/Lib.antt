@@ -5,3 +5,4 @@ pub mod Delete
 pub mod Make
 pub mod Rename
 pub mod Write
+pub mod WritePlan
