@@ -26,7 +26,7 @@ find-requires c κs = search needs
 
 returns : tie.Need-returns
 unfolding closeSlot nameAt part
-returns c = (rw (← c .before .before .before .extent-of .ensures .0, ← c .before .before .group .ensures) (c .find .ensures .0), c .find .ensures .1)
+returns c = (rw (c .before .before .group .ensures, c .before .before .before .extent-of .ensures .0) at (c .find .ensures .0), c .find .ensures .1)
 
 pub slot-to-close-spec : {M : Type 1} → statement M
 slot-to-close-spec =

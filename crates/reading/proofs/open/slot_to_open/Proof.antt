@@ -29,7 +29,7 @@ find-requires c κs = search needs
 
 returns : tie.Need-returns
 unfolding openSlot nameAt part
-returns c = (rw (← c .before .before .before .wide .ensures .0, ← c .before .before .group .ensures) (c .find .ensures .0), c .find .ensures .1)
+returns c = (rw (c .before .before .group .ensures, c .before .before .before .wide .ensures .0) at (c .find .ensures .0), c .find .ensures .1)
 
 pub slot-to-open-spec : {M : Type 1} → statement M
 slot-to-open-spec =

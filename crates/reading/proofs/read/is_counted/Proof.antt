@@ -18,7 +18,7 @@ block-in-requires c κs = search needs
 
 returns : tie.Need-returns
 unfolding counted
-returns c = rw (c .before .before .wide .ensures .0, c .before .before .before .count-of .ensures .0, c .block-in .ensures .0, c .before .place .ensures .0)
+returns c = rw (← c .before .place .ensures .0, ← c .block-in .ensures .0, ← c .before .before .before .count-of .ensures .0, ← c .before .before .wide .ensures .0)
 
 pub is-counted-spec : {M : Type 1} → statement M
 is-counted-spec =
