@@ -6,6 +6,7 @@ use Prim.Native.Nat.{ℕ, _≤_}
 use lib.Dec.{leb, eqb}
 use lib.ListN.{length}
 use borrow.Author.Tests.{not-false, eqb-true, leb-true}
+use Rattle.lists.proofs.BoolLaws.{and-parts}
 use Rattle.volume.specs.Geometry.{lawful, bytes, slots}
 use Rattle.answers.specs.declared.Refusal.{Refusal}
 use Rattle.answers.specs.declared.Refusal.the-variants.{Closed, VolumeLength, BlockLength, BufferLength, DriveCode, Name}
@@ -16,10 +17,6 @@ use Rattle.filecalls.specs.State.{goodKept, isOpen}
 use Rattle.filecalls.specs.Tests.{closedState, driveCode, badName}
 use Rattle.filecalls.specs.Ready.{Open, Lent}
 use Rattle.filecalls.specs.Lent.{lentTests, namedTests, plainTests}
-
-pub and-parts : (a b : Bool) → (a && b) ≡ true → (a ≡ true) × (b ≡ true)
-and-parts true b e = (refl, e)
-and-parts false b e = absurd (false≢true e)
 
 pub is-open : (d : Drive) → isOpen d ≡ true → Open d
 unfolding isOpen

@@ -1,3 +1,2 @@
--- Laws of the calls that read: what a search of the directory tells, and what the plan of a read is.
-pub mod FindLaws
+-- Laws of the calls that read: what the plan of a read is.
 pub mod ReadLaws

@@ -6,6 +6,7 @@ use Prim.Native.Nat.{ℕ, _/_, _≤_, _<_}
 use native.Mathlib.Omega.{arith}
 use lib.Dec.{leb, ltb, eqb}
 use borrow.Author.Tests.{leb-false, ltb-true, not-false, le-leb, lt-leb, lt-ltb}
+use Rattle.lists.proofs.BoolLaws.{and-left, and-right}
 use Rattle.volume.specs.declared.Geometry.{Geometry}
 use Rattle.volume.specs.declared.Wanted.the-variants.{File, Group}
 use Rattle.volume.specs.Geometry.{slots, groupOf, inside}
@@ -20,20 +21,7 @@ use Rattle.reading.specs.declared.read.ReadPlan.{ReadPlan}
 use Rattle.reading.specs.declared.read.ReadPlan.the-variants.{Go, No}
 use Rattle.reading.specs.Read.{readTests, readBlock}
 use Rattle.reading.specs.Plan.{planIn, readPlan}
-use Rattle.reading.proofs.FindLaws.{found-other}
-
-and-left : (a b : Bool) → a && b ≡ true → a ≡ true
-and-left true b e = refl
-and-left false b e = e
-
-and-right : (a b : Bool) → a && b ≡ true → b ≡ true
-and-right true b e = e
-and-right false b e = absurd (false≢true e)
-
--- an entry of a group of the file is one of the file
-of-group-file : (g : Geometry) (u : ℕ) (name : List ℕ) (k : ℕ) (e : Entry) → ofGroup g u name k e ≡ true → ofFile u name e ≡ true
-unfolding ofGroup
-of-group-file g u name k e h = and-left (ofFile u name e) (eqb (groupOf g (extent e)) k) h
+use Rattle.volume.proofs.FindLaws.{group-file}
 
 -- the last two tests, 1 and 41
 last-two : (t s : Bool) (go : ReadPlan)
@@ -47,7 +35,7 @@ module _ (g : Geometry) (v : List ℕ) (u : ℕ) (name : List ℕ) (n : ℕ) whe
   -- where a record's group has an entry the file has one
   pub file-found : recordSlot g v u name n < slots g → findSlot g v u name File < slots g
   unfolding recordSlot
-  file-found h = found-other g v u name (Group (groupOf g (n / 128))) File (of-group-file g u name (groupOf g (n / 128))) h
+  file-found h = group-file g v u name (groupOf g (n / 128)) h
 
   -- present, by the entry
   pub present-counted : recordSlot g v u name n < slots g → present g v u name n ≡ counted g (slotAt g v (recordSlot g v u name n)) n

@@ -10,6 +10,7 @@ use native.Mathlib.Omega.{arith}
 use lib.Arith.{digits-lt, digits-div, mod-mul}
 use lib.Dec.{ltb}
 use borrow.Author.Tests.{leb-true, ltb-true, ltb-false, eqb-true}
+use Rattle.lists.proofs.BoolLaws.{and-parts}
 use Rattle.volume.specs.declared.Geometry.{Geometry}
 use Rattle.volume.specs.Geometry.{lawful, bytes, records, extents, start, slots, slotStart, recordStart, groupOf, placeOf}
 use Rattle.volume.specs.Entry.{places}
@@ -35,10 +36,6 @@ pub record Bounds (g : Geometry) : Type 0 where
   pub part-records : g .directory * records g ≤ g .total * records g
   pub slots-bytes : slots g * 32 ≡ g .directory * g .block
   pub slots-high : slots g ≤ 2048
-
-and-parts : (a b : Bool) → (a && b) ≡ true → (a ≡ true) × (b ≡ true)
-and-parts true b e = (refl, e)
-and-parts false b e = absurd (false≢true e)
 
 -- each of the three block sizes is a number of extents
 in-extents : (b : ℕ) → (b ≡ 1024) ⊎ ((b ≡ 2048) ⊎ (b ≡ 4096)) → (b ≡ 1024 * (b / 1024)) × ((1024 ≤ b) × (b ≤ 4096))

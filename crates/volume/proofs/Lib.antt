@@ -1,6 +1,7 @@
--- Laws of the volume: of the geometry, of slots and records laid into it, of a change made to every slot, of names and of entries.
+-- Laws of the volume: of the geometry, of slots and records laid into it, of a change made to every slot, of the slot that is found, of names and of entries.
 pub mod GeometryLaws
 pub mod DirectoryLaws
 pub mod SweepLaws
+pub mod FindLaws
 pub mod NameLaws
 pub mod EntryLaws

@@ -8,6 +8,7 @@ use native.Mathlib.Omega.{arith}
 use lib.Dec.{leb, eqb}
 use lib.ListN.{length}
 use borrow.Author.Tests.{eq-eqb, eqb-true}
+use Rattle.lists.proofs.BoolLaws.{and-left, and-right}
 use Rattle.lists.specs.Search.{everyFrom, every}
 use Rattle.lists.specs.Bytes.{byte, all}
 use Rattle.volume.specs.Name.{strip, same, like, nameByte, goodName}
@@ -76,14 +77,6 @@ unfolding goodName
 good-places n pattern l d = rw (all-places (nameByte pattern) n l d, byte-strip l 0)
 
 -- ---- the two sides of "and"
-and-left : (a b : Bool) → a && b ≡ true → a ≡ true
-and-left true b e = refl
-and-left false b e = e
-
-and-right : (a b : Bool) → a && b ≡ true → b ≡ true
-and-right true b e = e
-and-right false b e = absurd (false≢true e)
-
 -- ---- what "same" and "like" tell
 pub same-refl : (a : List ℕ) → same a a ≡ true
 unfolding same

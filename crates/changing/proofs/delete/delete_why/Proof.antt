@@ -10,7 +10,7 @@ use Rattle.volume.specs.declared.Wanted.the-variants.{Match, ReadOnlyMatch}
 use Rattle.answers.specs.declared.Refusal.the-variants.{NoMatch, ReadOnly}
 use Rattle.changing.specs.Delete.{deleteTests}
 use Rattle.changing.proofs.ReadOnlyLaws.{read-only-match-from}
-use Rattle.changing.proofs.LadderLaws.{two-tests}
+use Rattle.answers.proofs.Ladder.{ladder-two}
 use Rattle.changing.proofs.delete.delete_why.Statement.{statement}
 use Rattle.changing.proofs.delete.delete_why.Tie as tie
 
@@ -38,7 +38,7 @@ returns c =
     let a = c .before .before .before .before .before .before .before .before .args in
     let v = now (a .volume) in
     let p = strip (now (a .pattern)) in
-    rw (two-tests NoMatch ReadOnly (leb (slots (a .g)) (findSlot (a .g) v (a .user) p Match)) (ltb (findSlot (a .g) v (a .user) p ReadOnlyMatch) (slots (a .g))) refl, read-only-match-from (a .g) v (a .user) p, ← c .before .before .before .before .find .ensures .0, ← c .before .before .before .find-from .ensures .0, ← c .before .before .before .before .before .slots .ensures .0, ← c .before .before .refuse .ensures, ← c .before .refuse2 .ensures) (c .first-of .ensures)
+    rw (← ladder-two NoMatch ReadOnly (leb (slots (a .g)) (findSlot (a .g) v (a .user) p Match)) (ltb (findSlot (a .g) v (a .user) p ReadOnlyMatch) (slots (a .g))) refl, read-only-match-from (a .g) v (a .user) p, ← c .before .before .before .before .find .ensures .0, ← c .before .before .before .find-from .ensures .0, ← c .before .before .before .before .before .slots .ensures .0, ← c .before .before .refuse .ensures, ← c .before .refuse2 .ensures) (c .first-of .ensures)
 
 pub delete-why-spec : {M : Type 1} → statement M
 delete-why-spec =

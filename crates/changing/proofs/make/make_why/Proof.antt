@@ -11,7 +11,7 @@ use Rattle.answers.specs.Refusal.{isNone, firstMet}
 use Rattle.answers.specs.declared.Refusal.the-variants.{Exists, NoRoom}
 use Rattle.changing.specs.Make.{makeTests}
 use Rattle.changing.proofs.MakeLaws.{empty-slot-below}
-use Rattle.changing.proofs.LadderLaws.{two-tests}
+use Rattle.answers.proofs.Ladder.{ladder-two}
 use Rattle.changing.proofs.make.make_why.Statement.{statement}
 use Rattle.changing.proofs.make.make_why.Tie as tie
 
@@ -21,7 +21,7 @@ why c =
     let a = c .before .before .before .before .before .before .before .before .args in
     let v = now (a .volume) in
     let n = strip (now (a .name)) in
-    rw (two-tests Exists NoRoom (ltb (findSlot (a .g) v (a .user) n File) (slots (a .g))) (leb (slots (a .g)) (findSlot (a .g) v (a .user) n Empty)) refl, ← c .before .before .before .before .find .ensures .0, ← c .before .before .before .find2 .ensures .0, ← c .before .before .before .before .before .slots .ensures .0, ← c .before .before .refuse .ensures, ← c .before .refuse2 .ensures) (c .first-of .ensures)
+    rw (← ladder-two Exists NoRoom (ltb (findSlot (a .g) v (a .user) n File) (slots (a .g))) (leb (slots (a .g)) (findSlot (a .g) v (a .user) n Empty)) refl, ← c .before .before .before .before .find .ensures .0, ← c .before .before .before .find2 .ensures .0, ← c .before .before .before .before .before .slots .ensures .0, ← c .before .before .refuse .ensures, ← c .before .refuse2 .ensures) (c .first-of .ensures)
 
 slots-requires : tie.Need-slots-requires
 slots-requires c κs = search needs

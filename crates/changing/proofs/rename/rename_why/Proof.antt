@@ -10,7 +10,7 @@ use Rattle.volume.specs.declared.Wanted.the-variants.{File, ReadOnlyFile}
 use Rattle.answers.specs.declared.Refusal.the-variants.{NoMatch, ReadOnly, Exists}
 use Rattle.changing.specs.Rename.{renameTests}
 use Rattle.changing.proofs.ReadOnlyLaws.{read-only-file-from}
-use Rattle.changing.proofs.LadderLaws.{three-tests}
+use Rattle.answers.proofs.Ladder.{ladder-three}
 use Rattle.changing.proofs.rename.rename_why.Statement.{statement}
 use Rattle.changing.proofs.rename.rename_why.Tie as tie
 
@@ -48,7 +48,7 @@ returns c =
     let v = now (a .volume) in
     let p = strip (now (a .name)) in
     let q = strip (now (a .new)) in
-    rw (three-tests NoMatch ReadOnly Exists (leb (slots (a .g)) (findSlot (a .g) v (a .user) p File)) (ltb (findSlot (a .g) v (a .user) p ReadOnlyFile) (slots (a .g))) (ltb (findSlot (a .g) v (a .user) q File) (slots (a .g))) refl, read-only-file-from (a .g) v (a .user) p, ← c .before .before .before .before .before .before .before .find .ensures .0, ← c .before .before .before .before .before .before .find-from .ensures .0, ← c .before .before .before .before .before .find2 .ensures .0, ← c .before .before .before .before .before .before .before .before .slots .ensures .0, ← c .before .before .before .before .refuse .ensures, ← c .before .before .before .refuse2 .ensures, ← c .before .before .refuse3 .ensures, ← c .before .first-of .ensures) (c .first-of2 .ensures)
+    rw (← ladder-three NoMatch ReadOnly Exists (leb (slots (a .g)) (findSlot (a .g) v (a .user) p File)) (ltb (findSlot (a .g) v (a .user) p ReadOnlyFile) (slots (a .g))) (ltb (findSlot (a .g) v (a .user) q File) (slots (a .g))) refl, read-only-file-from (a .g) v (a .user) p, ← c .before .before .before .before .before .before .before .find .ensures .0, ← c .before .before .before .before .before .before .find-from .ensures .0, ← c .before .before .before .before .before .find2 .ensures .0, ← c .before .before .before .before .before .before .before .before .slots .ensures .0, ← c .before .before .before .before .refuse .ensures, ← c .before .before .before .refuse2 .ensures, ← c .before .before .refuse3 .ensures, ← c .before .first-of .ensures) (c .first-of2 .ensures)
 
 pub rename-why-spec : {M : Type 1} → statement M
 rename-why-spec =

@@ -4,15 +4,17 @@ use mathlib.Core.Bool.{Bool, true, false, true≢false}
 use mathlib.Core.List.{List}
 use Prim.Native.Nat.{ℕ, _+_, _≤_, _<_}
 use native.Mathlib.Omega.{arith}
-use lib.Dec.{ltb}
+use lib.Dec.{ltb, eqb}
 use borrow.Author.Tests.{ltb-true, ltb-false}
+use Rattle.lists.proofs.BoolLaws.{and-left}
 use Rattle.lists.specs.Search.{lowFrom}
 use Rattle.lists.proofs.SearchLaws.{Low, low-le, low-hit, low-miss, low-is}
 use Rattle.volume.specs.declared.Geometry.{Geometry}
 use Rattle.volume.specs.declared.Wanted.{Wanted}
-use Rattle.volume.specs.Geometry.{slots}
-use Rattle.volume.specs.Entry.{Entry}
+use Rattle.volume.specs.declared.Wanted.the-variants.{File, Group}
+use Rattle.volume.specs.Geometry.{slots, groupOf}
+use Rattle.volume.specs.Entry.{Entry, extent, ofFile, ofGroup}
 use Rattle.volume.specs.Directory.{fits, slotFits, slotAt, findSlot}
 
 module _ (g : Geometry) (v : List ℕ) (u : ℕ) (name : List ℕ) where
   pub find-le : (w : Wanted) → findSlot g v u name w ≤ slots g
@@ -57,3 +59,8 @@ module _ (g : Geometry) (v : List ℕ) (u : ℕ) (name : List ℕ) where
   found-other w x f h =
       let l : findSlot g v u name x ≤ findSlot g v u name w = find-low x (findSlot g v u name w) (f (slotAt g v (findSlot g v u name w)) (found-fits w h)) in
       omega arith
+
+  -- a file that has an entry of group k exists
+  pub group-file : (k : ℕ) → findSlot g v u name (Group k) < slots g → findSlot g v u name File < slots g
+  unfolding ofGroup
+  group-file k = found-other (Group k) File (λ e h. and-left (ofFile u name e) (eqb (groupOf g (extent e)) k) h)
