@@ -1,5 +1,5 @@
--- Laws of names. A test that goes through two names byte by byte is a test of each place, so that the loops of
--- names have the law of every other loop. Then what stripped names are, and what "same" and "like" tell.
+-- Laws of names: what a stripped name is; a test that goes through names byte by byte is a test of each place, so that
+-- the loops of names have the law of every other loop; what "same" and "like" tell.
 use mathlib.Core.Path.{_≡_, refl, ap}
 use mathlib.Core.Bool.{Bool, true, false, not, cond, _&&_, _||_, false≢true}
 use mathlib.Core.List.{List, [], _∷_}
