@@ -1,5 +1,5 @@
--- Laws of the edits that a sweep makes, of searches that go on where another ended, of ladders of tests, and of make.
+-- Laws of the edits that a sweep makes, of the search for read-only entries, of ladders of tests, and of make.
 pub mod EditLaws
-pub mod FindLaws
+pub mod ReadOnlyLaws
 pub mod LadderLaws
 pub mod MakeLaws

@@ -9,7 +9,7 @@ use Rattle.volume.specs.Geometry.{slots}
 use Rattle.volume.specs.declared.Wanted.the-variants.{Match, ReadOnlyMatch}
 use Rattle.answers.specs.declared.Refusal.the-variants.{NoMatch, ReadOnly}
 use Rattle.changing.specs.Delete.{deleteTests}
-use Rattle.changing.proofs.FindLaws.{read-only-match-from}
+use Rattle.changing.proofs.ReadOnlyLaws.{read-only-match-from}
 use Rattle.changing.proofs.LadderLaws.{two-tests}
 use Rattle.changing.proofs.delete.delete_why.Statement.{statement}
 use Rattle.changing.proofs.delete.delete_why.Tie as tie

@@ -9,7 +9,7 @@ use Rattle.volume.specs.Geometry.{slots}
 use Rattle.volume.specs.declared.Wanted.the-variants.{File, ReadOnlyFile}
 use Rattle.answers.specs.declared.Refusal.the-variants.{NoMatch, ReadOnly, Exists}
 use Rattle.changing.specs.Rename.{renameTests}
-use Rattle.changing.proofs.FindLaws.{read-only-file-from}
+use Rattle.changing.proofs.ReadOnlyLaws.{read-only-file-from}
 use Rattle.changing.proofs.LadderLaws.{three-tests}
 use Rattle.changing.proofs.rename.rename_why.Statement.{statement}
 use Rattle.changing.proofs.rename.rename_why.Tie as tie
