@@ -14,9 +14,13 @@ use Rattle.volume.specs.declared.Geometry.{Geometry}
 use Rattle.volume.specs.declared.Wanted.{Wanted}
 use Rattle.volume.specs.declared.Wanted.the-variants.{File, Group}
 
-and-left : (a b : Bool) → a && b ≡ true → a ≡ true
+pub and-left : (a b : Bool) → a && b ≡ true → a ≡ true
 and-left true b e = refl
 and-left false b e = e
+
+pub and-right : (a b : Bool) → a && b ≡ true → b ≡ true
+and-right true b e = e
+and-right false b e = absurd (false≢true e)
 
 module _ (g : Geometry) (v : List ℕ) (u : ℕ) (name : List ℕ) where
   pub find-le : (w : Wanted) → findSlot g v u name w ≤ slots g
@@ -27,6 +31,17 @@ module _ (g : Geometry) (v : List ℕ) (u : ℕ) (name : List ℕ) where
   pub find-fits : (w : Wanted) → findSlot g v u name w < slots g → slotFits g v u name w (findSlot g v u name w) ≡ true
   unfolding findSlot
   find-fits w h = low-hit (slotFits g v u name w) 0 (slots g) (findSlot g v u name w) refl (omega arith) .passes
+
+  -- no slot before it has
+  pub find-before : (w : Wanted) (i : ℕ) → i < findSlot g v u name w → slotFits g v u name w i ≡ false
+  unfolding findSlot
+  find-before w i h = go (ltb (findSlot g v u name w) (slots g)) refl (find-le w)
+    where
+      go : (t : Bool) → ltb (findSlot g v u name w) (slots g) ≡ t → findSlot g v u name w ≤ slots g → slotFits g v u name w i ≡ false
+      go true q l =
+          low-hit (slotFits g v u name w) 0 (slots g) (findSlot g v u name w) refl (omega (arith, ltb-true (findSlot g v u name w) (slots g) q)) .first i (omega arith) h
+      go false q l =
+          low-miss (slotFits g v u name w) 0 (slots g) (omega (arith, ltb-false (findSlot g v u name w) (slots g) q)) i (omega arith) (omega arith)
 
   -- a slot that has what is wanted is found, if no lower one
   pub find-some : (w : Wanted) (i : ℕ) → i < slots g → slotFits g v u name w i ≡ true → findSlot g v u name w < slots g
