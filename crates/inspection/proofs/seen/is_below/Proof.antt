@@ -11,8 +11,8 @@ use Rattle.volume.specs.Directory.{slotAt}
 use Rattle.volume.specs.declared.Geometry.{Geometry}
 use Rattle.volume.proofs.EntryLaws.{lent-slot}
 use Rattle.inspection.proofs.AnyLaws.{Asked, asked-start, asked-next, asked-hit, asked-none}
-use Rattle.inspection.proofs.is_below.Statement.{statement}
-use Rattle.inspection.proofs.is_below.Tie as tie
+use Rattle.inspection.proofs.seen.is_below.Statement.{statement}
+use Rattle.inspection.proofs.seen.is_below.Tie as tie
 
 -- the test of slot j
 abbrev groupAt : Geometry → List ℕ → ℕ → List ℕ → ℕ → ℕ → Bool
