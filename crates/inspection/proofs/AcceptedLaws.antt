@@ -2,19 +2,21 @@
 -- In it a block stands in one place of one slot, and a user's file has one entry of each group.
 use mathlib.Core.Path.{_≡_, refl, sym, ap, _∙_}
 use mathlib.Core.Bool.{Bool, true, false, not, true≢false}
-use mathlib.Core.Logic.{_⊎_, inl, inr, _≢_}
+use mathlib.Core.Logic.{⊎-elim, _≢_}
 use mathlib.Core.List.{List}
-use Prim.Native.Nat.{ℕ, _+_, _≤_, _<_}
+use Prim.Native.Nat.{ℕ, _≤_, _<_}
 use native.Mathlib.Decide.{ℕ-discrete, decLt}
 use native.Mathlib.Omega.{arith}
 use borrow.Author.Tests.{not-true, not-false}
-use Rattle.lists.proofs.SearchLaws.{Low, low-le, low-hit, low-miss, low-no}
+use Rattle.lists.proofs.SearchLaws.{low-le, low-hit, low-miss, low-no}
 use Rattle.volume.specs.declared.Geometry.{Geometry}
-use Rattle.volume.specs.Geometry.{slots}
+use Rattle.volume.specs.Geometry.{slots, inside}
 use Rattle.volume.specs.Entry.{isEmpty, places, blockIn}
 use Rattle.volume.specs.Directory.{slotAt}
 use Rattle.inspection.specs.GoodSlot.{goodSlot, lowestBad}
+use Rattle.inspection.specs.Named.{named}
 use Rattle.inspection.proofs.GoodLaws.{Good, good-facts}
+use Rattle.inspection.proofs.NamedLaws.{at-named}
 use Rattle.inspection.proofs.TwinLaws.{twin, twin-sym}
 
 -- ---- all slots are good
@@ -56,6 +58,14 @@ module _ (g : Geometry) (v : List ℕ) (ok : lowestBad g v ≡ slots g) where
     pub slot : i < slots g
     pub used : isEmpty (slotAt g v i) ≡ false
     pub place : p < places g
+
+  -- each block in a map is held
+  pub place-named : (i p : ℕ) → Place i p → blockIn g (slotAt g v i) p ≢ 0 → named g v (blockIn g (slotAt g v i) p) ≡ true
+  unfolding named
+  place-named i p a n =
+      let b = blockIn g (slotAt g v i) p in
+      let in-g : inside g b ≡ true = ⊎-elim (λ z. absurd (n z)) (λ w. w) (good-entry i (a .slot) (a .used) .block p (a .place)) in
+      rw (in-g, at-named g v (slots g) b (record { slot = i; below = a .slot; used = a .used; place = p; in-map = a .place; is = refl }))
 
   -- a block stands in one place of one slot
   pub one-place : (i p j q : ℕ) → Place i p → Place j q → blockIn g (slotAt g v i) p ≢ 0 → blockIn g (slotAt g v i) p ≡ blockIn g (slotAt g v j) q → (i ≡ j) × (p ≡ q)

@@ -1,7 +1,7 @@
 // Inspection at log-in: the lowest bad slot, and the blocks that entries name.
 ghost use mathlib.Core.Path.{_≡_};
-ghost use mathlib.Core.Bool.{Bool, true, false, _&&_};
-ghost use Prim.Native.Nat.{ℕ, _+_, _≤_, _<_};
+ghost use mathlib.Core.Bool.{true, false, _&&_};
+ghost use Prim.Native.Nat.{_+_, _≤_, _<_};
 ghost use lib.ListN.{length};
 ghost use Rattle.lists.specs.Search.{every};
 ghost use Rattle.volume.specs.Geometry.{lawful, bytes, slots};
@@ -28,9 +28,9 @@ pub struct Inspected {
 }
 
 // Is what was looked at good? If so, the blocks held with it.
-pub struct Taken {
-    pub good: bool,
-    pub held: [u64; 4],
+struct Taken {
+    good: bool,
+    held: [u64; 4],
 }
 
 // Are the bytes other than name and map good?
@@ -94,7 +94,7 @@ fn take_map(g: Geometry, volume: &[u8], i: usize, before: [u64; 4]) -> Taken
     Taken { good: true, held }
 }
 
-// Slot i over the blocks of the lower slots.
+// Is slot i good? Then its blocks are held beside those of the lower slots, and its mark is set.
 fn take_slot(g: Geometry, volume: &[u8], i: usize, held: [u64; 4], marks: &mut [u64]) -> Taken
     requires { ⌜ (lawful g ≡ true) × (length (now volume) ≡ bytes g) ⌝ }
     requires { ⌜ (i < slots g) × (held ≡ wordsOf (heldBelow g (now volume) i)) ⌝ }

@@ -1,7 +1,7 @@
 // "No lower slot has the same user, name and group." A mark for each of these saves nearly every look at the lower slots.
 ghost use mathlib.Core.Path.{_≡_};
-ghost use mathlib.Core.Bool.{Bool, true, false};
-ghost use Prim.Native.Nat.{ℕ, _+_, _≤_, _<_};
+ghost use mathlib.Core.Bool.{true, false};
+ghost use Prim.Native.Nat.{_+_, _≤_, _<_};
 ghost use lib.ListN.{length};
 ghost use Rattle.lists.specs.Search.{any};
 ghost use Rattle.volume.specs.Geometry.{lawful, bytes, slots};
@@ -14,12 +14,12 @@ use volume::Geometry;
 use volume::Wanted;
 use volume::entry;
 
-// How many marks there are, in words of 64 bits.
+// How many marks there are, bits of a word, and words for all marks.
 const MARKS: usize = 16384;
 
 const BITS: usize = 64;
 
-pub const WORDS: usize = 256;
+pub const WORDS: usize = MARKS / BITS;
 
 // The mark of a user, name and group; the factor spreads names that differ in their numbers only.
 fn mark_of(user: u8, name: &[u8], k: usize) -> usize

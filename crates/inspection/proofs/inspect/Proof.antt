@@ -1,22 +1,22 @@
 -- The slots passed so far are good, exactly the blocks that they name are held, and their marks are set.
-use mathlib.Core.List.{List}
+use mathlib.Core.Path.{_≡_, sym, ap, _∙_}
 use mathlib.Core.Bool.{Bool, true, not}
-use mathlib.Core.Path.{_≡_, refl, sym, ap, _∙_}
+use mathlib.Core.List.{List}
 use Prim.Native.Nat.{ℕ, _≤_, _-_}
 use native.Mathlib.Omega.{arith}
 use denote.Ref.{now}
-use borrow.Author.Tests.{not-true, not-false}
 use borrow.Author.Needs.{needs}
+use borrow.Author.Tests.{not-false}
 use lib.ListN.{length}
 use Rattle.lists.proofs.SearchLaws.{Searched, searched-start, searched-next, searched-hit, searched-none, from-zero}
-use Rattle.volume.specs.Geometry.{slots}
 use Rattle.volume.specs.declared.Geometry.{Geometry}
+use Rattle.volume.specs.Geometry.{slots}
 use Rattle.blocks.specs.Held.{wordsOf}
-use Rattle.inspection.specs.Marks.{marked}
-use Rattle.inspection.specs.HeldBelow.{heldBelow}
 use Rattle.inspection.specs.GoodSlot.{goodSlot, lowestBad}
-use Rattle.inspection.proofs.MarkLaws.{none-marked}
+use Rattle.inspection.specs.HeldBelow.{heldBelow}
+use Rattle.inspection.specs.Marks.{marked}
 use Rattle.inspection.proofs.HeldLaws.{no-slots, all-slots}
+use Rattle.inspection.proofs.MarkLaws.{none-marked}
 use Rattle.inspection.proofs.inspect.Statement.{statement}
 use Rattle.inspection.proofs.inspect.Tie as tie
 

@@ -1,17 +1,17 @@
 -- An empty slot is good; of another one the tests are made in the definition's order, its blocks are then held and its mark is set.
-use mathlib.Core.Bool.{true, false, not, _&&_, false≢true}
 use mathlib.Core.Path.{_≡_, sym, ap, _∙_}
+use mathlib.Core.Bool.{false, not, _&&_, false≢true}
 use denote.Ref.{now}
-use borrow.Author.Tests.{not-true, not-false}
 use borrow.Author.Needs.{needs}
-use Rattle.volume.specs.Directory.{slotAt}
+use borrow.Author.Tests.{not-true, not-false}
 use Rattle.volume.specs.Name.{nameOf, goodName}
 use Rattle.volume.specs.Entry.{isEmpty}
+use Rattle.volume.specs.Directory.{slotAt}
 use Rattle.volume.proofs.EntryLaws.{lent-slot}
 use Rattle.inspection.specs.GoodSlot.{goodFields, goodTopBits}
-use Rattle.inspection.proofs.SlotLaws.{slot-empty, slot-used, empty-good, entry-bad, map-bad, seen-decides}
-use Rattle.inspection.proofs.MarkLaws.{still-marked}
 use Rattle.inspection.proofs.HeldLaws.{empty-slot, full-slot}
+use Rattle.inspection.proofs.MarkLaws.{still-marked}
+use Rattle.inspection.proofs.SlotLaws.{slot-empty, slot-used, empty-good, entry-bad, map-bad, seen-decides}
 use Rattle.inspection.proofs.take_slot.Statement.{statement}
 use Rattle.inspection.proofs.take_slot.Tie as tie
 

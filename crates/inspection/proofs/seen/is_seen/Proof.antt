@@ -1,20 +1,20 @@
 -- What is asked for is the entry's own user, name and group; where its mark is not set, no lower slot can have them.
+use mathlib.Core.Path.{_≡_, sym}
 use mathlib.Core.Bool.{true, false}
-use mathlib.Core.Path.{_≡_, sym, ap, _∙_}
 use Prim.Native.Nat.{_/_, _%_, _<_}
 use native.Mathlib.Omega.{arith}
 use denote.Ref.{now}
-use borrow.Author.Tests.{eq-eqb, ne-eqb}
 use borrow.Author.Needs.{needs}
+use borrow.Author.Tests.{eq-eqb, ne-eqb}
 use lib.ListN.{length}
 use Rattle.lists.specs.Bytes.{part}
-use Rattle.volume.specs.Directory.{slotAt}
-use Rattle.volume.specs.Entry.{isEmpty}
 use Rattle.volume.specs.Name.{nameAt}
+use Rattle.volume.specs.Entry.{isEmpty}
+use Rattle.volume.specs.Directory.{slotAt}
 use Rattle.blocks.specs.Held.{digit, holds, hold}
 use Rattle.blocks.proofs.Bits.{one-shifted}
-use Rattle.inspection.specs.Marks.{entryMark}
 use Rattle.inspection.specs.GoodSlot.{seenBelow}
+use Rattle.inspection.specs.Marks.{entryMark}
 use Rattle.inspection.proofs.MarkLaws.{unmarked, still-marked, now-marked}
 use Rattle.inspection.proofs.seen.is_seen.Statement.{statement}
 use Rattle.inspection.proofs.seen.is_seen.Tie as tie

@@ -1,7 +1,6 @@
 -- The mark so far is what the bytes passed so far make of it.
 use mathlib.Core.Path.{sym, ap, _∙_}
 use Prim.Native.Nat.{ℕ, _+_, _*_, _%_, _≤_, _<_, _-_}
-use native.Mathlib.Omega.{arith}
 use denote.Ref.{now}
 use borrow.Author.Needs.{needs}
 use Rattle.lists.proofs.FoldLaws.{Folded, folded-start, folded-next, folded-end}
