@@ -7,6 +7,7 @@ use Prim.Native.Nat.{ℕ, _<_}
 use native.Mathlib.Omega.{arith}
 use borrow.Author.Tests.{not-true, eqb-true, eq-eqb}
 use lib.Dec.{eqb}
+use Rattle.lists.proofs.BoolLaws.{and-parts}
 use Rattle.lists.proofs.SearchLaws.{any-true, any-intro}
 use Rattle.volume.specs.declared.Geometry.{Geometry}
 use Rattle.volume.specs.Geometry.{slots, inside}
@@ -16,7 +17,7 @@ use Rattle.blocks.specs.Held.{holds}
 use Rattle.blocks.proofs.WordsLaws.{Words, holds-words, words-words}
 use Rattle.inspection.specs.GoodSlot.{inPlaces, names, namedBelow}
 use Rattle.inspection.specs.Named.{named, heldOf}
-use Rattle.inspection.proofs.GoodLaws.{both, not-named-below}
+use Rattle.inspection.proofs.GoodLaws.{not-named-below}
 
 -- ---- where a block is named
 pub record NamedAt (g : Geometry) (v : List ℕ) (n b : ℕ) : Type 0 where
@@ -33,7 +34,7 @@ module _ (g : Geometry) (v : List ℕ) (n b : ℕ) where
   named-at h =
       let s = any-true (λ j. names g (slotAt g v j) b) 0 n h in
       let e = slotAt g v (s .place) in
-      let m = both (not (isEmpty e)) (inPlaces g e (places g) b) (s .passes) in
+      let m = and-parts (not (isEmpty e)) (inPlaces g e (places g) b) (s .passes) in
       let p = any-true (λ q. eqb (blockIn g e q) b) 0 (places g) (m .1) in
       record {
         slot = s .place;

@@ -3,13 +3,13 @@ use mathlib.Core.Path.{_≡_, sym}
 use mathlib.Core.Bool.{Bool, true, _&&_}
 use borrow.Author.Tests.{eqb-true, eq-eqb}
 use lib.Dec.{eqb}
+use Rattle.lists.proofs.BoolLaws.{and-parts}
 use Rattle.lists.specs.Bytes.{byte}
 use Rattle.volume.specs.declared.Geometry.{Geometry}
 use Rattle.volume.specs.Geometry.{groupOf}
 use Rattle.volume.specs.Name.{nameOf, same}
 use Rattle.volume.specs.Entry.{Entry, extent, ofFile, ofGroup}
 use Rattle.volume.proofs.NameLaws.{same-refl, same-true}
-use Rattle.inspection.proofs.GoodLaws.{both}
 
 module _ (g : Geometry) where
   -- entry f has the user, name and group of entry e
@@ -27,8 +27,8 @@ module _ (g : Geometry) where
       let user = eqb (byte f 0) (byte e 0) in
       let name = same (nameOf f) (nameOf e) in
       let group = eqb (groupOf g (extent f)) (groupOf g (extent e)) in
-      let p = both (user && name) group h in
-      let q = both user name (p .0) in
+      let p = and-parts (user && name) group h in
+      let q = and-parts user name (p .0) in
       record {
         user = sym (eqb-true (byte f 0) (byte e 0) (q .0));
         name = sym (same-true (nameOf f) (nameOf e) (q .1));
