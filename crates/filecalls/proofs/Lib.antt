@@ -1,3 +1,5 @@
 -- Laws of the state and of what calls leave.
 pub mod StateLaws
 pub mod OutcomeLaws
+pub mod LentLaws
+pub mod WriteLaws

@@ -7,6 +7,7 @@ mod opening;
 mod small;
 mod state;
 mod tests;
+mod writes;
 
 // A search that is kept between calls: its kind, the user and the pattern of its first call, and its last hit.
 pub struct Search {

@@ -1,29 +1,24 @@
-use Rattle.filecalls.proofs.OutcomeLaws.{refuses, clears}
-use Rattle.filecalls.proofs.StateLaws.{named-clear}
+-- The first group stops the ladder where it refuses; else the last test decides.
+use Rattle.filecalls.proofs.OutcomeLaws.{refuses}
+use Rattle.filecalls.proofs.LentLaws.{NamedLent, named-passed}
 use Rattle.filecalls.specs.Tests.{beyond}
 use Rattle.filecalls.specs.Lent.{namedTests, randomLent}
 use Rattle.answers.proofs.Ladder.{ladder-stop, ladder-pass, ladder-one}
-use Rattle.answers.specs.Refusal.{firstMet, test, isNone}
+use Rattle.answers.specs.Refusal.{test}
 use Rattle.answers.specs.declared.Refusal.the-variants.{Beyond}
 use Rattle.lists.specs.Bytes.{byte}
-use lib.ListN.{length}
 use lib.Dec.{eqb}
 use denote.Ref.{now}
 use native.Mathlib.Omega.{arith}
 use mathlib.Core.List.{[], _∷_}
-use mathlib.Core.Bool.{true, false, not}
-use mathlib.Core.Path.{_≡_, refl, sym, _∙_}
+use mathlib.Core.Bool.{false, not}
+use mathlib.Core.Path.{refl, sym, _∙_}
 use borrow.Author.Needs.{needs}
 use Rattle.filecalls.proofs.Drive.random_why.Statement.{statement}
 use Rattle.filecalls.proofs.Drive.random_why.Tie as tie
 
-none : (c : tie.Else1) → isNone (firstMet (namedTests (c .before .before .before .before .before .args .self) (now (c .before .before .before .before .before .args .volume)) (now (c .before .before .before .before .before .args .f)) (c .before .before .before .before .before .args .buffer) false)) ≡ true
-none c =
-    let a = c .before .before .before .before .before .args in
-    clears (namedTests (a .self) (now (a .volume)) (now (a .f)) (a .buffer) false) (c .before .before .named-why .ensures) (c .before .is-none .ensures) (c .if1 .left)
-
-whole : (c : tie.Else1) → length (now (c .before .before .before .before .before .args .f)) ≡ 36
-whole c = named-clear (c .before .before .before .before .before .args .self) (now (c .before .before .before .before .before .args .volume)) (now (c .before .before .before .before .before .args .f)) (c .before .before .before .before .before .args .buffer) false (none c) .block
+passed : (c : tie.Else1) → NamedLent (c .before .before .before .before .before .args .self) (now (c .before .before .before .before .before .args .volume)) (now (c .before .before .before .before .before .args .f)) (c .before .before .before .before .before .args .buffer) false
+passed c = named-passed _ _ _ _ false (c .before .before .named-why .ensures) (c .before .is-none .ensures) (c .if1 .left)
 
 named-why-requires : tie.Need-named-why-requires
 named-why-requires c κs = search needs
@@ -40,7 +35,7 @@ returns c =
     ∙ sym (ladder-stop xs (beyond (not (eqb (byte (now (a .f)) 35) 0)) ∷ []) (refuses xs (c .before .before .named-why .ensures) (c .before .is-none .ensures) (c .if1 .taken)))
 
 shared-slice-read-refuse : tie.Need-shared-slice-read-refuse
-shared-slice-read-refuse c = omega (arith, whole (c .before))
+shared-slice-read-refuse c = omega (arith, passed (c .before) .lent .block)
 
 refuse-requires : tie.Need-refuse-requires
 refuse-requires c κs = search needs
@@ -51,7 +46,7 @@ returns-2 c =
     let a = c .before .before .before .before .before .before .before .args in
     let m = not (eqb (byte (now (a .f)) 35) 0) in
     c .refuse .ensures ∙ ladder-one Beyond m refl
-    ∙ sym (ladder-pass (namedTests (a .self) (now (a .volume)) (now (a .f)) (a .buffer) false) (test Beyond m ∷ []) (none (c .before .before)))
+    ∙ sym (ladder-pass (namedTests (a .self) (now (a .volume)) (now (a .f)) (a .buffer) false) (test Beyond m ∷ []) (passed (c .before .before) .none))
 
 pub random-why-spec : {M : Type 1} → statement M
 random-why-spec =

@@ -1,29 +1,24 @@
-use Rattle.filecalls.proofs.OutcomeLaws.{refuses, clears}
-use Rattle.filecalls.proofs.StateLaws.{named-clear}
+-- The first group stops the ladder where it refuses; else the last two tests decide.
+use Rattle.filecalls.proofs.OutcomeLaws.{refuses}
+use Rattle.filecalls.proofs.LentLaws.{NamedLent, named-passed}
 use Rattle.filecalls.specs.Tests.{tooLarge, beyond}
 use Rattle.filecalls.specs.Lent.{namedTests, sequentialLent}
 use Rattle.answers.proofs.Ladder.{ladder-stop, ladder-pass, ladder-two}
-use Rattle.answers.specs.Refusal.{firstMet, test, isNone}
+use Rattle.answers.specs.Refusal.{test}
 use Rattle.answers.specs.declared.Refusal.the-variants.{Position, Beyond}
 use Rattle.control.specs.Block.{position, positionFits}
-use lib.ListN.{length}
 use lib.Dec.{eqb}
 use denote.Ref.{now}
 use native.Mathlib.Omega.{arith}
 use mathlib.Core.List.{[], _∷_}
-use mathlib.Core.Bool.{true, false, not}
-use mathlib.Core.Path.{_≡_, refl, sym, _∙_}
+use mathlib.Core.Bool.{false, not}
+use mathlib.Core.Path.{refl, sym, _∙_}
 use borrow.Author.Needs.{needs}
 use Rattle.filecalls.proofs.Drive.sequential_why.Statement.{statement}
 use Rattle.filecalls.proofs.Drive.sequential_why.Tie as tie
 
-none : (c : tie.Else1) → isNone (firstMet (namedTests (c .before .before .before .before .before .args .self) (now (c .before .before .before .before .before .args .volume)) (now (c .before .before .before .before .before .args .f)) (c .before .before .before .before .before .args .buffer) false)) ≡ true
-none c =
-    let a = c .before .before .before .before .before .args in
-    clears (namedTests (a .self) (now (a .volume)) (now (a .f)) (a .buffer) false) (c .before .before .named-why .ensures) (c .before .is-none .ensures) (c .if1 .left)
-
-whole : (c : tie.Else1) → length (now (c .before .before .before .before .before .args .f)) ≡ 36
-whole c = named-clear (c .before .before .before .before .before .args .self) (now (c .before .before .before .before .before .args .volume)) (now (c .before .before .before .before .before .args .f)) (c .before .before .before .before .before .args .buffer) false (none c) .block
+passed : (c : tie.Else1) → NamedLent (c .before .before .before .before .before .args .self) (now (c .before .before .before .before .before .args .volume)) (now (c .before .before .before .before .before .args .f)) (c .before .before .before .before .before .args .buffer) false
+passed c = named-passed _ _ _ _ false (c .before .before .named-why .ensures) (c .before .is-none .ensures) (c .if1 .left)
 
 named-why-requires : tie.Need-named-why-requires
 named-why-requires c κs = search needs
@@ -40,16 +35,16 @@ returns c =
     ∙ sym (ladder-stop xs (tooLarge (positionFits (now (a .f))) ∷ beyond (eqb (position (now (a .f))) 65536) ∷ []) (refuses xs (c .before .before .named-why .ensures) (c .before .is-none .ensures) (c .if1 .taken)))
 
 shared-slice-read-fits : tie.Need-shared-slice-read-fits
-shared-slice-read-fits c = omega (arith, whole (c .before))
+shared-slice-read-fits c = omega (arith, passed (c .before) .lent .block)
 
 shared-slice-read-fits-2 : tie.Need-shared-slice-read-fits-2
-shared-slice-read-fits-2 c = omega (arith, whole (c .before .before))
+shared-slice-read-fits-2 c = omega (arith, passed (c .before .before) .lent .block)
 
 shared-slice-read-fits-3 : tie.Need-shared-slice-read-fits-3
-shared-slice-read-fits-3 c = omega (arith, whole (c .before .before .before))
+shared-slice-read-fits-3 c = omega (arith, passed (c .before .before .before) .lent .block)
 
 position-of-requires : tie.Need-position-of-requires
-position-of-requires c κs = whole (c .before .before .before)
+position-of-requires c κs = passed (c .before .before .before) .lent .block
 
 refuse-requires : tie.Need-refuse-requires
 refuse-requires c κs = search needs
@@ -68,7 +63,7 @@ returns-2 c =
     let n = eqb (position (now (a .f))) 65536 in
     c .first-of .ensures
     ∙ rw (c .before .before .refuse .ensures, c .before .refuse2 .ensures, c .before .before .before .position-of .ensures .0) (ladder-two Position Beyond m n refl)
-    ∙ sym (ladder-pass (namedTests (a .self) (now (a .volume)) (now (a .f)) (a .buffer) false) (test Position m ∷ test Beyond n ∷ []) (none (c .before .before .before .before .before .before .before)))
+    ∙ sym (ladder-pass (namedTests (a .self) (now (a .volume)) (now (a .f)) (a .buffer) false) (test Position m ∷ test Beyond n ∷ []) (passed (c .before .before .before .before .before .before .before) .none))
 
 pub sequential-why-spec : {M : Type 1} → statement M
 sequential-why-spec =

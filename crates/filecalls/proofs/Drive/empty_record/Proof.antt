@@ -1,0 +1,82 @@
+-- Holds since it is a random write of zeros, whose test of the buffer cannot refuse.
+use Rattle.filecalls.proofs.WriteLaws.{empty-lent}
+use Rattle.filecalls.proofs.LentLaws.{Random, random-passed}
+use Rattle.filecalls.proofs.OutcomeLaws.{passes, refused-at}
+use Rattle.filecalls.specs.Write.{emptyTests, emptyRecordAct}
+use Rattle.answers.specs.Refusal.{firstMet, isNone}
+use mathlib.Core.Path.{_≡_, sym, ap, _∙_}
+use mathlib.Core.List.{[]}
+use mathlib.Core.Bool.{true}
+use denote.Ref.{now}
+use borrow.Author.Needs.{needs}
+use Rattle.filecalls.proofs.Drive.empty_record.Statement.{statement}
+use Rattle.filecalls.proofs.Drive.empty_record.Tie as tie
+
+clear : (c : tie.Else1) → Random (c .before .before .before .before .before .before .before .args .self) (now (c .before .before .before .before .before .before .before .args .volume)) (now (c .before .before .before .before .before .before .before .args .f)) 128
+clear c = random-passed _ _ _ _ (c .before .before .random-why .ensures) (c .before .is-none .ensures) (c .if1 .left)
+
+random-why-requires : tie.Need-random-why-requires
+random-why-requires c κs = search needs
+
+is-none-requires : tie.Need-is-none-requires
+is-none-requires c κs = search needs
+
+refused-requires : tie.Need-refused-requires
+refused-requires c κs = search needs
+
+same-length : tie.Need-same-length
+same-length c = search needs
+
+same-length-2 : tie.Need-same-length-2
+same-length-2 c = search needs
+
+returns : tie.Need-returns
+unfolding emptyRecordAct
+returns c =
+    let a = c .before .before .before .before .before .before .before .before .args in
+    refused-at (a .self) (now (a .volume)) (now (a .f)) [] (emptyTests (a .self) (now (a .volume)) (now (a .f))) _ _
+    (c .before .before .before .random-why .ensures ∙ empty-lent (a .self) (now (a .volume)) (now (a .f))) (c .before .before .is-none .ensures) (c .before .if1 .taken) (c .refused .ensures)
+
+random-of-requires : tie.Need-random-of-requires
+random-of-requires c κs = clear (c .before) .lent .block
+
+slice-aggregate-write-at : tie.Need-slice-aggregate-write-at
+slice-aggregate-write-at c = search needs
+
+cast-write-at : tie.Need-cast-write-at
+cast-write-at c = search needs
+
+write-at-requires : tie.Need-write-at-requires
+write-at-requires c κs = (clear (c .before .before .before .before .before) .lent, c .before .before .before .random-of .ensures .1)
+
+same-length-3 : tie.Need-same-length-3
+same-length-3 c = search needs
+
+same-length-4 : tie.Need-same-length-4
+same-length-4 c = search needs
+
+returns-2 : tie.Need-returns-2
+unfolding emptyRecordAct
+returns-2 c =
+    let a = c .before .before .before .before .before .before .before .before .before .before .before .before .before .before .before .before .before .args in
+    let s = clear (c .before .before .before .before .before .before .before .before .before .before) in
+    let n : isNone (firstMet (emptyTests (a .self) (now (a .volume)) (now (a .f)))) ≡ true = sym (ap isNone (empty-lent (a .self) (now (a .volume)) (now (a .f)))) ∙ s .none in
+    rw (passes (emptyTests (a .self) (now (a .volume)) (now (a .f))) _ _ n, ← c .before .before .before .before .before .before .before .before .random-of .ensures .0) (c .before .before .before .before .write-at .ensures [])
+
+pub empty-record-spec : {M : Type 1} → statement M
+empty-record-spec =
+    tie.close
+    (tie.spec
+    random-why-requires
+    is-none-requires
+    refused-requires
+    same-length
+    same-length-2
+    returns
+    random-of-requires
+    slice-aggregate-write-at
+    cast-write-at
+    write-at-requires
+    same-length-3
+    same-length-4
+    returns-2)

@@ -1,0 +1,70 @@
+-- What a write leaves, by what the write of the record hands back: why it is refused, the bytes, and the held blocks.
+use mathlib.Core.Path.{_≡_, refl, sym, ap, _∙_}
+use mathlib.Core.Bool.{Bool, true, false, cond}
+use mathlib.Core.List.{List}
+use Prim.Native.Nat.{ℕ}
+use Rattle.volume.specs.Name.{nameOf}
+use Rattle.blocks.specs.Held.{hold}
+use Rattle.control.specs.Block.{setTo}
+use Rattle.answers.specs.declared.Refusal.{Refusal}
+use Rattle.answers.specs.declared.Refusal.the-variants.{Protected}
+use Rattle.answers.specs.declared.Answer.the-variants.{Done, Refused}
+use Rattle.answers.specs.Refusal.{Test, isNone, firstMet}
+use Rattle.changing.specs.Write.{needsBlock, writeBlock, writeTests}
+use Rattle.changing.specs.WritePlan.{entryAfter, volumeAfter, heldAfter}
+use Rattle.filecalls.specs.declared.Drive.{Drive}
+use Rattle.filecalls.specs.declared.Reply.{Reply}
+use Rattle.filecalls.specs.Outcome.{keeps, takes, deny, unless, outcome, left, withHeld, changedState, stored, storedAll}
+use Rattle.filecalls.specs.Write.{writeEntry, writeChange, writeDone, directoryTests, emptyTests}
+use Rattle.filecalls.specs.Lent.{namedTests, randomLent}
+use Rattle.filecalls.proofs.OutcomeLaws.{goes-by, says-no}
+use Rattle.filecalls.proofs.LentLaws.{denies, does}
+
+-- a random call that is lent no buffer passes the right length for one
+pub empty-lent : (d : Drive) (v f : List ℕ) → firstMet (randomLent d v f 128) ≡ firstMet (emptyTests d v f)
+unfolding randomLent emptyTests namedTests firstMet
+empty-lent d v f = refl
+
+-- the state where block x is taken if t
+taken : (d : Drive) (v : List ℕ) (t : Bool) (x : ℕ)
+    → changedState d v (cond t (takes x) keeps) ≡ withHeld d (cond t (hold (d .held) x) (d .held))
+unfolding changedState
+taken d v true x = refl
+taken d v false x = refl
+
+module _ (d : Drive) (v f : List ℕ) (n cr : ℕ) (r b : List ℕ) where
+  abbrev tests : List Test
+  tests = writeTests (d .geometry) (d .held) v (d .user) (nameOf f) n
+
+  abbrev volume : List ℕ
+  volume = volumeAfter (d .geometry) (d .held) v (d .user) (nameOf f) n r
+
+  abbrev block : List ℕ
+  block = setTo f (entryAfter (d .geometry) (d .held) v (d .user) (nameOf f) n) n cr
+
+  abbrev held : List ℕ
+  held = heldAfter (d .geometry) (d .held) v (d .user) (nameOf f) n
+
+  leaves : outcome d v f b (writeDone d v f n cr r b)
+      ≡ record { answer = Done 0; drive = withHeld d held; volume = volume; block = block; buffer = b }
+  unfolding outcome writeDone writeEntry writeChange stored storedAll
+  leaves =
+      rw (taken d v (needsBlock (d .geometry) v (d .user) (nameOf f) n) (writeBlock (d .geometry) (d .held) v (d .user) (nameOf f) n))
+
+  -- the write of the record is refused, and is not
+  module _ {why : Refusal} {s : Reply} {v′ f′ : List ℕ}
+      (p : d .protected ≡ false) (e : why ≡ firstMet tests) (ev : v′ ≡ cond (isNone why) volume v) (ef : f′ ≡ cond (isNone why) block f) where
+    pub write-refused : isNone why ≡ false → s ≡ record { answer = Refused why; drive = d }
+        → left s v′ f′ b ≡ outcome d v f b (unless (directoryTests d v f n) (writeDone d v f n cr r b))
+    write-refused i q =
+        let u = goes-by Protected (d .protected) tests (writeDone d v f n cr r b) p
+        ∙ denies tests (writeDone d v f n cr r b) (ap isNone (sym e) ∙ i) ∙ ap deny (sym e) in
+        rw (ev, ef, i) (says-no d v f b u q)
+
+    pub write-done : {h′ : List ℕ} → h′ ≡ cond (isNone why) held (d .held) → isNone why ≡ true
+        → s ≡ record { answer = Done 0; drive = withHeld d h′ }
+        → left s v′ f′ b ≡ outcome d v f b (unless (directoryTests d v f n) (writeDone d v f n cr r b))
+    write-done eh i q =
+        let u = goes-by Protected (d .protected) tests (writeDone d v f n cr r b) p
+        ∙ does tests (writeDone d v f n cr r b) (ap isNone (sym e) ∙ i) in
+        rw (q, ev, ef, eh, i) (sym leaves ∙ ap (outcome d v f b) (sym u))
