@@ -4,6 +4,7 @@ use reading::Kept;
 use volume::Geometry;
 
 mod opening;
+mod reads;
 mod small;
 mod state;
 mod tests;
