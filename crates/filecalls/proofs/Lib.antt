@@ -2,3 +2,4 @@
 pub mod StateLaws
 pub mod OutcomeLaws
 pub mod LentLaws
+pub mod SearchLaws

@@ -5,6 +5,7 @@ use volume::Geometry;
 
 mod opening;
 mod reads;
+mod searching;
 mod small;
 mod state;
 mod tests;
