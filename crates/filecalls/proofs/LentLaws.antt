@@ -18,10 +18,10 @@ use Rattle.filecalls.specs.declared.Drive.{Drive}
 use Rattle.filecalls.specs.Tests.{tooLarge, beyond}
 use Rattle.filecalls.specs.Outcome.{Act, deny, unless}
 use Rattle.filecalls.specs.Ready.{Lent}
-use Rattle.filecalls.specs.Lent.{namedTests, sequentialLent, randomLent}
+use Rattle.filecalls.specs.Lent.{lentTests, namedTests, sequentialLent, randomLent}
 use Rattle.filecalls.specs.Read.{sequentialTests, randomTests}
 use Rattle.filecalls.proofs.OutcomeLaws.{clears}
-use Rattle.filecalls.proofs.StateLaws.{named-clear}
+use Rattle.filecalls.proofs.StateLaws.{lent-clear, named-clear}
 
 -- neither of two groups of tests refuses where both together do not
 pub both-clear : (xs ys : List Test) → isNone (firstMet (xs ++ ys)) ≡ true → (isNone (firstMet xs) ≡ true) × (isNone (firstMet ys) ≡ true)
@@ -39,6 +39,17 @@ denies ts act e = rw e
 pub does : (ts : List Test) (act : Act) → isNone (firstMet ts) ≡ true → unless ts act ≡ act
 unfolding unless
 does ts act e = rw e
+
+-- what code knows once `lent_why` has not refused
+pub record LengthsLent (d : Drive) (v f b : ℕ) : Type 0 where
+  pub none : isNone (firstMet (lentTests d v f b)) ≡ true
+  pub lent : Lent d v f b
+
+pub lengths-passed : (d : Drive) (v f b : ℕ) {why : Refusal} {t : Bool}
+    → why ≡ firstMet (lentTests d v f b) → t ≡ isNone why → not t ≡ false → LengthsLent d v f b
+lengths-passed d v f b e i h =
+    let n = clears (lentTests d v f b) e i h in
+    record { none = n; lent = lent-clear d v f b n }
 
 -- what code knows once `named_why` has not refused
 pub record NamedLent (d : Drive) (v f : List ℕ) (b : ℕ) (p : Bool) : Type 0 where

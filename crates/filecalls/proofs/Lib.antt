@@ -3,3 +3,4 @@ pub mod StateLaws
 pub mod OutcomeLaws
 pub mod LentLaws
 pub mod WriteLaws
+pub mod SearchLaws

@@ -4,6 +4,8 @@ use reading::Kept;
 use volume::Geometry;
 
 mod opening;
+mod reads;
+mod searching;
 mod small;
 mod state;
 mod tests;

@@ -1,0 +1,85 @@
+-- What the tests of a search tell where they do not refuse, and what a search leaves.
+use mathlib.Core.Path.{_≡_, refl, sym, ap, _∙_}
+use mathlib.Core.Bool.{Bool, true, false, not, cond, _&&_, false≢true}
+use mathlib.Core.List.{List, [], _∷_}
+use Prim.Native.Nat.{ℕ, _%_, _≤_, _<_}
+use lib.Dec.{leb, ltb}
+use lib.ListN.{length}
+use borrow.Author.Tests.{ltb-true, lt-ltb, le-ltb, le-leb, lt-leb}
+use Rattle.lists.proofs.BoolLaws.{and-parts}
+use Rattle.volume.specs.Geometry.{slots}
+use Rattle.volume.specs.Record.{slotRecord}
+use Rattle.answers.specs.declared.Refusal.{Refusal}
+use Rattle.answers.specs.declared.Refusal.the-variants.{NoMatch}
+use Rattle.answers.specs.declared.Answer.the-variants.{Done, Refused}
+use Rattle.answers.specs.Refusal.{Test, test, isNone, firstMet}
+use Rattle.reading.specs.declared.Kept.{Kept}
+use Rattle.reading.specs.declared.Kept.the-variants.{Nothing, Pattern, Everything}
+use Rattle.filecalls.specs.declared.Search.{Search}
+use Rattle.filecalls.specs.declared.Drive.{Drive}
+use Rattle.filecalls.specs.declared.Reply.{Reply}
+use Rattle.filecalls.specs.State.{goodPattern, goodKept}
+use Rattle.filecalls.specs.Tests.{closedState, volumeLength, bufferLength}
+use Rattle.filecalls.specs.Outcome.{unless, outcome, left, withSearch, changedState, storedAll}
+use Rattle.filecalls.specs.Ready.{Lent}
+use Rattle.filecalls.specs.Lent.{lentTests, firstLent}
+use Rattle.filecalls.specs.Search.{isKept, keptAt, shown}
+use Rattle.filecalls.proofs.OutcomeLaws.{clears}
+use Rattle.filecalls.proofs.StateLaws.{lent-clear}
+use Rattle.filecalls.proofs.LentLaws.{both-clear, lengths-passed}
+
+-- what code knows once `first_why` has not refused
+pub record First (d : Drive) (v f b : List ℕ) : Type 0 where
+  pub none : isNone (firstMet (firstLent d v f b)) ≡ true
+  pub lent : Lent d (length v) (length f) (length b)
+
+pub first-passed : (d : Drive) (v f b : List ℕ) {why : Refusal} {t : Bool}
+    → why ≡ firstMet (firstLent d v f b) → t ≡ isNone why → not t ≡ false → First d v f b
+unfolding firstLent
+first-passed d v f b e i h =
+    let n = clears (firstLent d v f b) e i h in
+    let xs = lentTests d (length v) (length f) (length b) in
+    record { none = n; lent = lent-clear d (length v) (length f) (length b) (both-clear xs _ n .0) }
+
+-- the tests that search next, lent no control block, asks first
+abbrev pub nextLent : Drive → List ℕ → List ℕ → List Test
+nextLent d v b = closedState d ∷ volumeLength d v ∷ bufferLength b ∷ []
+
+pub no-block : (d : Drive) (v b : List ℕ) → firstMet (lentTests d (length v) 36 (length b)) ≡ firstMet (nextLent d v b)
+unfolding lentTests firstMet
+no-block d v b = refl
+
+-- what code knows once they have not refused
+pub record Next (d : Drive) (v b : List ℕ) : Type 0 where
+  pub none : isNone (firstMet (nextLent d v b)) ≡ true
+  pub lent : Lent d (length v) 36 (length b)
+
+pub next-passed : (d : Drive) (v b : List ℕ) {why : Refusal} {t : Bool}
+    → why ≡ firstMet (lentTests d (length v) 36 (length b)) → t ≡ isNone why → not t ≡ false → Next d v b
+next-passed d v b e i h =
+    let p = lengths-passed d (length v) 36 (length b) e i h in
+    record { none = sym (ap isNone (no-block d v b)) ∙ p .none; lent = p .lent }
+
+-- the last hit of an open search is a slot
+pub kept-below : (kind : Kept) (user last : ℕ) (pattern : List ℕ) (n : ℕ) → isKept kind ≡ true → goodKept kind user last pattern n ≡ true → last < n
+kept-below Nothing user last pattern n k e = absurd (false≢true k)
+kept-below Pattern user last pattern n k e =
+    ltb-true last n (and-parts (leb user 15) (ltb last n) (and-parts (leb user 15 && ltb last n) (goodPattern pattern) e .0) .1)
+kept-below Everything user last pattern n k e = ltb-true last n (and-parts (leb user 15) (ltb last n) e .1)
+
+-- what a search leaves that came to slot i, j in the code: a hit, and none
+module _ (d : Drive) (v f b : List ℕ) (q : Search) (i : ℕ) where
+  pub hits : {r : Reply} {k : Search} {j : ℕ} {b′ : List ℕ} → j ≡ i → j < slots (d .geometry)
+      → b′ ≡ cond (ltb j (slots (d .geometry))) (slotRecord (d .geometry) v j) b → k ≡ keptAt q j
+      → r ≡ record { answer = Done (j % 4); drive = withSearch d k }
+      → left r v f b′ ≡ outcome d v f b (unless (test NoMatch (leb (slots (d .geometry)) i) ∷ []) (shown d v f q i))
+  unfolding outcome unless firstMet shown changedState storedAll
+  hits {r} {k} {j} {b′} s h eb ek er =
+      rw (er, ek, eb, ← s, lt-ltb j (slots (d .geometry)) h, lt-leb (slots (d .geometry)) j h)
+
+  pub misses : {r : Reply} {j : ℕ} {b′ : List ℕ} → j ≡ i → slots (d .geometry) ≤ j
+      → b′ ≡ cond (ltb j (slots (d .geometry))) (slotRecord (d .geometry) v j) b
+      → r ≡ record { answer = Refused NoMatch; drive = d }
+      → left r v f b′ ≡ outcome d v f b (unless (test NoMatch (leb (slots (d .geometry)) i) ∷ []) (shown d v f q i))
+  unfolding outcome unless firstMet
+  misses {r} {j} {b′} s h eb er = rw (er, eb, ← s, le-ltb j (slots (d .geometry)) h, le-leb (slots (d .geometry)) j h)

@@ -1,0 +1,62 @@
+// The reads: sequential (20) and random (33).
+ghost use mathlib.Core.Path.{_≡_};
+ghost use mathlib.Core.Bool.{false};
+ghost use Prim.Native.Nat.{_<_};
+ghost use lib.ListN.{length};
+ghost use Rattle.volume.specs.Name.{nameOf};
+ghost use Rattle.answers.specs.Refusal.{isNone};
+ghost use Rattle.reading.specs.Read.{readTests};
+ghost use Rattle.filecalls.specs.Outcome.{unless, outcome, left};
+ghost use Rattle.filecalls.specs.Read.{readDone, readSequentialAct, readRandomAct};
+ghost use Rattle.filecalls.specs.Ready.{Lent};
+use crate::Drive;
+use crate::Reply;
+use answers::Refusal;
+
+impl Drive {
+    // Reads record n, where the tests of what is lent have passed.
+    fn read_at(
+        self,
+        volume: &[u8],
+        f: &mut [u8],
+        buffer: &mut [u8],
+        n: usize,
+        cr: u8,
+        missing: Refusal,
+    ) -> Reply
+        requires { ⌜ Lent self (length (now volume)) (length (now f)) (length (now buffer)) ⌝ }
+        requires { ⌜ (n < 65536) × (isNone missing ≡ false) ⌝ }
+        ensures { λ r. ⌜ left r (now (volume .entry)) (now (f .exit)) (now (buffer .exit)) ≡ outcome self (now (volume .entry)) (now (f .entry)) (now (buffer .entry)) (unless (readTests (self .geometry) (now (volume .entry)) (self .user) (nameOf (now (f .entry))) n missing) (readDone self (now (volume .entry)) (now (f .entry)) n cr)) ⌝ }
+    {
+        let g = self.geometry;
+        let why = reading::read::read_record(g, volume, f, buffer, self.user, n, cr, missing);
+        if !answers::is_none(why) {
+            return self.refused(why);
+        }
+        self.done(0)
+    }
+
+    // Function 20: reads at the sequential position, and moves it on.
+    pub fn read_sequential(self, volume: &[u8], f: &mut [u8], buffer: &mut [u8]) -> Reply
+        ensures { λ r. ⌜ left r (now (volume .entry)) (now (f .exit)) (now (buffer .exit)) ≡ outcome self (now (volume .entry)) (now (f .entry)) (now (buffer .entry)) (readSequentialAct self (now (volume .entry)) (now (f .entry)) (now (buffer .entry))) ⌝ }
+    {
+        let why = self.sequential_why(volume, f, buffer.len());
+        if !answers::is_none(why) {
+            return self.refused(why);
+        }
+        let n = control::position_of(f);
+        self.read_at(volume, f, buffer, n, (n % 128 + 1) as u8, Refusal::Absent)
+    }
+
+    // Function 33: reads the record in r0 r1.
+    pub fn read_random(self, volume: &[u8], f: &mut [u8], buffer: &mut [u8]) -> Reply
+        ensures { λ r. ⌜ left r (now (volume .entry)) (now (f .exit)) (now (buffer .exit)) ≡ outcome self (now (volume .entry)) (now (f .entry)) (now (buffer .entry)) (readRandomAct self (now (volume .entry)) (now (f .entry)) (now (buffer .entry))) ⌝ }
+    {
+        let why = self.random_why(volume, f, buffer.len());
+        if !answers::is_none(why) {
+            return self.refused(why);
+        }
+        let n = control::random_of(f);
+        self.read_at(volume, f, buffer, n, (n % 128) as u8, Refusal::NoGroup)
+    }
+}

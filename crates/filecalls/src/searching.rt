@@ -1,0 +1,118 @@
+// Search first (17) and next (18).
+ghost use mathlib.Core.Path.{_≡_};
+ghost use mathlib.Core.List.{List, [], _∷_};
+ghost use Prim.Native.Nat.{ℕ, _≤_};
+ghost use lib.Dec.{leb};
+ghost use lib.ListN.{length};
+ghost use Rattle.volume.specs.Geometry.{slots};
+ghost use Rattle.answers.specs.declared.Refusal.the-variants.{NoMatch};
+ghost use Rattle.answers.specs.Refusal.{test, firstMet};
+ghost use Rattle.filecalls.specs.Lent.{firstLent};
+ghost use Rattle.filecalls.specs.Outcome.{unless, outcome, left};
+ghost use Rattle.filecalls.specs.Search.{hit, shown, keptAt, isKept, searchFirstAct, searchNextAct};
+ghost use Rattle.filecalls.specs.Ready.{Lent};
+use crate::Drive;
+use crate::Reply;
+use crate::Search;
+use answers::Refusal;
+use reading::Kept;
+
+// Is a search open?
+fn is_open_search(kind: Kept) -> bool
+    ensures { λ r. ⌜ r ≡ isKept kind ⌝ }
+{
+    match kind {
+        Kept::Nothing => false,
+        Kept::Pattern => true,
+        Kept::Everything => true,
+    }
+}
+
+// The search with its last hit in this slot.
+fn kept_at(search: Search, slot: usize) -> Search
+    ensures { λ r. ⌜ r ≡ keptAt search slot ⌝ }
+{
+    let mut kept = search;
+    kept.last = slot;
+    kept
+}
+
+impl Drive {
+    // 32 to 35, then 42, 39 and 40 of a search.
+    fn first_why(self, volume: &[u8], f: &[u8], buffer: &[u8]) -> Refusal
+        ensures { λ r. ⌜ r ≡ firstMet (firstLent self (now (volume .entry)) (now (f .entry)) (now (buffer .entry))) ⌝ }
+    {
+        let why = self.lent_why(volume.len(), f.len(), buffer.len());
+        if !answers::is_none(why) {
+            return why;
+        }
+        let examined = f[0] != 63;
+        let good = volume::names::good_name(true, &f[1..12]);
+        let a = answers::refuse(Refusal::DriveCode, (1 < f[0]) & examined);
+        let b = answers::refuse(Refusal::Name, examined & !good);
+        let c = answers::refuse(Refusal::Position, examined & (31 < f[12]) & (f[12] != 63));
+        answers::first_of(a, answers::first_of(b, c))
+    }
+
+    // The search from slot `from` on, where the tests of what is lent have passed.
+    fn search_on(self, volume: &[u8], buffer: &mut [u8], search: Search, from: usize) -> Reply
+        requires { ⌜ Lent self (length (now volume)) 36 (length (now buffer)) ⌝ }
+        requires { ⌜ from ≤ slots (self .geometry) ⌝ }
+        ensures { λ r. ⌜ ((f : List ℕ) → left r (now (volume .entry)) f (now (buffer .exit)) ≡ outcome self (now (volume .entry)) f (now (buffer .entry)) (unless (test NoMatch (leb (slots (self .geometry)) (hit (self .geometry) (now (volume .entry)) search from)) ∷ []) (shown self (now (volume .entry)) f search (hit (self .geometry) (now (volume .entry)) search from)))) ⌝ }
+    {
+        let g = self.geometry;
+        let kind = search.kind;
+        let pattern = search.pattern;
+        let slot = reading::search::search_from(
+            g,
+            volume,
+            buffer,
+            kind,
+            search.user,
+            &pattern,
+            from,
+        );
+        if slot < g.slots() {
+            let kept = kept_at(search, slot);
+            let mut drive = self;
+            drive.search = kept;
+            return drive.done((slot % 4) as u8);
+        }
+        self.refused(Refusal::NoMatch)
+    }
+
+    // Function 17: starts at slot 0, and keeps pattern and user.
+    pub fn search_first(self, volume: &[u8], f: &[u8], buffer: &mut [u8]) -> Reply
+        ensures { λ r. ⌜ left r (now (volume .entry)) (now (f .entry)) (now (buffer .exit)) ≡ outcome self (now (volume .entry)) (now (f .entry)) (now (buffer .entry)) (searchFirstAct self (now (volume .entry)) (now (f .entry)) (now (buffer .entry))) ⌝ }
+    {
+        let why = self.first_why(volume, f, buffer);
+        if !answers::is_none(why) {
+            return self.refused(why);
+        }
+        let kind = reading::search::kind_of(f[0]);
+        let pattern = reading::search::pattern_of(f);
+        let search = Search {
+            kind,
+            user: self.user,
+            last: 0,
+            pattern,
+        };
+        self.search_on(volume, buffer, search, 0)
+    }
+
+    // Function 18: goes on after the last hit.
+    pub fn search_next(self, volume: &[u8], buffer: &mut [u8]) -> Reply
+        ensures { λ r. ⌜ left r (now (volume .entry)) [] (now (buffer .exit)) ≡ outcome self (now (volume .entry)) [] (now (buffer .entry)) (searchNextAct self (now (volume .entry)) (now (buffer .entry))) ⌝ }
+    {
+        let why = self.lent_why(volume.len(), 36, buffer.len());
+        if !answers::is_none(why) {
+            return self.refused(why);
+        }
+        let search = self.search;
+        let kind = search.kind;
+        if !is_open_search(kind) {
+            return self.refused(Refusal::NoMatch);
+        }
+        self.search_on(volume, buffer, search, search.last + 1)
+    }
+}
