@@ -4,10 +4,12 @@ use mathlib.Core.List.{List, [], _∷_}
 use Prim.Native.Nat.{ℕ}
 use lib.Dec.{eqb}
 use Rattle.answers.specs.declared.Refusal.{Refusal}
-use Rattle.answers.specs.declared.Refusal.the-variants.{None, Closed, VolumeLength, BlockLength, BufferLength, DriveCode, UserCode, Name, Position, Beyond, BadSlot, Protected, NoMatch, NoFile, ReadOnly, Exists, NoGroup, Absent, Outside, NoSlot, NoRoom, NoBlock}
+use Rattle.answers.specs.declared.Refusal.the-variants.{None, NotServed, Closed, VolumeLength, BlockLength, BufferLength, DriveCode, UserCode, Name, Position, Beyond, BadSlot, Protected, NoMatch, NoFile, ReadOnly, Exists, NoGroup, Absent, Outside, NoSlot, NoRoom, NoBlock}
 
 abbrev pub refusalNumber : Refusal → ℕ
 refusalNumber None = 0
+-- a function that is not served: 01 gives it no number
+refusalNumber NotServed = 31
 -- geometry outside the rules, or (not log-in) closed state
 refusalNumber Closed = 32
 -- length of volume; control block not 36; transfer buffer not 128

@@ -8,6 +8,7 @@ ghost use Rattle.answers.specs.Answer.{numberOf, valueOf};
 // Why a call is refused, in the order of the paper's table; None is no refusal.
 pub enum Refusal {
     None,
+    NotServed,
     Closed,
     VolumeLength,
     BlockLength,
@@ -67,6 +68,7 @@ pub fn refusal_number(why: Refusal) -> u8
 {
     match why {
         Refusal::None => 0,
+        Refusal::NotServed => 31,
         Refusal::Closed => 32,
         Refusal::VolumeLength => 33,
         Refusal::BlockLength => 34,

@@ -4,5 +4,7 @@ pub mod EditLaws
 pub mod ReadOnlyLaws
 pub mod MakeLaws
 pub mod AllocLaws
+pub mod HeadLaws
 pub mod GrowLaws
 pub mod WriteLaws
+pub mod AfterLaws

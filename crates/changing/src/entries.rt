@@ -1,9 +1,9 @@
 // The entry that a write leaves: what it begins from, how it counts a further record, and the block of its place.
 ghost use mathlib.Core.Path.{_≡_};
-ghost use mathlib.Core.Bool.{Bool, true, false};
-ghost use Prim.Native.Nat.{ℕ, _+_, _≤_, _<_};
+ghost use mathlib.Core.Bool.{true};
+ghost use Prim.Native.Nat.{_+_, _≤_, _<_};
 ghost use lib.ListN.{length};
-ghost use Rattle.volume.specs.Geometry.{lawful, bytes, slots, placeOf};
+ghost use Rattle.volume.specs.Geometry.{lawful, bytes, slots};
 ghost use Rattle.volume.specs.Entry.{places, withBlock};
 ghost use Rattle.changing.specs.Write.{alloc, grown, writtenEntry};
 ghost use Rattle.changing.specs.WritePlan.{baseOf};

@@ -1,7 +1,7 @@
 // The write of a record: decided first, by reading alone, and then carried out by stores with no test in between.
 ghost use mathlib.Core.Path.{_≡_};
-ghost use mathlib.Core.Bool.{Bool, true, false, cond};
-ghost use Prim.Native.Nat.{ℕ, _+_, _≤_, _<_};
+ghost use mathlib.Core.Bool.{true, false, cond};
+ghost use Prim.Native.Nat.{_+_, _≤_, _<_};
 ghost use lib.Dec.{eqb};
 ghost use lib.ListN.{length};
 ghost use Rattle.volume.specs.Geometry.{lawful, bytes, slots};
@@ -142,6 +142,28 @@ fn store(
     directory::put_slot(g, volume, slot, e);
 }
 
+// All that a write changes: the volume, and the control block, which is set to record n.
+fn carry_out(
+    g: Geometry,
+    volume: &mut [u8],
+    f: &mut [u8],
+    buffer: &[u8],
+    e: &[u8],
+    slot: usize,
+    block: usize,
+    n: usize,
+    cr: u8,
+)
+    requires { ⌜ (lawful g ≡ true) × (length (now volume) ≡ bytes g) ⌝ }
+    requires { ⌜ (length (now f) ≡ 36) × ((length (now buffer) ≡ 128) × (length (now e) ≡ 32)) ⌝ }
+    requires { ⌜ (slot < slots g) × ((block < g .total) × (n < 65536)) ⌝ }
+    ensures { λ _. ⌜ now (volume .exit) ≡ putSlot g (putRecord g (now (volume .entry)) block n (now (buffer .entry))) slot (now (e .entry)) ⌝ }
+    ensures { λ _. ⌜ now (f .exit) ≡ setTo (now (f .entry)) (now (e .entry)) n cr ⌝ }
+{
+    store(g, volume, buffer, e, slot, block, n);
+    control::set_to(f, e, n, cr);
+}
+
 // Block b is held from now on, if it is newly taken.
 fn hold_if(held: [u64; 4], fresh: bool, b: usize) -> [u64; 4]
     requires { ⌜ b < 256 ⌝ }
@@ -179,8 +201,7 @@ pub fn write_record(
         return Written { why, held };
     }
     entries::write_entry(g, &mut e, n, plan.block);
-    store(g, volume, buffer, &e, plan.slot, plan.block, n);
-    control::set_to(f, &e, n, cr);
+    carry_out(g, volume, f, buffer, &e, plan.slot, plan.block, n, cr);
     let next = hold_if(held, plan.fresh, plan.block);
     Written { why, held: next }
 }

@@ -1,24 +1,23 @@
 -- "Log-in accepts exactly when all slots are good": what an accepted directory is as a whole.
 -- In it a block stands in one place of one slot, and a user's file has one entry of each group.
 use mathlib.Core.Path.{_≡_, refl, sym, ap, _∙_}
-use mathlib.Core.Bool.{Bool, true, false, not, _&&_, true≢false}
-use mathlib.Core.Logic.{_⊎_, inl, inr, _≢_}
+use mathlib.Core.Bool.{Bool, true, false, not, true≢false}
+use mathlib.Core.Logic.{⊎-elim, _≢_}
 use mathlib.Core.List.{List}
-use Prim.Native.Nat.{ℕ, _+_, _≤_, _<_}
+use Prim.Native.Nat.{ℕ, _≤_, _<_}
 use native.Mathlib.Decide.{ℕ-discrete, decLt}
 use native.Mathlib.Omega.{arith}
-use borrow.Author.Tests.{not-true, not-false, eqb-true, eq-eqb}
-use lib.Dec.{eqb}
-use Rattle.lists.specs.Bytes.{byte}
-use Rattle.lists.proofs.SearchLaws.{Low, low-le, low-hit, low-miss, low-no}
+use borrow.Author.Tests.{not-true, not-false}
+use Rattle.lists.proofs.SearchLaws.{low-le, low-hit, low-miss, low-no}
 use Rattle.volume.specs.declared.Geometry.{Geometry}
-use Rattle.volume.specs.Geometry.{slots, groupOf}
-use Rattle.volume.specs.Name.{nameOf, same}
-use Rattle.volume.specs.Entry.{Entry, isEmpty, extent, places, blockIn, ofFile, ofGroup}
+use Rattle.volume.specs.Geometry.{slots, inside}
+use Rattle.volume.specs.Entry.{isEmpty, places, blockIn}
 use Rattle.volume.specs.Directory.{slotAt}
-use Rattle.volume.proofs.NameLaws.{same-refl, same-true}
 use Rattle.inspection.specs.GoodSlot.{goodSlot, lowestBad}
-use Rattle.inspection.proofs.GoodLaws.{both, Good, good-facts}
+use Rattle.inspection.specs.Named.{named}
+use Rattle.inspection.proofs.GoodLaws.{Good, good-facts}
+use Rattle.inspection.proofs.NamedLaws.{at-named}
+use Rattle.inspection.proofs.TwinLaws.{twin, twin-sym}
 
 -- ---- all slots are good
 abbrev bad : Geometry → List ℕ → ℕ → Bool
@@ -49,41 +48,6 @@ module _ (g : Geometry) (v : List ℕ) where
       let l = low-hit (bad g v) 0 (slots g) (lowestBad g v) refl (omega arith) in
       record { below = h; is-bad = not-true _ (l .passes); lower-good = λ j k. not-false _ (l .first j (omega arith) k) }
 
--- ---- the same user, name and group
-module _ (g : Geometry) where
-  -- entry f has the user, name and group of entry e
-  abbrev pub twin : Entry → Entry → Bool
-  twin e f = ofGroup g (byte e 0) (nameOf e) (groupOf g (extent e)) f
-
-  pub record Twins (e f : Entry) : Type 0 where
-    pub user : byte e 0 ≡ byte f 0
-    pub name : nameOf e ≡ nameOf f
-    pub group : groupOf g (extent e) ≡ groupOf g (extent f)
-
-  pub twin-true : (e f : Entry) → twin e f ≡ true → Twins e f
-  unfolding ofGroup ofFile
-  twin-true e f h =
-      let user = eqb (byte f 0) (byte e 0) in
-      let name = same (nameOf f) (nameOf e) in
-      let group = eqb (groupOf g (extent f)) (groupOf g (extent e)) in
-      let p = both (user && name) group h in
-      let q = both user name (p .0) in
-      record {
-        user = sym (eqb-true (byte f 0) (byte e 0) (q .0));
-        name = sym (same-true (nameOf f) (nameOf e) (q .1));
-        group = sym (eqb-true (groupOf g (extent f)) (groupOf g (extent e)) (p .1));
-      }
-
-  pub twins : (e f : Entry) → Twins e f → twin e f ≡ true
-  unfolding ofGroup ofFile
-  twins e f t =
-      rw (eq-eqb (byte f 0) (byte e 0) (sym (t .user)), t .name, same-refl (nameOf f), eq-eqb (groupOf g (extent f)) (groupOf g (extent e)) (sym (t .group)))
-
-  pub twin-sym : (e f : Entry) → twin e f ≡ true → twin f e ≡ true
-  twin-sym e f h =
-      let t = twin-true e f h in
-      twins f e (record { user = sym (t .user); name = sym (t .name); group = sym (t .group) })
-
 -- ---- in an accepted directory
 module _ (g : Geometry) (v : List ℕ) (ok : lowestBad g v ≡ slots g) where
   pub good-entry : (i : ℕ) → i < slots g → isEmpty (slotAt g v i) ≡ false → Good g v i
@@ -94,6 +58,14 @@ module _ (g : Geometry) (v : List ℕ) (ok : lowestBad g v ≡ slots g) where
     pub slot : i < slots g
     pub used : isEmpty (slotAt g v i) ≡ false
     pub place : p < places g
+
+  -- each block in a map is held
+  pub place-named : (i p : ℕ) → Place i p → blockIn g (slotAt g v i) p ≢ 0 → named g v (blockIn g (slotAt g v i) p) ≡ true
+  unfolding named
+  place-named i p a n =
+      let b = blockIn g (slotAt g v i) p in
+      let in-g : inside g b ≡ true = ⊎-elim (λ z. absurd (n z)) (λ w. w) (good-entry i (a .slot) (a .used) .block p (a .place)) in
+      rw (in-g, at-named g v (slots g) b (record { slot = i; below = a .slot; used = a .used; place = p; in-map = a .place; is = refl }))
 
   -- a block stands in one place of one slot
   pub one-place : (i p j q : ℕ) → Place i p → Place j q → blockIn g (slotAt g v i) p ≢ 0 → blockIn g (slotAt g v i) p ≡ blockIn g (slotAt g v j) q → (i ≡ j) × (p ≡ q)

@@ -1,13 +1,14 @@
 -- What a good slot is, as facts, and back: what theorems on inspection use in the place of `goodSlot`.
-use mathlib.Core.Path.{_≡_, refl, sym, ap, _∙_}
+use mathlib.Core.Path.{_≡_, refl, sym, _∙_}
 use mathlib.Core.Bool.{Bool, true, false, not, _&&_, _||_, or-false, or-true, false≢true}
 use mathlib.Core.Logic.{_⊎_, inl, inr, ⊎-elim, _≢_}
 use mathlib.Core.List.{List}
 use Prim.Native.Nat.{ℕ, _+_, _≤_, _<_}
-use native.Mathlib.Decide.{ℕ-discrete, decLt}
+use native.Mathlib.Decide.{ℕ-discrete}
 use native.Mathlib.Omega.{arith}
 use borrow.Author.Tests.{not-true, leb-true, le-leb, ltb-true, lt-ltb, eqb-true, eqb-false, eq-eqb, ne-eqb}
 use lib.Dec.{leb, ltb, eqb}
+use Rattle.lists.proofs.BoolLaws.{and-parts}
 use Rattle.lists.specs.Search.{every}
 use Rattle.lists.specs.Bytes.{byte}
 use Rattle.lists.proofs.SearchLaws.{any-false, any-none, every-true, every-intro}
@@ -17,10 +18,6 @@ use Rattle.volume.specs.Name.{nameOf, goodName}
 use Rattle.volume.specs.Entry.{Entry, isEmpty, extent, places, blockIn, ofGroup}
 use Rattle.volume.specs.Directory.{slotAt}
 use Rattle.inspection.specs.GoodSlot.{goodFields, goodTopBits, inPlaces, names, namedBelow, goodPlace, seenBelow, goodSlot}
-
-pub both : (a b : Bool) → a && b ≡ true → (a ≡ true) × (b ≡ true)
-both true b e = (refl, e)
-both false b e = absurd (false≢true e)
 
 -- ---- the bytes other than name and map
 pub record Fields (e : Entry) : Type 0 where
@@ -37,10 +34,10 @@ fields-good e h =
     let ex = leb (byte e 12) 31 in
     let s1 = eqb (byte e 13) 0 in
     let s2 = leb (byte e 14) 15 in
-    let p = both (user && ex && s1 && s2) (leb (byte e 15) 128) h in
-    let q = both (user && ex && s1) s2 (p .0) in
-    let r = both (user && ex) s1 (q .0) in
-    let s = both user ex (r .0) in
+    let p = and-parts (user && ex && s1 && s2) (leb (byte e 15) 128) h in
+    let q = and-parts (user && ex && s1) s2 (p .0) in
+    let r = and-parts (user && ex) s1 (q .0) in
+    let s = and-parts user ex (r .0) in
     record {
       user = leb-true (byte e 0) 15 (s .0);
       ex = leb-true (byte e 12) 31 (s .1);
@@ -128,8 +125,8 @@ module _ (g : Geometry) (v : List ℕ) (i : ℕ) where
       let b = blockIn g (slotAt g v i) p in
       let first = not (inPlaces g (slotAt g v i) p b) in
       let lower = not (namedBelow g v i b) in
-      let s = both (inside g b && first) lower (rw (ne-eqb b 0 n) at h) in
-      let r = both (inside g b) first (s .0) in
+      let s = and-parts (inside g b && first) lower (rw (ne-eqb b 0 n) at h) in
+      let r = and-parts (inside g b) first (s .0) in
       record { within = r .0; first = not-true _ (r .1); lower = not-true _ (s .1) }
 
   place-good : (p : ℕ) → (blockIn g (slotAt g v i) p ≡ 0) ⊎ GoodBlock p → goodPlace g v i p ≡ true
@@ -145,10 +142,10 @@ module _ (g : Geometry) (v : List ℕ) (i : ℕ) where
       let name = goodName false (nameOf e) in
       let bits = goodTopBits e in
       let map = every (places g) (goodPlace g v i) in
-      let p = both (fields && name && bits && map) (not (seenBelow g v i)) (rw used at h) in
-      let q = both (fields && name && bits) map (p .0) in
-      let r = both (fields && name) bits (q .0) in
-      let s = both fields name (r .0) in
+      let p = and-parts (fields && name && bits && map) (not (seenBelow g v i)) (rw used at h) in
+      let q = and-parts (fields && name && bits) map (p .0) in
+      let r = and-parts (fields && name) bits (q .0) in
+      let s = and-parts fields name (r .0) in
       let place : (p : ℕ) → p < places g → goodPlace g v i p ≡ true = λ p l. every-true (goodPlace g v i) 0 (places g) (q .1) p (omega arith) (omega arith) in
       record {
         fields = s .0;

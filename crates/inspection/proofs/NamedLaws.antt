@@ -1,12 +1,14 @@
 -- The blocks that entries name, and the words that hold them: "the held blocks, which log-in alone works out".
-use mathlib.Core.Path.{_≡_, refl, sym, ap, _∙_}
-use mathlib.Core.Bool.{Bool, true, false, not, _&&_}
+use mathlib.Core.Path.{_≡_}
+use mathlib.Core.Bool.{true, false, not}
+use mathlib.Core.Logic.{_≢_}
 use mathlib.Core.List.{List}
-use Prim.Native.Nat.{ℕ, _+_, _<_}
+use Prim.Native.Nat.{ℕ, _<_}
 use native.Mathlib.Omega.{arith}
 use borrow.Author.Tests.{not-true, eqb-true, eq-eqb}
 use lib.Dec.{eqb}
-use Rattle.lists.proofs.SearchLaws.{Hit, any-true, any-intro}
+use Rattle.lists.proofs.BoolLaws.{and-parts}
+use Rattle.lists.proofs.SearchLaws.{any-true, any-intro}
 use Rattle.volume.specs.declared.Geometry.{Geometry}
 use Rattle.volume.specs.Geometry.{slots, inside}
 use Rattle.volume.specs.Entry.{isEmpty, places, blockIn}
@@ -15,7 +17,7 @@ use Rattle.blocks.specs.Held.{holds}
 use Rattle.blocks.proofs.WordsLaws.{Words, holds-words, words-words}
 use Rattle.inspection.specs.GoodSlot.{inPlaces, names, namedBelow}
 use Rattle.inspection.specs.Named.{named, heldOf}
-use Rattle.inspection.proofs.GoodLaws.{both}
+use Rattle.inspection.proofs.GoodLaws.{not-named-below}
 
 -- ---- where a block is named
 pub record NamedAt (g : Geometry) (v : List ℕ) (n b : ℕ) : Type 0 where
@@ -32,7 +34,7 @@ module _ (g : Geometry) (v : List ℕ) (n b : ℕ) where
   named-at h =
       let s = any-true (λ j. names g (slotAt g v j) b) 0 n h in
       let e = slotAt g v (s .place) in
-      let m = both (not (isEmpty e)) (inPlaces g e (places g) b) (s .passes) in
+      let m = and-parts (not (isEmpty e)) (inPlaces g e (places g) b) (s .passes) in
       let p = any-true (λ q. eqb (blockIn g e q) b) 0 (places g) (m .1) in
       record {
         slot = s .place;
@@ -59,3 +61,9 @@ module _ (g : Geometry) (v : List ℕ) where
   pub words-held : Words (heldOf g v)
   unfolding heldOf
   words-held = words-words (named g v)
+
+  -- a block from D to T-1 that isn't held is in no entry
+  pub unnamed-nowhere : (b : ℕ) → inside g b ≡ true → named g v b ≡ false
+      → (j : ℕ) → j < slots g → isEmpty (slotAt g v j) ≡ false → (q : ℕ) → q < places g → blockIn g (slotAt g v j) q ≢ b
+  unfolding named
+  unnamed-nowhere b in-g h = not-named-below g v (slots g) b (rw in-g at h)

@@ -1,13 +1,13 @@
 -- Inspection looks at the slots alone: two volumes with the same entries are inspected alike.
 use mathlib.Core.Path.{_≡_, ap}
-use mathlib.Core.Bool.{not, _&&_}
+use mathlib.Core.Bool.{not}
 use mathlib.Core.List.{List}
 use Prim.Native.Nat.{ℕ, _≤_, _<_}
 use native.Mathlib.Omega.{arith}
 use Rattle.lists.specs.Bytes.{byte}
 use Rattle.lists.proofs.SearchLaws.{low-ext, any-ext, every-ext}
 use Rattle.volume.specs.declared.Geometry.{Geometry}
-use Rattle.volume.specs.Geometry.{slots, groupOf, inside}
+use Rattle.volume.specs.Geometry.{slots, groupOf}
 use Rattle.volume.specs.Name.{nameOf}
 use Rattle.volume.specs.Entry.{Entry, extent, places, blockIn, ofGroup}
 use Rattle.volume.specs.Directory.{slotAt}

@@ -6,7 +6,7 @@ use Prim.Native.Nat.{ℕ, _+_}
 use native.Mathlib.Omega.{arith}
 use borrow.Author.Tests.{eq-eqb, ne-eqb}
 use Rattle.lists.specs.Search.{every}
-use Rattle.lists.specs.Bytes.{byte, part}
+use Rattle.lists.specs.Bytes.{byte}
 use Rattle.lists.proofs.PartLaws.{byte-part}
 use Rattle.volume.specs.declared.Geometry.{Geometry}
 use Rattle.volume.specs.Geometry.{slotStart}

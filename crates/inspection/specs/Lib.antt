@@ -2,3 +2,4 @@
 pub mod GoodSlot
 pub mod Named
 pub mod HeldBelow
+pub mod Marks

@@ -1,21 +1,22 @@
 // Inspection at log-in: the lowest bad slot, and the blocks that entries name.
 ghost use mathlib.Core.Path.{_≡_};
-ghost use mathlib.Core.Bool.{Bool, true, false, _&&_};
-ghost use Prim.Native.Nat.{ℕ, _+_, _≤_, _<_};
+ghost use mathlib.Core.Bool.{true, false, _&&_};
+ghost use Prim.Native.Nat.{_+_, _≤_, _<_};
 ghost use lib.ListN.{length};
-ghost use Rattle.lists.specs.Search.{any, every};
+ghost use Rattle.lists.specs.Search.{every};
 ghost use Rattle.volume.specs.Geometry.{lawful, bytes, slots};
-ghost use Rattle.volume.specs.Name.{strip, nameOf, goodName};
-ghost use Rattle.volume.specs.Entry.{places, ofGroup};
-ghost use Rattle.volume.specs.Directory.{slotAt};
+ghost use Rattle.volume.specs.Name.{nameOf, goodName};
+ghost use Rattle.volume.specs.Entry.{places};
 ghost use Rattle.blocks.specs.Held.{wordsOf};
-ghost use Rattle.inspection.specs.GoodSlot.{goodFields, goodTopBits, goodPlace, seenBelow, goodSlot, lowestBad};
+ghost use Rattle.inspection.specs.GoodSlot.{goodFields, goodTopBits, goodPlace, goodSlot, lowestBad};
 ghost use Rattle.inspection.specs.Named.{heldOf};
 ghost use Rattle.inspection.specs.HeldBelow.{heldBelow, heldUpTo};
+ghost use Rattle.inspection.specs.Marks.{marked};
 use volume::Geometry;
-use volume::Wanted;
 use volume::entry;
 use volume::names;
+
+mod seen;
 
 // Places of an entry's map.
 const PLACES: usize = 16;
@@ -27,9 +28,9 @@ pub struct Inspected {
 }
 
 // Is what was looked at good? If so, the blocks held with it.
-pub struct Taken {
-    pub good: bool,
-    pub held: [u64; 4],
+struct Taken {
+    good: bool,
+    held: [u64; 4],
 }
 
 // Are the bytes other than name and map good?
@@ -93,39 +94,14 @@ fn take_map(g: Geometry, volume: &[u8], i: usize, before: [u64; 4]) -> Taken
     Taken { good: true, held }
 }
 
-// Does one of the n lowest slots have group k of this user's file of this name?
-fn is_below(g: Geometry, volume: &[u8], n: usize, user: u8, name: &[u8], k: usize) -> bool
-    requires { ⌜ (lawful g ≡ true) × (length (now volume) ≡ bytes g) ⌝ }
-    requires { ⌜ (n ≤ slots g) × (length (now name) ≡ 11) ⌝ }
-    ensures { λ r. ⌜ r ≡ any n (λ j. ofGroup g user (strip (now (name .entry))) k (slotAt g (now (volume .entry)) j)) ⌝ }
-{
-    let mut j = 0;
-    while j < n {
-        let at = g.slot_start(j);
-        if entry::has(g, &volume[at..at + 32], user, name, Wanted::Group(k)) {
-            return true;
-        }
-        j += 1;
-    }
-    false
-}
-
-// Does a lower slot have the user, name and group of the entry e, which stands in slot i?
-fn is_seen(g: Geometry, volume: &[u8], i: usize, e: &[u8]) -> bool
-    requires { ⌜ (lawful g ≡ true) × (length (now volume) ≡ bytes g) ⌝ }
-    requires { ⌜ (i < slots g) × ((length (now e) ≡ 32) × (now e ≡ slotAt g (now volume) i)) ⌝ }
-    ensures { λ r. ⌜ r ≡ seenBelow g (now (volume .entry)) i ⌝ }
-{
-    let k = g.group(entry::extent_of(e));
-    is_below(g, volume, i, e[0], &e[1..12], k)
-}
-
-// Slot i over the blocks of the lower slots.
-fn take_slot(g: Geometry, volume: &[u8], i: usize, held: [u64; 4]) -> Taken
+// Is slot i good? Then its blocks are held beside those of the lower slots, and its mark is set.
+fn take_slot(g: Geometry, volume: &[u8], i: usize, held: [u64; 4], marks: &mut [u64]) -> Taken
     requires { ⌜ (lawful g ≡ true) × (length (now volume) ≡ bytes g) ⌝ }
     requires { ⌜ (i < slots g) × (held ≡ wordsOf (heldBelow g (now volume) i)) ⌝ }
+    requires { ⌜ (length (now marks) ≡ 256) × (marked g (now volume) (now marks) i ≡ true) ⌝ }
     ensures { λ r. ⌜ r .good ≡ goodSlot g (now (volume .entry)) i ⌝ }
     ensures { λ r. ⌜ (r .good ≡ true → r .held ≡ wordsOf (heldBelow g (now (volume .entry)) (i + 1))) ⌝ }
+    ensures { λ r. ⌜ (r .good ≡ true → marked g (now (volume .entry)) (now (marks .exit)) (i + 1) ≡ true) ⌝ }
 {
     let at = g.slot_start(i);
     if volume[at] == entry::EMPTY {
@@ -139,7 +115,7 @@ fn take_slot(g: Geometry, volume: &[u8], i: usize, held: [u64; 4]) -> Taken
         return Taken { good: false, held };
     }
     let next = taken.held;
-    let seen = is_seen(g, volume, i, &volume[at..at + 32]);
+    let seen = seen::is_seen(g, volume, i, &volume[at..at + 32], marks);
     Taken {
         good: !seen,
         held: next,
@@ -154,9 +130,10 @@ pub fn inspect(g: Geometry, volume: &[u8]) -> Inspected
 {
     let n = g.slots();
     let mut held = [0u64; 4];
+    let mut marks = [0u64; seen::WORDS];
     let mut i = 0;
     while i < n {
-        let taken = take_slot(g, volume, i, held);
+        let taken = take_slot(g, volume, i, held, &mut marks);
         if !taken.good {
             return Inspected { slot: i, held };
         }

@@ -1,7 +1,7 @@
 -- Fields, name and top bits: the definition's three tests in its order.
 use mathlib.Core.Bool.{and-false}
-use borrow.Author.Tests.{not-true, not-false}
 use borrow.Author.Needs.{needs}
+use borrow.Author.Tests.{not-true, not-false}
 use Rattle.lists.specs.Bytes.{part}
 use Rattle.volume.specs.Name.{nameAt}
 use Rattle.inspection.proofs.good_entry.Statement.{statement}

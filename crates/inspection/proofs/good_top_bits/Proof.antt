@@ -1,10 +1,10 @@
 -- The bytes passed so far carry no top bit, or are bytes 9 and 10, so what is left decides.
-use mathlib.Core.List.{List}
-use mathlib.Core.Bool.{Bool, _||_}
 use mathlib.Core.Path.{sym}
+use mathlib.Core.Bool.{Bool, _||_}
+use mathlib.Core.List.{List}
 use Prim.Native.Nat.{ℕ, _+_, _≤_, _-_}
-use borrow.Author.Tests.{not-true, not-false}
 use borrow.Author.Needs.{needs}
+use borrow.Author.Tests.{not-true, not-false}
 use lib.Dec.{ltb, eqb}
 use Rattle.lists.specs.Bytes.{byte}
 use Rattle.lists.proofs.SearchLaws.{Passed, passed-start, passed-next, passed-fails, passed-all}

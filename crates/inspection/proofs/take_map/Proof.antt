@@ -1,19 +1,19 @@
 -- The places passed so far are good, and the blocks in them are held beside those of the lower slots.
-use mathlib.Core.List.{List}
-use mathlib.Core.Logic.{⊎-elim}
-use mathlib.Core.Bool.{true, false, not, false≢true}
 use mathlib.Core.Path.{_≡_, sym, ap, _∙_}
-use Prim.Native.Nat.{ℕ, _+_, _≤_, _-_}
+use mathlib.Core.Bool.{not, false≢true}
+use mathlib.Core.Logic.{⊎-elim}
+use mathlib.Core.List.{List}
+use Prim.Native.Nat.{ℕ, _≤_, _-_}
 use native.Mathlib.Omega.{arith}
 use denote.Ref.{now}
 use borrow.Author.Needs.{needs}
 use Rattle.lists.proofs.SearchLaws.{Passed, passed-start, passed-next, passed-fails, passed-all}
-use Rattle.volume.specs.Directory.{slotAt}
 use Rattle.volume.specs.Entry.{places, blockIn}
+use Rattle.volume.specs.Directory.{slotAt}
 use Rattle.volume.proofs.EntryLaws.{lent-slot}
 use Rattle.blocks.specs.Held.{hold, wordsOf}
-use Rattle.inspection.specs.HeldBelow.{heldUpTo}
 use Rattle.inspection.specs.GoodSlot.{goodPlace}
+use Rattle.inspection.specs.HeldBelow.{heldUpTo}
 use Rattle.inspection.proofs.HeldLaws.{no-places, zero-place, zero-good, block-place, place-tests, inside-test}
 use Rattle.inspection.proofs.take_map.Statement.{statement}
 use Rattle.inspection.proofs.take_map.Tie as tie

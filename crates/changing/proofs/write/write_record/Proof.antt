@@ -77,20 +77,14 @@ slice-aggregate-write-entry c = search needs
 write-entry-requires : tie.Need-write-entry-requires
 write-entry-requires c κs = (search needs, (search needs, (search needs, block-small (c .before))))
 
-slice-aggregate-store : tie.Need-slice-aggregate-store
-slice-aggregate-store c = search needs
+slice-aggregate-carry-out : tie.Need-slice-aggregate-carry-out
+slice-aggregate-carry-out c = search needs
 
-store-requires : tie.Need-store-requires
-store-requires c κs = (search needs, (search needs, (slot-fits (c .before .before .before .before .before), block-fits (c .before .before .before .before .before))))
-
-slice-aggregate-set-to : tie.Need-slice-aggregate-set-to
-slice-aggregate-set-to c = search needs
-
-set-to-requires : tie.Need-set-to-requires
-set-to-requires c κs = (search needs, (search needs, c .before .before .before .before .before .before .before .before .before .before .before .before .before .before .before .before .before .before .before .before .before .pre .1 .1 .1))
+carry-out-requires : tie.Need-carry-out-requires
+carry-out-requires c κs = (search needs, (search needs, (slot-fits (c .before .before .before .before .before .before), (block-fits (c .before .before .before .before .before .before), c .before .before .before .before .before .before .before .before .before .before .before .before .before .before .before .before .before .pre .1 .1 .1))))
 
 hold-if-requires : tie.Need-hold-if-requires
-hold-if-requires c κs = block-small (c .before .before .before .before .before .before .before .before .before .before .before .before .before)
+hold-if-requires c κs = block-small (c .before .before .before .before .before .before .before .before .before .before .before)
 
 same-length-3 : tie.Need-same-length-3
 same-length-3 c = search needs
@@ -101,14 +95,14 @@ same-length-4 c = search needs
 returns-2 : tie.Need-returns-2
 unfolding nameAt part
 returns-2 c =
-    let d = decided (c .before .before .before .before .before .before .before .before .before .before .before .before .before .before) in
-    let e = entry-laid (c .before .before .before .before .before .before .before .before .before .before .before .before) in
-    let none = none-met (c .before .before .before .before .before .before .before .before .before .before .before .before .before .before) in (
-      c .before .before .before .before .before .before .before .before .before .before .before .before .before .before .before .before .before .decide .ensures .0,
+    let d = decided (c .before .before .before .before .before .before .before .before .before .before .before .before) in
+    let e = entry-laid (c .before .before .before .before .before .before .before .before .before .before) in
+    let none = none-met (c .before .before .before .before .before .before .before .before .before .before .before .before) in (
+      c .before .before .before .before .before .before .before .before .before .before .before .before .before .before .before .decide .ensures .0,
       (
-        rw none (c .before .before .before .before .before .before .before .before .store .ensures ∙ rw (e, d .slot-is, d .block-is)),
+        rw none (c .before .before .before .before .before .carry-out .ensures .0 ∙ rw (e, d .slot-is, d .block-is)),
         (
-          rw none (c .before .before .before .set-to .ensures ∙ rw e),
+          rw none (c .before .before .before .before .before .carry-out .ensures .1 ∙ rw e),
           rw none (c .hold-if .ensures ∙ rw (d .fresh-is, d .block-is)),
         ),
       ),
@@ -129,10 +123,8 @@ write-record-spec =
     returns
     slice-aggregate-write-entry
     write-entry-requires
-    slice-aggregate-store
-    store-requires
-    slice-aggregate-set-to
-    set-to-requires
+    slice-aggregate-carry-out
+    carry-out-requires
     hold-if-requires
     same-length-3
     same-length-4

@@ -1,18 +1,18 @@
 -- None of the slots passed so far has the group, so what is still to be asked gives the whole.
-use mathlib.Core.List.{List}
-use mathlib.Core.Bool.{Bool}
 use mathlib.Core.Path.{_≡_, sym, _∙_}
-use Prim.Native.Nat.{ℕ, _+_, _≤_, _-_}
+use mathlib.Core.Bool.{Bool}
+use mathlib.Core.List.{List}
+use Prim.Native.Nat.{ℕ, _≤_, _-_}
 use denote.Ref.{now}
 use borrow.Author.Needs.{needs}
+use Rattle.volume.specs.declared.Geometry.{Geometry}
 use Rattle.volume.specs.Name.{strip}
 use Rattle.volume.specs.Entry.{ofGroup}
 use Rattle.volume.specs.Directory.{slotAt}
-use Rattle.volume.specs.declared.Geometry.{Geometry}
 use Rattle.volume.proofs.EntryLaws.{lent-slot}
 use Rattle.inspection.proofs.AnyLaws.{Asked, asked-start, asked-next, asked-hit, asked-none}
-use Rattle.inspection.proofs.is_below.Statement.{statement}
-use Rattle.inspection.proofs.is_below.Tie as tie
+use Rattle.inspection.proofs.seen.is_below.Statement.{statement}
+use Rattle.inspection.proofs.seen.is_below.Tie as tie
 
 -- the test of slot j
 abbrev groupAt : Geometry → List ℕ → ℕ → List ℕ → ℕ → ℕ → Bool

@@ -1,0 +1,2 @@
+-- "The calls we serve", behind one door.
+pub mod Step
