@@ -4,3 +4,4 @@ pub mod OutcomeLaws
 pub mod LentLaws
 pub mod WriteLaws
 pub mod SearchLaws
+pub mod NamingLaws
