@@ -1,3 +1,4 @@
 -- Laws of the state and of what calls leave.
 pub mod StateLaws
 pub mod OutcomeLaws
+pub mod FoundLaws

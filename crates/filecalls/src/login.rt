@@ -10,7 +10,7 @@ use answers::Answer;
 use answers::Refusal;
 use volume::Geometry;
 
-// The state after log-in: of these blocks; user 0, not protected and no search open as in the closed state.
+// The state after log-in: user 0, not protected and no search open, as in the closed state.
 fn logged_in(geometry: Geometry, held: [u64; 4]) -> Drive
     ensures { λ r. ⌜ r ≡ loggedIn geometry held ⌝ }
 {
