@@ -5,3 +5,4 @@ pub mod LentLaws
 pub mod WriteLaws
 pub mod SearchLaws
 pub mod NamingLaws
+pub mod FoundLaws

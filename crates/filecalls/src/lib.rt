@@ -3,6 +3,7 @@ use answers::Answer;
 use reading::Kept;
 use volume::Geometry;
 
+mod login;
 mod naming;
 mod opening;
 mod reads;

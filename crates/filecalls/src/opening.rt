@@ -2,10 +2,11 @@
 ghost use mathlib.Core.Path.{_≡_};
 ghost use mathlib.Core.List.{List, []};
 ghost use Rattle.filecalls.specs.Outcome.{outcome, left};
-ghost use Rattle.filecalls.specs.Open.{openAct};
+ghost use Rattle.filecalls.specs.Open.{openAct, closeAct, sizeAct};
 use crate::Drive;
 use crate::Reply;
 use answers::Refusal;
+use volume::Wanted;
 
 impl Drive {
     // Function 15: shows the entry that the control block means.
@@ -24,6 +25,44 @@ impl Drive {
         let slot = reading::open::open_file(g, volume, f, self.user);
         if slot < g.slots() {
             return self.done((slot % 4) as u8);
+        }
+        self.refused(Refusal::NoMatch)
+    }
+
+    // Function 16: the group has an entry; nothing is changed.
+    pub fn close_file(self, volume: &[u8], f: &[u8]) -> Reply
+        ensures { λ r. ⌜ left r (now (volume .entry)) (now (f .entry)) [] ≡ outcome self (now (volume .entry)) (now (f .entry)) [] (closeAct self (now (volume .entry)) (now (f .entry))) ⌝ }
+    {
+        let why = self.named_why(volume, f, 128, false);
+        if !answers::is_none(why) {
+            return self.refused(why);
+        }
+        let fits = (f[12] <= 31) & (f[14] <= 15);
+        if !fits {
+            return self.refused(Refusal::Position);
+        }
+        let g = self.geometry;
+        let slot = reading::open::slot_to_close(g, volume, f, self.user);
+        if slot < g.slots() {
+            return self.done((slot % 4) as u8);
+        }
+        self.refused(Refusal::NoMatch)
+    }
+
+    // Function 35: the file's size in r0 r1 r2.
+    pub fn file_size(self, volume: &[u8], f: &mut [u8]) -> Reply
+        ensures { λ r. ⌜ left r (now (volume .entry)) (now (f .exit)) [] ≡ outcome self (now (volume .entry)) (now (f .entry)) [] (sizeAct self (now (volume .entry)) (now (f .entry))) ⌝ }
+    {
+        let why = self.named_why(volume, f, 128, false);
+        if !answers::is_none(why) {
+            return self.refused(why);
+        }
+        let g = self.geometry;
+        let slot = volume::directory::find(g, volume, self.user, &f[1..12], Wanted::File);
+        if slot < g.slots() {
+            let size = reading::size::size_of(g, volume, self.user, &f[1..12]);
+            control::set_random(f, size);
+            return self.done(0);
         }
         self.refused(Refusal::NoMatch)
     }

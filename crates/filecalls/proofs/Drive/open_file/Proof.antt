@@ -1,18 +1,12 @@
-use Prim.Native.Nat.{_<_, _≤_}
-use Rattle.filecalls.proofs.OutcomeLaws.{stops-then, goes-on, stops-here, goes-by, all-passed, says-no, says-done, refused-at}
-use Rattle.filecalls.proofs.StateLaws.{Named, named, no-buffer}
+-- Each return stands at its test of the ladder; the last one asks whether the slot was found.
+use Rattle.filecalls.proofs.FoundLaws.{named-no, position-no, position-passed, found, not-found}
+use Rattle.filecalls.proofs.StateLaws.{Named, named}
 use Rattle.filecalls.specs.Open.{openAct, openTests}
-use Rattle.filecalls.specs.Lent.{plainTests}
-use Rattle.answers.specs.declared.Refusal.the-variants.{Position, NoMatch}
-use Rattle.reading.specs.Open.{openSlot}
-use Rattle.control.specs.Block.{exFits}
-use Rattle.volume.specs.Geometry.{slots}
-use borrow.Author.Tests.{lt-ltb, le-ltb, le-leb, lt-leb}
+use borrow.Author.Tests.{lt-ltb, le-ltb}
 use denote.Ref.{now}
 use native.Mathlib.Omega.{arith}
-use mathlib.Core.List.{[]}
-use mathlib.Core.Bool.{true, not}
-use mathlib.Core.Path.{refl, _∙_}
+use mathlib.Core.Bool.{true}
+use mathlib.Core.Path.{_∙_}
 use borrow.Author.Needs.{needs}
 use Rattle.filecalls.proofs.Drive.open_file.Statement.{statement}
 use Rattle.filecalls.proofs.Drive.open_file.Tie as tie
@@ -34,10 +28,7 @@ same-length c = search needs
 
 returns : tie.Need-returns
 unfolding openAct openTests
-returns c =
-    let a = c .before .before .before .before .before .before .before .args in
-    refused-at (a .self) (now (a .volume)) (now (a .f)) [] (plainTests (a .self) (now (a .volume)) (now (a .f)) true) _ _
-    (c .before .before .before .named-why .ensures ∙ no-buffer _ _ _ true) (c .before .before .is-none .ensures) (c .before .if1 .taken) (c .refused .ensures)
+returns c = named-no _ _ _ true _ _ (c .before .before .before .named-why .ensures) (c .before .before .is-none .ensures) (c .before .if1 .taken) (c .refused .ensures)
 
 slice-read-fits : tie.Need-slice-read-fits
 slice-read-fits c = omega (arith, clear (c .before) .lent .block)
@@ -50,11 +41,7 @@ same-length-2 c = search needs
 
 returns-2 : tie.Need-returns-2
 unfolding openAct openTests
-returns-2 c =
-    let a = c .before .before .before .before .before .before .before .before .before .args in
-    says-no (a .self) (now (a .volume)) (now (a .f)) []
-    (stops-then (plainTests (a .self) (now (a .volume)) (now (a .f)) true) Position (not (exFits (now (a .f)))) _ _ (clear (c .before .before .before) .none) (c .before .if2 .taken) refl)
-    (c .refused2 .ensures)
+returns-2 c = position-no (clear (c .before .before .before)) _ _ (c .before .if2 .taken) (c .refused2 .ensures)
 
 open-file-requires : tie.Need-open-file-requires
 open-file-requires c κs = let l = clear (c .before .before .before .before) .lent in (l .state .law, (l .volume, l .block))
@@ -74,14 +61,10 @@ same-length-3 c = search needs
 returns-3 : tie.Need-returns-3
 unfolding openAct openTests
 returns-3 c =
-    let a = c .before .before .before .before .before .before .before .before .before .before .before .before .before .before .before .before .args in
-    let s = c .before .before .before .before .before .open-file .ensures .0 .0 in
-    let h : openSlot (a .self .geometry) (now (a .volume)) (a .self .user) (now (a .f)) < slots (a .self .geometry) = omega (arith, c .before .if3 .taken, s, c .before .before .slots .ensures .0) in
-    rw (c .before .before .before .before .before .open-file .ensures .1, s, lt-ltb _ _ h)
-    (says-done (a .self) (now (a .volume)) (now (a .f)) [] _ []
-    (goes-on (plainTests (a .self) (now (a .volume)) (now (a .f)) true) Position (not (exFits (now (a .f)))) _ _ (clear (c .before .before .before .before .before .before .before .before .before .before) .none) (c .before .before .before .before .before .before .before .before .if2 .left)
-    ∙ goes-by NoMatch _ [] _ (lt-leb _ _ h) ∙ all-passed _)
-    (c .done .ensures ∙ rw s))
+    let n = c .before .before .slots .ensures .0 in
+    let e = c .before .before .before .before .before .open-file .ensures in
+    found _ _ _ (position-passed (clear (c .before .before .before .before .before .before .before .before .before .before)) (c .before .before .before .before .before .before .before .before .if2 .left)) n (e .0 .0) (c .before .if3 .taken) (c .done .ensures ∙ rw (e .0 .0))
+    (e .1 ∙ rw (← n, lt-ltb _ _ (c .before .if3 .taken), e .0 .0))
 
 refused-requires-3 : tie.Need-refused-requires-3
 refused-requires-3 c κs = search needs
@@ -92,14 +75,9 @@ same-length-4 c = search needs
 returns-4 : tie.Need-returns-4
 unfolding openAct openTests
 returns-4 c =
-    let a = c .before .before .before .before .before .before .before .before .before .before .before .before .before .before .before .before .args in
-    let s = c .before .before .before .before .before .open-file .ensures .0 .0 in
-    let h : slots (a .self .geometry) ≤ openSlot (a .self .geometry) (now (a .volume)) (a .self .user) (now (a .f)) = omega (arith, c .before .if3 .left, s, c .before .before .slots .ensures .0) in
-    rw (c .before .before .before .before .before .open-file .ensures .1, s, le-ltb _ _ h)
-    (says-no (a .self) (now (a .volume)) (now (a .f)) []
-    (goes-on (plainTests (a .self) (now (a .volume)) (now (a .f)) true) Position (not (exFits (now (a .f)))) _ _ (clear (c .before .before .before .before .before .before .before .before .before .before) .none) (c .before .before .before .before .before .before .before .before .if2 .left)
-    ∙ stops-here NoMatch _ [] _ (le-leb _ _ h) refl)
-    (c .refused3 .ensures))
+    let n = c .before .before .slots .ensures .0 in
+    let e = c .before .before .before .before .before .open-file .ensures in
+    not-found _ _ _ _ (position-passed (clear (c .before .before .before .before .before .before .before .before .before .before)) (c .before .before .before .before .before .before .before .before .if2 .left)) n (e .0 .0) (c .before .if3 .left) (c .refused3 .ensures) (e .1 ∙ rw (← n, le-ltb _ _ (c .before .if3 .left)))
 
 pub open-file-spec : {M : Type 1} → statement M
 open-file-spec =

@@ -1,0 +1,55 @@
+// Log-in (13 and 37): inspects the volume and opens the drive.
+ghost use mathlib.Core.Path.{_≡_};
+ghost use Rattle.filecalls.specs.declared.Reply.{Reply};
+ghost use Rattle.filecalls.specs.State.{closed, loggedIn};
+ghost use Rattle.filecalls.specs.LogIn.{logIn};
+use crate::Drive;
+use crate::Reply;
+use crate::state;
+use answers::Answer;
+use answers::Refusal;
+use volume::Geometry;
+
+// The state after log-in: user 0, not protected and no search open, as in the closed state.
+fn logged_in(geometry: Geometry, held: [u64; 4]) -> Drive
+    ensures { λ r. ⌜ r ≡ loggedIn geometry held ⌝ }
+{
+    let mut drive = state::closed_drive();
+    drive.geometry = geometry;
+    drive.held = held;
+    drive
+}
+
+// A refused log-in: the closed state.
+fn closed_reply(answer: Answer) -> Reply
+    ensures { λ r. ⌜ r ≡ record { answer = answer; drive = closed } ⌝ }
+{
+    let drive = state::closed_drive();
+    Reply { answer, drive }
+}
+
+impl Drive {
+    // Functions 13 and 37: the free blocks and the state that calls take, or the lowest bad slot and the closed state.
+    pub fn log_in(g: Geometry, volume: &[u8]) -> Reply
+        ensures { λ r. ⌜ r ≡ logIn g (now (volume .entry)) ⌝ }
+    {
+        if !g.is_lawful() {
+            return closed_reply(Answer::Refused(Refusal::Closed));
+        }
+        let whole = volume.len() == g.bytes();
+        if !whole {
+            return closed_reply(Answer::Refused(Refusal::VolumeLength));
+        }
+        let found = inspection::inspect(g, volume);
+        if found.slot < g.slots() {
+            return closed_reply(Answer::BadSlot(found.slot));
+        }
+        let held = found.held;
+        let free = blocks::free_count(held, g.directory, g.total);
+        let drive = logged_in(g, held);
+        Reply {
+            answer: Answer::Ready(free),
+            drive,
+        }
+    }
+}
