@@ -51,6 +51,9 @@ pub record Asked : Type 0 where
   pub block : List ℕ
   pub buffer : List ℕ
 
+abbrev pub asked : ℕ → ℕ → List ℕ → List ℕ → Asked
+asked n p f b = record { function = n; parameter = p; block = f; buffer = b }
+
 -- what a call is not lent stays as it is
 abbrev pub keepsBuffer : List ℕ → Outcome → Outcome
 keepsBuffer b o = record { answer = o .answer; drive = o .drive; volume = o .volume; block = o .block; buffer = b }
