@@ -8,18 +8,11 @@ use Prim.Native.Nat.{ℕ, zero, suc}
 use lib.ListN.{replicate}
 use Rattle.volume.specs.declared.Geometry.{Geometry}
 use Rattle.examples.specs.Script.{logIn, make, rename, read, write, size, done, free, refused, Line, call, slotsAre, volumeAt, blockAt, bufferAt, Script, script, seen, told}
-use Rattle.examples.specs.Pieces.{entry, empty, control, fresh, recordOf, renaming, filled, old}
-
--- SIGLA.TXT, and the new file: LEMMATA.TXT
-abbrev pub sigla : List ℕ
-sigla = 83 ∷ 73 ∷ 71 ∷ 76 ∷ 65 ∷ 32 ∷ 32 ∷ 32 ∷ 84 ∷ 88 ∷ 84 ∷ []
-
-abbrev pub lemmata : List ℕ
-lemmata = 76 ∷ 69 ∷ 77 ∷ 77 ∷ 65 ∷ 84 ∷ 65 ∷ 32 ∷ 84 ∷ 88 ∷ 84 ∷ []
+use Rattle.examples.specs.Pieces.{sigla, lemmata, sized, entry, empty, control, fresh, recordOf, renaming, filled, old}
 
 -- "Volume V: B 1,024, T 40, D 1, directory all E5H."
 abbrev pub geometryV : Geometry
-geometryV = record { block = 1024; total = 40; directory = 1 }
+geometryV = sized 1024 40 1
 
 abbrev pub volumeV : List ℕ
 volumeV = empty 32 ++ old 1024 39936
@@ -98,7 +91,7 @@ onV =
 
 -- "B 2,048": here with T 3, D 1, and an empty directory
 abbrev pub geometry2048 : Geometry
-geometry2048 = record { block = 2048; total = 3; directory = 1 }
+geometry2048 = sized 2048 3 1
 
 abbrev pub volume2048 : List ℕ
 volume2048 = empty 64 ++ old 2048 4096
@@ -125,7 +118,7 @@ on2048 =
 
 -- "No empty slot and no free block": here T 2, D 1; the slots are extents 0 to 31 of one file, the first has block 1
 abbrev pub geometryFull : Geometry
-geometryFull = record { block = 1024; total = 2; directory = 1 }
+geometryFull = sized 1024 2 1
 
 unfoldable pub extentsFrom : ℕ → ℕ → List ℕ
 extentsFrom ex zero = []
