@@ -2,6 +2,18 @@
 use mathlib.Core.List.{List, [], _∷_, _++_}
 use Prim.Native.Nat.{ℕ, zero, suc, _+_, _*_, _/_, _%_}
 use lib.ListN.{replicate, take}
+use Rattle.volume.specs.declared.Geometry.{Geometry}
+
+-- the names SIGLA.TXT and LEMMATA.TXT
+abbrev pub sigla : List ℕ
+sigla = 83 ∷ 73 ∷ 71 ∷ 76 ∷ 65 ∷ 32 ∷ 32 ∷ 32 ∷ 84 ∷ 88 ∷ 84 ∷ []
+
+abbrev pub lemmata : List ℕ
+lemmata = 76 ∷ 69 ∷ 77 ∷ 77 ∷ 65 ∷ 84 ∷ 65 ∷ 32 ∷ 84 ∷ 88 ∷ 84 ∷ []
+
+-- a geometry: B, T, D
+abbrev pub sized : ℕ → ℕ → ℕ → Geometry
+sized b t d = record { block = b; total = t; directory = d }
 
 -- a map, by its first places: the others are 0
 abbrev pub sixteen : List ℕ → List ℕ

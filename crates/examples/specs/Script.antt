@@ -101,14 +101,18 @@ refused number = 0 ∷ number ∷ 0 ∷ []
 abbrev pub badSlot : ℕ → List ℕ
 badSlot slot = 0 ∷ 36 ∷ slot ∷ []
 
--- A line of a script: a call with what it answers, or something to be seen after the last call: the number of slots, the
--- bytes from a place on of the volume, of the control block, of the transfer buffer.
+-- A line of a script: a call with what it answers; another volume that is lent from here on; or something to be seen after
+-- the last call: the number of slots, the words of the held blocks, bytes of the volume or of the control block from a
+-- place on, the whole control block, the whole transfer buffer.
 pub data Line : Type 0 where
   call : Call → List ℕ → Line
+  altered : List ℕ → Line
   slotsAre : ℕ → Line
+  heldAre : List ℕ → Line
   volumeAt : ℕ → List ℕ → Line
   blockAt : ℕ → List ℕ → Line
-  bufferAt : ℕ → List ℕ → Line
+  blockIs : List ℕ → Line
+  bufferIs : List ℕ → Line
 
 -- what the lines show by the definitions, after a last call that left o
 unfoldable pub seenAfter : Outcome → List Line → List (List ℕ)
@@ -116,19 +120,26 @@ seenAfter o [] = []
 seenAfter o (call c answer ∷ ls) =
     let next : Outcome = perform c (o .drive) (o .volume) in
     answered (next .answer) ∷ seenAfter next ls
+seenAfter o (altered v ∷ ls) =
+    seenAfter (record { answer = o .answer; drive = o .drive; volume = v; block = o .block; buffer = o .buffer }) ls
 seenAfter o (slotsAre n ∷ ls) = (slots (o .drive .geometry) ∷ []) ∷ seenAfter o ls
+seenAfter o (heldAre l ∷ ls) = o .drive .held ∷ seenAfter o ls
 seenAfter o (volumeAt a l ∷ ls) = part (o .volume) a (length l) ∷ seenAfter o ls
 seenAfter o (blockAt a l ∷ ls) = part (o .block) a (length l) ∷ seenAfter o ls
-seenAfter o (bufferAt a l ∷ ls) = part (o .buffer) a (length l) ∷ seenAfter o ls
+seenAfter o (blockIs l ∷ ls) = o .block ∷ seenAfter o ls
+seenAfter o (bufferIs l ∷ ls) = o .buffer ∷ seenAfter o ls
 
 -- what the lines say
 unfoldable pub toldBy : List Line → List (List ℕ)
 toldBy [] = []
 toldBy (call c answer ∷ ls) = answer ∷ toldBy ls
+toldBy (altered v ∷ ls) = toldBy ls
 toldBy (slotsAre n ∷ ls) = (n ∷ []) ∷ toldBy ls
+toldBy (heldAre l ∷ ls) = l ∷ toldBy ls
 toldBy (volumeAt a l ∷ ls) = l ∷ toldBy ls
 toldBy (blockAt a l ∷ ls) = l ∷ toldBy ls
-toldBy (bufferAt a l ∷ ls) = l ∷ toldBy ls
+toldBy (blockIs l ∷ ls) = l ∷ toldBy ls
+toldBy (bufferIs l ∷ ls) = l ∷ toldBy ls
 
 -- A script: a volume, and lines that begin with it and with the closed state.
 pub record Script : Type 0 where

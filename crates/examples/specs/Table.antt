@@ -7,19 +7,12 @@ use mathlib.Core.List.{List, [], _∷_, _++_}
 use Prim.Native.Nat.{ℕ, zero, suc}
 use lib.ListN.{replicate}
 use Rattle.volume.specs.declared.Geometry.{Geometry}
-use Rattle.examples.specs.Script.{logIn, make, rename, read, write, size, done, free, refused, Line, call, slotsAre, volumeAt, blockAt, bufferAt, Script, script, seen, told}
-use Rattle.examples.specs.Pieces.{entry, empty, control, fresh, recordOf, renaming, filled, old}
-
--- SIGLA.TXT, and the new file: LEMMATA.TXT
-abbrev pub sigla : List ℕ
-sigla = 83 ∷ 73 ∷ 71 ∷ 76 ∷ 65 ∷ 32 ∷ 32 ∷ 32 ∷ 84 ∷ 88 ∷ 84 ∷ []
-
-abbrev pub lemmata : List ℕ
-lemmata = 76 ∷ 69 ∷ 77 ∷ 77 ∷ 65 ∷ 84 ∷ 65 ∷ 32 ∷ 84 ∷ 88 ∷ 84 ∷ []
+use Rattle.examples.specs.Script.{logIn, make, rename, read, write, size, done, free, refused, Line, call, slotsAre, volumeAt, blockAt, blockIs, bufferIs, Script, script, seen, told}
+use Rattle.examples.specs.Pieces.{sigla, lemmata, sized, entry, empty, control, fresh, recordOf, renaming, filled, old}
 
 -- "Volume V: B 1,024, T 40, D 1, directory all E5H."
 abbrev pub geometryV : Geometry
-geometryV = record { block = 1024; total = 40; directory = 1 }
+geometryV = sized 1024 40 1
 
 abbrev pub volumeV : List ℕ
 volumeV = empty 32 ++ old 1024 39936
@@ -39,7 +32,7 @@ onV =
     -- "Make SIGLA.TXT: code 0."
     ∷ call (make (fresh sigla)) (done 0)
     ∷ volumeAt 0 (entry 0 sigla 0 0 0 [] ++ empty 31)
-    ∷ blockAt 0 (fresh sigla)
+    ∷ blockIs (fresh sigla)
     -- "Again: 43."
     ∷ call (make (fresh sigla)) (refused 43)
     ∷ volumeAt 0 (entry 0 sigla 0 0 0 [] ++ empty 31)
@@ -50,38 +43,38 @@ onV =
     ∷ call (write (recordOf sigla 0) (filled 7)) (done 0)
     ∷ volumeAt 0 (entry 0 sigla 0 0 1 (1 ∷ []) ++ empty 31)
     ∷ volumeAt 1024 (filled 7 ++ old 1152 1920)
-    ∷ blockAt 0 (control sigla 0 0 1 (1 ∷ []) 0 0)
+    ∷ blockIs (control sigla 0 0 1 (1 ∷ []) 0 0)
     -- "Then write 20: place 2, block 2, bytes at 2,560, rc 21."
     ∷ call (write (recordOf sigla 20) (filled 8)) (done 0)
     ∷ volumeAt 0 (entry 0 sigla 0 0 21 blocks1and2 ++ empty 31)
     ∷ volumeAt 1024 (filled 7 ++ old 1152 1408)
     ∷ volumeAt 2560 (filled 8 ++ old 2688 1408)
-    ∷ blockAt 0 (control sigla 0 0 21 blocks1and2 20 20)
+    ∷ blockIs (control sigla 0 0 21 blocks1and2 20 20)
     -- "Read 8: 1."
     ∷ call (read (recordOf sigla 8) (filled 0)) (refused 1)
-    ∷ blockAt 0 (recordOf sigla 8)
-    ∷ bufferAt 0 (filled 0)
+    ∷ blockIs (recordOf sigla 8)
+    ∷ bufferIs (filled 0)
     -- "Read 21: 1."
     ∷ call (read (recordOf sigla 21) (filled 0)) (refused 1)
-    ∷ blockAt 0 (recordOf sigla 21)
-    ∷ bufferAt 0 (filled 0)
+    ∷ blockIs (recordOf sigla 21)
+    ∷ bufferIs (filled 0)
     -- "Read 16: present, old bytes of block 2."
     ∷ call (read (recordOf sigla 16) (filled 0)) (done 0)
-    ∷ blockAt 0 (control sigla 0 0 21 blocks1and2 16 16)
-    ∷ bufferAt 0 (old 2048 128)
+    ∷ blockIs (control sigla 0 0 21 blocks1and2 16 16)
+    ∷ bufferIs (old 2048 128)
     -- "Read 128: 4."
     ∷ call (read (recordOf sigla 128) (filled 0)) (refused 4)
-    ∷ blockAt 0 (recordOf sigla 128)
-    ∷ bufferAt 0 (filled 0)
+    ∷ blockIs (recordOf sigla 128)
+    ∷ bufferIs (filled 0)
     -- "Write 128: slot 1, ex 1, rc 1, block 3."
     ∷ call (write (recordOf sigla 128) (filled 9)) (done 0)
     ∷ volumeAt 0 (entry 0 sigla 0 0 21 blocks1and2)
     ∷ volumeAt 32 (entry 0 sigla 1 0 1 (3 ∷ []) ++ empty 30)
     ∷ volumeAt 3072 (filled 9 ++ old 3200 1920)
-    ∷ blockAt 0 (control sigla 1 0 1 (3 ∷ []) 0 128)
+    ∷ blockIs (control sigla 1 0 1 (3 ∷ []) 0 128)
     -- "Size 129."
     ∷ call (size (fresh sigla)) (done 0)
-    ∷ blockAt 0 (recordOf sigla 129)
+    ∷ blockIs (recordOf sigla 129)
     ∷ blockAt 33 (129 ∷ 0 ∷ 0 ∷ [])
     -- "Write 65,535 in a new file: ex 31, s2 15, rc 128, place 15; size bytes 0, 0, 1."
     ∷ call (make (fresh lemmata)) (done 2)
@@ -90,15 +83,15 @@ onV =
     ∷ volumeAt 64 (entry 0 lemmata 0 0 0 [])
     ∷ volumeAt 96 (entry 0 lemmata 31 15 128 block4in15 ++ empty 28)
     ∷ volumeAt 4096 (old 4096 896 ++ filled 10 ++ old 5120 1024)
-    ∷ blockAt 0 (control lemmata 31 15 128 block4in15 127 65535)
+    ∷ blockIs (control lemmata 31 15 128 block4in15 127 65535)
     ∷ call (size (fresh lemmata)) (done 0)
-    ∷ blockAt 0 (recordOf lemmata 65536)
+    ∷ blockIs (recordOf lemmata 65536)
     ∷ blockAt 33 (0 ∷ 0 ∷ 1 ∷ [])
     ∷ []
 
 -- "B 2,048": here with T 3, D 1, and an empty directory
 abbrev pub geometry2048 : Geometry
-geometry2048 = record { block = 2048; total = 3; directory = 1 }
+geometry2048 = sized 2048 3 1
 
 abbrev pub volume2048 : List ℕ
 volume2048 = empty 64 ++ old 2048 4096
@@ -116,16 +109,16 @@ on2048 =
     ∷ call (write (recordOf lemmata 200) (filled 7)) (done 0)
     ∷ volumeAt 0 (entry 0 lemmata 1 0 73 block1in12 ++ empty 63)
     ∷ volumeAt 2048 (old 2048 1024 ++ filled 7 ++ old 3200 2944)
-    ∷ blockAt 0 (control lemmata 1 0 73 block1in12 72 200)
+    ∷ blockIs (control lemmata 1 0 73 block1in12 72 200)
     -- "Read 5: 1."
     ∷ call (read (recordOf lemmata 5) (filled 0)) (refused 1)
-    ∷ blockAt 0 (recordOf lemmata 5)
-    ∷ bufferAt 0 (filled 0)
+    ∷ blockIs (recordOf lemmata 5)
+    ∷ bufferIs (filled 0)
     ∷ []
 
 -- "No empty slot and no free block": here T 2, D 1; the slots are extents 0 to 31 of one file, the first has block 1
 abbrev pub geometryFull : Geometry
-geometryFull = record { block = 1024; total = 2; directory = 1 }
+geometryFull = sized 1024 2 1
 
 unfoldable pub extentsFrom : ℕ → ℕ → List ℕ
 extentsFrom ex zero = []
@@ -141,7 +134,7 @@ onFull =
     ∷ slotsAre 32
     ∷ call (write (recordOf sigla 4096) (filled 7)) (refused 5)
     ∷ volumeAt 0 volumeFull
-    ∷ blockAt 0 (recordOf sigla 4096)
+    ∷ blockIs (recordOf sigla 4096)
     ∷ []
 
 abbrev pub table : List Script
