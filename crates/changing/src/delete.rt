@@ -14,9 +14,6 @@ use volume::Wanted;
 use volume::directory;
 use volume::entry;
 
-// Places of an entry's map.
-const PLACES: usize = 16;
-
 // Why the entries that match can't be deleted. A read-only match is sought from the first match on.
 pub fn delete_why(g: Geometry, volume: &[u8], user: u8, pattern: &[u8]) -> Refusal
     requires { ⌜ (lawful g ≡ true) × ((length (now volume) ≡ bytes g) × (length (now pattern) ≡ 11)) ⌝ }
@@ -47,9 +44,10 @@ fn free_entry(g: Geometry, e: &[u8], held: [u64; 4]) -> [u64; 4]
     requires { ⌜ length (now e) ≡ 32 ⌝ }
     ensures { λ r. ⌜ r ≡ freeEntry g (now (e .entry)) held ⌝ }
 {
+    let n = g.places();
     let mut rest = held;
     let mut p = 0;
-    while p < PLACES {
+    while p < n {
         let next = free_place(g, e, rest, p);
         rest = next;
         p += 1;

@@ -18,9 +18,6 @@ use volume::names;
 
 mod seen;
 
-// Places of an entry's map.
-const PLACES: usize = 16;
-
 // The lowest bad slot, the number of slots where none is bad; then the held blocks too.
 pub struct Inspected {
     pub slot: usize,
@@ -78,9 +75,10 @@ fn take_map(g: Geometry, volume: &[u8], i: usize, before: [u64; 4]) -> Taken
     ensures { λ r. ⌜ (r .good ≡ true → r .held ≡ wordsOf (heldUpTo g (now (volume .entry)) i (places g))) ⌝ }
 {
     let at = g.slot_start(i);
+    let n = g.places();
     let mut held = before;
     let mut p = 0;
-    while p < PLACES {
+    while p < n {
         let b = entry::block_in(g, &volume[at..at + 32], p);
         if b != 0 {
             if !g.is_inside(b) | blocks::is_held(held, b) {

@@ -119,6 +119,13 @@ impl Geometry {
         x / self.extents()
     }
 
+    // How many places an entry's map has.
+    pub fn places(self) -> usize
+        ensures { λ r. ⌜ (r ≡ places self) × (r ≤ 16) ⌝ }
+    {
+        16
+    }
+
     // The map place of record n.
     pub fn place(self, n: usize) -> usize
         requires { ⌜ lawful self ≡ true ⌝ }
