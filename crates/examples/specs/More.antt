@@ -10,7 +10,7 @@ use Rattle.volume.specs.Geometry.{lawful}
 use Rattle.volume.specs.Name.{strip, nameAt, goodName}
 use Rattle.lists.specs.Bytes.{part, all}
 use Rattle.blocks.specs.Held.{hold, release, wordsOf, noneHeld, lowestFree, freeCount}
-use Rattle.changing.specs.Delete.{freeMatches}
+use Rattle.naming.specs.Delete.{freeMatches}
 use Rattle.reading.specs.declared.Kept.{Kept}
 use Rattle.reading.specs.declared.Kept.the-variants.{Nothing, Pattern, Everything}
 use Rattle.filecalls.specs.declared.Drive.{Drive}

@@ -26,11 +26,11 @@ use Rattle.reading.specs.Open.{openSlot, closeSlot}
 use Rattle.reading.specs.Search.{patternOf, hitFrom}
 use Rattle.reading.specs.Size.{entryEnd, larger, sizeOf}
 use Rattle.reading.specs.Read.{readBlock, readTests, readBytes}
-use Rattle.changing.specs.Sweep.{renamed, attributed, changed}
-use Rattle.changing.specs.Delete.{deleteTests, freePlace, freeEntry, freeSlot, freeMatches}
-use Rattle.changing.specs.Make.{makeTests, freshEntry}
-use Rattle.changing.specs.Rename.{renameTests}
-use Rattle.changing.specs.Write.{alloc, likeEntry, grown, writeSlot, baseEntry, needsBlock, writeBlock, writtenEntry, writeTests}
+use Rattle.naming.specs.Sweep.{renamed, attributed, changed}
+use Rattle.naming.specs.Delete.{deleteTests, freePlace, freeEntry, freeSlot, freeMatches}
+use Rattle.naming.specs.Make.{makeTests, freshEntry}
+use Rattle.naming.specs.Rename.{renameTests}
+use Rattle.writing.specs.Write.{alloc, likeEntry, grown, writeSlot, baseEntry, needsBlock, writeBlock, writtenEntry, writeTests}
 use Rattle.filecalls.specs.declared.Drive.{Drive}
 use Rattle.filecalls.specs.State.{isOpen, closed}
 use Rattle.filecalls.specs.Outcome.{Outcome, outcome, left, unless, stored, storedAll, changedState}

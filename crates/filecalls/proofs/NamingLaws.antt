@@ -8,8 +8,8 @@ use Rattle.volume.specs.Directory.{putSlot, mapSlots}
 use Rattle.answers.specs.declared.Refusal.{Refusal}
 use Rattle.answers.specs.declared.Answer.the-variants.{Done, Refused}
 use Rattle.answers.specs.Refusal.{Test, isNone, firstMet}
-use Rattle.changing.specs.declared.Edit.the-variants.{Erase}
-use Rattle.changing.specs.Sweep.{changed}
+use Rattle.naming.specs.declared.Edit.the-variants.{Erase}
+use Rattle.naming.specs.Sweep.{changed}
 use Rattle.filecalls.specs.declared.Drive.{Drive}
 use Rattle.filecalls.specs.declared.Reply.{Reply}
 use Rattle.filecalls.specs.Outcome.{Change, entryTo, eachEntry, Act, deny, done, unless, outcome, left, changedState, stored, storedAll}

@@ -11,11 +11,11 @@ use Rattle.volume.specs.Directory.{findSlot}
 use Rattle.control.specs.Block.{newName, made}
 use Rattle.answers.specs.declared.Refusal.the-variants.{NoMatch}
 use Rattle.answers.specs.Refusal.{Test, test}
-use Rattle.changing.specs.declared.Edit.the-variants.{Erase, Rename, Attributes}
-use Rattle.changing.specs.Sweep.{changed}
-use Rattle.changing.specs.Delete.{deleteTests}
-use Rattle.changing.specs.Make.{makeTests, freshEntry}
-use Rattle.changing.specs.Rename.{renameTests}
+use Rattle.naming.specs.declared.Edit.the-variants.{Erase, Rename, Attributes}
+use Rattle.naming.specs.Sweep.{changed}
+use Rattle.naming.specs.Delete.{deleteTests}
+use Rattle.naming.specs.Make.{makeTests, freshEntry}
+use Rattle.naming.specs.Rename.{renameTests}
 use Rattle.filecalls.specs.declared.Drive.{Drive}
 use Rattle.filecalls.specs.Tests.{closedState, volumeLength, blockLength, driveCode, badName, tooLarge, protectedDrive}
 use Rattle.filecalls.specs.Outcome.{keeps, frees, entryTo, eachEntry, Act, done, unless}

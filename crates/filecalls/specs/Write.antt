@@ -8,7 +8,7 @@ use Rattle.lists.specs.Bytes.{byte}
 use Rattle.volume.specs.Name.{nameOf}
 use Rattle.control.specs.Block.{position, random, setTo}
 use Rattle.answers.specs.Refusal.{Test}
-use Rattle.changing.specs.Write.{writeSlot, baseEntry, needsBlock, writeBlock, writtenEntry, writeTests}
+use Rattle.writing.specs.Write.{writeSlot, baseEntry, needsBlock, writeBlock, writtenEntry, writeTests}
 use Rattle.filecalls.specs.declared.Drive.{Drive}
 use Rattle.filecalls.specs.Tests.{closedState, volumeLength, blockLength, driveCode, badName, beyond, protectedDrive}
 use Rattle.filecalls.specs.Outcome.{Change, keeps, takes, recordTo, entryTo, Act, done, unless}

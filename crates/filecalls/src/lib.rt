@@ -4,7 +4,7 @@ use reading::Kept;
 use volume::Geometry;
 
 mod login;
-mod naming;
+mod names;
 mod opening;
 mod reads;
 mod searching;

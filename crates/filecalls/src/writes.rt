@@ -22,7 +22,7 @@ impl Drive {
         }
         let g = self.geometry;
         let held = self.held;
-        let written = changing::write::write_record(g, volume, f, bytes, self.user, held, n, cr);
+        let written = writing::write::write_record(g, volume, f, bytes, self.user, held, n, cr);
         let why = written.why;
         if !answers::is_none(why) {
             return self.refused(why);

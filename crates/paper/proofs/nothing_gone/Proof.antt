@@ -51,7 +51,7 @@ show-requires-2 c κs = search needs
 
 -- src/main.rt:92:1
 same-length : tie.Need-same-length
-same-length c = c  .before .before .before .before .open-file2 .kept .1 .1 .0 ∙ c  .before .before .before .before .before .before .before .before .before .set2 .kept .0 ∙ c  .before .before .before .before .before .before .before .before .before .before .before .before .before .lay-name2 .kept .0 ∙ c  .before .before .before .before .before .before .before .before .before .before .before .before .before .before .before .before .before .before .before .before .open-file .kept .1 .1 .0 ∙ c  .before .before .before .before .before .before .before .before .before .before .before .before .before .before .before .before .before .before .before .before .before .before .before .before .set .kept .0 ∙ c  .before .before .before .before .before .before .before .before .before .before .before .before .before .before .before .before .before .before .before .before .before .before .before .before .before .before .before .before .lay-name .kept .0
+same-length c = c .before .before .before .before .open-file2 .kept .1 .1 .0 ∙ c .before .before .before .before .before .before .before .before .before .set2 .kept .0 ∙ c .before .before .before .before .before .before .before .before .before .before .before .before .before .lay-name2 .kept .0 ∙ c .before .before .before .before .before .before .before .before .before .before .before .before .before .before .before .before .before .before .before .before .open-file .kept .1 .1 .0 ∙ c .before .before .before .before .before .before .before .before .before .before .before .before .before .before .before .before .before .before .before .before .before .before .before .before .set .kept .0 ∙ c .before .before .before .before .before .before .before .before .before .before .before .before .before .before .before .before .before .before .before .before .before .before .before .before .before .before .before .before .lay-name .kept .0
 
 -- src/main.rt:92:1
 returns : tie.Need-returns

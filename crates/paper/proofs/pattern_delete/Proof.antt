@@ -65,11 +65,11 @@ show-requires-3 c κs = search needs
 
 -- src/main.rt:76:1
 same-length : tie.Need-same-length
-same-length c = c  .before .before .before .before .delete .kept .1 .0 ∙ c  .before .before .before .before .before .before .before .before .before .before .before .before .before .before .before .before .before .set-attributes .kept .1 .0 ∙ c  .before .before .before .before .before .before .before .before .before .before .before .before .before .before .before .before .before .before .before .before .before .before .before .before .before .before .before .before .before .before .before .make .kept .1 .0
+same-length c = c .before .before .before .before .delete .kept .1 .0 ∙ c .before .before .before .before .before .before .before .before .before .before .before .before .before .before .before .before .before .set-attributes .kept .1 .0 ∙ c .before .before .before .before .before .before .before .before .before .before .before .before .before .before .before .before .before .before .before .before .before .before .before .before .before .before .before .before .before .before .before .make .kept .1 .0
 
 -- src/main.rt:76:1
 same-length-2 : tie.Need-same-length-2
-same-length-2 c = c  .before .before .before .before .before .before .before .before .before .before .lay-name2 .kept .0 ∙ c  .before .before .before .before .before .before .before .before .before .before .before .before .before .before .before .before .before .before .before .before .before .before .before .set2 .kept .0 ∙ c  .before .before .before .before .before .before .before .before .before .before .before .before .before .before .before .before .before .before .before .before .before .before .before .before .before .before .before .before .before .before .before .make .kept .1 .1 .0 ∙ c  .before .before .before .before .before .before .before .before .before .before .before .before .before .before .before .before .before .before .before .before .before .before .before .before .before .before .before .before .before .before .before .before .before .before .before .before .set .kept .0 ∙ c  .before .before .before .before .before .before .before .before .before .before .before .before .before .before .before .before .before .before .before .before .before .before .before .before .before .before .before .before .before .before .before .before .before .before .before .before .before .before .before .before .lay-name .kept .0
+same-length-2 c = c .before .before .before .before .before .before .before .before .before .before .lay-name2 .kept .0 ∙ c .before .before .before .before .before .before .before .before .before .before .before .before .before .before .before .before .before .before .before .before .before .before .before .set2 .kept .0 ∙ c .before .before .before .before .before .before .before .before .before .before .before .before .before .before .before .before .before .before .before .before .before .before .before .before .before .before .before .before .before .before .before .make .kept .1 .1 .0 ∙ c .before .before .before .before .before .before .before .before .before .before .before .before .before .before .before .before .before .before .before .before .before .before .before .before .before .before .before .before .before .before .before .before .before .before .before .before .set .kept .0 ∙ c .before .before .before .before .before .before .before .before .before .before .before .before .before .before .before .before .before .before .before .before .before .before .before .before .before .before .before .before .before .before .before .before .before .before .before .before .before .before .before .before .lay-name .kept .0
 
 -- src/main.rt:76:1
 returns : tie.Need-returns

@@ -70,12 +70,12 @@ show-requires-3 c κs = search needs
 
 -- src/main.rt:59:1
 same-length : tie.Need-same-length
-same-length c = c  .before .before .before .before .before .before .write-sequential2 .kept .1 .0 ∙ c  .before .before .before .before .before .before .before .before .before .before .before .before .before .before .before .before .before .before .before .before .write-sequential .kept .1 .0 ∙ c  .before .before .before .before .before .before .before .before .before .before .before .before .before .before .before .before .before .before .before .before .before .before .before .before .before .before .before .before .before .before .before .before .before .before .make .kept .1 .0
+same-length c = c .before .before .before .before .before .before .write-sequential2 .kept .1 .0 ∙ c .before .before .before .before .before .before .before .before .before .before .before .before .before .before .before .before .before .before .before .before .write-sequential .kept .1 .0 ∙ c .before .before .before .before .before .before .before .before .before .before .before .before .before .before .before .before .before .before .before .before .before .before .before .before .before .before .before .before .before .before .before .before .before .before .make .kept .1 .0
 
 -- src/main.rt:59:1
 same-length-2 : tie.Need-same-length-2
 same-length-2 c =
-    c  .before .before .before .before .before .before .write-sequential2 .kept .1 .1 .0 ∙ c  .before .before .before .before .before .before .before .before .before .before .before .before .set2 .kept .0 ∙ c  .before .before .before .before .before .before .before .before .before .before .before .before .before .before .before .before .before .before .before .before .write-sequential .kept .1 .1 .0 ∙ c  .before .before .before .before .before .before .before .before .before .before .before .before .before .before .before .before .before .before .before .before .before .before .before .before .before .before .set .kept .0 ∙ c  .before .before .before .before .before .before .before .before .before .before .before .before .before .before .before .before .before .before .before .before .before .before .before .before .before .before .before .before .before .before .before .before .before .before .make .kept .1 .1 .0 ∙ c  .before .before .before .before .before .before .before .before .before .before .before .before .before .before .before .before .before .before .before .before .before .before .before .before .before .before .before .before .before .before .before .before .before .before .before .before .before .before .before .before .lay-name .kept .0
+    c .before .before .before .before .before .before .write-sequential2 .kept .1 .1 .0 ∙ c .before .before .before .before .before .before .before .before .before .before .before .before .set2 .kept .0 ∙ c .before .before .before .before .before .before .before .before .before .before .before .before .before .before .before .before .before .before .before .before .write-sequential .kept .1 .1 .0 ∙ c .before .before .before .before .before .before .before .before .before .before .before .before .before .before .before .before .before .before .before .before .before .before .before .before .before .before .set .kept .0 ∙ c .before .before .before .before .before .before .before .before .before .before .before .before .before .before .before .before .before .before .before .before .before .before .before .before .before .before .before .before .before .before .before .before .before .before .make .kept .1 .1 .0 ∙ c .before .before .before .before .before .before .before .before .before .before .before .before .before .before .before .before .before .before .before .before .before .before .before .before .before .before .before .before .before .before .before .before .before .before .before .before .before .before .before .before .lay-name .kept .0
 
 -- src/main.rt:59:1
 returns : tie.Need-returns

@@ -8,9 +8,9 @@ use native.Mathlib.Omega.{arith}
 use denote.Ref.{now}
 use Rattle.lists.specs.Bytes.{part}
 use Rattle.volume.specs.Name.{nameAt, nameOf}
-use Rattle.changing.specs.Delete.{deleteTests}
-use Rattle.changing.specs.Sweep.{changed}
-use Rattle.changing.specs.declared.Edit.the-variants.{Erase}
+use Rattle.naming.specs.Delete.{deleteTests}
+use Rattle.naming.specs.Sweep.{changed}
+use Rattle.naming.specs.declared.Edit.the-variants.{Erase}
 use Rattle.answers.specs.declared.Refusal.the-variants.{Protected}
 use Rattle.filecalls.specs.Lent.{plainTests}
 use Rattle.filecalls.specs.Names.{deleteAct, deleteLadder}

@@ -13,7 +13,7 @@ use Rattle.volume.specs.Directory.{findSlot}
 use Rattle.volume.specs.Name.{nameOf}
 use Rattle.volume.specs.declared.Wanted.the-variants.{Empty}
 use Rattle.control.specs.Block.{made}
-use Rattle.changing.specs.Make.{makeTests, freshEntry}
+use Rattle.naming.specs.Make.{makeTests, freshEntry}
 use Rattle.answers.specs.declared.Refusal.the-variants.{Position, Protected}
 use Rattle.filecalls.specs.Lent.{plainTests}
 use Rattle.filecalls.specs.Names.{makeAct, makeLadder}

@@ -9,9 +9,9 @@ use denote.Ref.{now}
 use Rattle.lists.specs.Bytes.{part}
 use Rattle.volume.specs.Name.{nameAt, nameOf, goodName}
 use Rattle.control.specs.Block.{newName}
-use Rattle.changing.specs.Rename.{renameTests}
-use Rattle.changing.specs.Sweep.{changed}
-use Rattle.changing.specs.declared.Edit.the-variants.{Rename}
+use Rattle.naming.specs.Rename.{renameTests}
+use Rattle.naming.specs.Sweep.{changed}
+use Rattle.naming.specs.declared.Edit.the-variants.{Rename}
 use Rattle.answers.specs.declared.Refusal.the-variants.{Name, Protected}
 use Rattle.filecalls.specs.Lent.{plainTests}
 use Rattle.filecalls.specs.Names.{renameAct, renameLadder}

@@ -14,8 +14,8 @@ use Rattle.volume.specs.Directory.{findSlot}
 use Rattle.volume.specs.Name.{nameAt, nameOf}
 use Rattle.volume.specs.Geometry.{slots}
 use Rattle.volume.specs.declared.Wanted.the-variants.{File}
-use Rattle.changing.specs.Sweep.{changed}
-use Rattle.changing.specs.declared.Edit.the-variants.{Attributes}
+use Rattle.naming.specs.Sweep.{changed}
+use Rattle.naming.specs.declared.Edit.the-variants.{Attributes}
 use Rattle.answers.specs.declared.Refusal.the-variants.{Protected, NoMatch}
 use Rattle.filecalls.specs.Lent.{plainTests}
 use Rattle.filecalls.specs.Names.{attributesAct, attributesLadder}

@@ -1,0 +1,4 @@
+// The writes, over what is lent to them.
+
+pub mod entries;
+pub mod write;
