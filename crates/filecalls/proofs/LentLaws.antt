@@ -1,7 +1,7 @@
 -- What the groups of tests that code asks first tell where they do not refuse.
-use mathlib.Core.Path.{_≡_, refl, sym, ap, _∙_}
-use mathlib.Core.Bool.{Bool, true, false, not, _&&_, false≢true}
-use mathlib.Core.List.{List, [], _∷_, _++_}
+use mathlib.Core.Path.{_≡_, refl}
+use mathlib.Core.Bool.{Bool, true, false, not, _&&_}
+use mathlib.Core.List.{List, [], _∷_}
 use Prim.Native.Nat.{ℕ, _<_, _≤_}
 use lib.Dec.{leb, eqb}
 use lib.ListN.{length}
@@ -12,33 +12,15 @@ use Rattle.lists.proofs.BoolLaws.{and-parts}
 use Rattle.control.specs.Block.{position, positionFits}
 use Rattle.answers.specs.declared.Refusal.{Refusal}
 use Rattle.answers.specs.declared.Refusal.the-variants.{Position, Beyond}
-use Rattle.answers.specs.Refusal.{Test, isNone, firstMet}
-use Rattle.answers.proofs.Ladder.{ladder-stop, ladder-pass, unmet}
+use Rattle.answers.specs.Refusal.{isNone, firstMet}
+use Rattle.answers.proofs.Ladder.{unmet}
 use Rattle.filecalls.specs.declared.Drive.{Drive}
 use Rattle.filecalls.specs.Tests.{tooLarge, beyond}
-use Rattle.filecalls.specs.Outcome.{Act, deny, unless}
 use Rattle.filecalls.specs.Ready.{Lent}
 use Rattle.filecalls.specs.Lent.{lentTests, namedTests, sequentialLent, randomLent}
 use Rattle.filecalls.specs.Read.{sequentialTests, randomTests}
 use Rattle.filecalls.proofs.OutcomeLaws.{clears}
-use Rattle.filecalls.proofs.StateLaws.{lent-clear, named-clear}
-
--- neither of two groups of tests refuses where both together do not
-pub both-clear : (xs ys : List Test) → isNone (firstMet (xs ++ ys)) ≡ true → (isNone (firstMet xs) ≡ true) × (isNone (firstMet ys) ≡ true)
-both-clear xs ys e = go (isNone (firstMet xs)) refl
-  where
-    go : (t : Bool) → isNone (firstMet xs) ≡ t → (isNone (firstMet xs) ≡ true) × (isNone (firstMet ys) ≡ true)
-    go true h = (h, ap isNone (sym (ladder-pass xs ys h)) ∙ e)
-    go false h = absurd (false≢true (sym h ∙ ap isNone (sym (ladder-stop xs ys h)) ∙ e))
-
--- a whole ladder refuses, and it does not
-pub denies : (ts : List Test) (act : Act) → isNone (firstMet ts) ≡ false → unless ts act ≡ deny (firstMet ts)
-unfolding unless
-denies ts act e = rw e
-
-pub does : (ts : List Test) (act : Act) → isNone (firstMet ts) ≡ true → unless ts act ≡ act
-unfolding unless
-does ts act e = rw e
+use Rattle.filecalls.proofs.StateLaws.{both-clear, lent-clear, named-clear}
 
 -- what code knows once `lent_why` has not refused
 pub record LengthsLent (d : Drive) (v f b : ℕ) : Type 0 where

@@ -1,7 +1,7 @@
 -- The calls on names: what their first and their last group of tests decide, and what an act of one store leaves.
 use mathlib.Core.Path.{_≡_, refl, sym, ap, _∙_}
 use mathlib.Core.Bool.{Bool, true, false, not}
-use mathlib.Core.List.{List, [], _∷_, _++_}
+use mathlib.Core.List.{List, [], _∷_}
 use Prim.Native.Nat.{ℕ}
 use Rattle.volume.specs.Entry.{Entry}
 use Rattle.volume.specs.Directory.{putSlot, mapSlots}
@@ -13,40 +13,23 @@ use Rattle.naming.specs.Sweep.{changed}
 use Rattle.filecalls.specs.declared.Drive.{Drive}
 use Rattle.filecalls.specs.declared.Reply.{Reply}
 use Rattle.filecalls.specs.Outcome.{Change, entryTo, eachEntry, Act, deny, done, unless, outcome, left, changedState, stored, storedAll}
-use Rattle.filecalls.specs.Lent.{namedTests, plainTests}
-use Rattle.filecalls.proofs.OutcomeLaws.{refuses, clears, says-no, refused-at}
-use Rattle.filecalls.proofs.StateLaws.{no-buffer}
-
--- the tests that are left refuse, and they don't
-denied : (xs : List Test) (act : Act) → isNone (firstMet xs) ≡ false → unless xs act ≡ deny (firstMet xs)
-unfolding unless
-denied xs act e = rw e
-
-allowed : (xs : List Test) (act : Act) → isNone (firstMet xs) ≡ true → unless xs act ≡ act
-unfolding unless
-allowed xs act e = rw e
+use Rattle.filecalls.proofs.OutcomeLaws.{denies, does, refuses, clears, says-no}
 
 -- the last group of tests passes, as code learns it
 pub last-clear : {why : Refusal} {t : Bool} (xs : List Test) (act : Act) → why ≡ firstMet xs → t ≡ isNone why → not t ≡ false → unless xs act ≡ act
-last-clear xs act e i h = allowed xs act (clears xs e i h)
+last-clear xs act e i h = does xs act (clears xs e i h)
 
 -- what is erased has no use for a new name
 pub erases : (u : ℕ) (name new : List ℕ) → changed Erase u name new ≡ changed Erase u name []
 unfolding changed
 erases u name new = refl
 
--- the tests of what is lent refuse a call without a buffer, as code learns it
-pub refused-named : (d : Drive) (v f : List ℕ) (p : Bool) {why : Refusal} {r : Reply} {t : Bool} (ys : List Test) (act : Act)
-    → why ≡ firstMet (namedTests d v f 128 p) → t ≡ isNone why → not t ≡ true → r ≡ record { answer = Refused why; drive = d }
-    → left r v f [] ≡ outcome d v f [] (unless (plainTests d v f p ++ ys) act)
-refused-named d v f p ys act e i h q = refused-at d v f [] (plainTests d v f p) ys act (e ∙ no-buffer d v f p) i h q
-
 module _ (d : Drive) (v f b : List ℕ) where
   -- the last group of tests refuses, as code learns it
   pub refused-last : {why : Refusal} {r : Reply} {t : Bool} {u : Act} (xs : List Test) (act : Act)
       → u ≡ unless xs act → why ≡ firstMet xs → t ≡ isNone why → not t ≡ true → r ≡ record { answer = Refused why; drive = d }
       → left r v f b ≡ outcome d v f b u
-  refused-last xs act q e i h p = says-no d v f b (q ∙ denied xs act (refuses xs e i h) ∙ ap deny (sym e)) p
+  refused-last xs act q e i h p = says-no d v f b (q ∙ denies xs act (refuses xs e i h) ∙ ap deny (sym e)) p
 
   -- the reply to an act that changes every entry, and to one that lays an entry
   pub says-changed : {r : Reply} {k : ℕ} {u : Act} {w : List ℕ} (c : Change) (e : Entry → Entry) (f′ b′ : List ℕ)

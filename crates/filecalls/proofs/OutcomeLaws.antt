@@ -1,12 +1,12 @@
 -- What a call leaves, read down its ladder: a group of tests refuses, or it passes and the rest decides.
 use mathlib.Core.Path.{_≡_, refl, sym, ap, _∙_}
-use mathlib.Core.Bool.{Bool, true, false, not, cond}
+use mathlib.Core.Bool.{Bool, true, false, not}
 use mathlib.Core.List.{List, [], _∷_, _++_}
 use Prim.Native.Nat.{ℕ}
 use borrow.Author.Tests.{not-true, not-false}
 use Rattle.answers.specs.declared.Refusal.{Refusal}
 use Rattle.answers.specs.declared.Answer.the-variants.{Done, Refused}
-use Rattle.answers.specs.Refusal.{Test, test, isNone, first, refusing, firstMet}
+use Rattle.answers.specs.Refusal.{Test, test, isNone, first, firstMet}
 use Rattle.answers.proofs.Ladder.{ladder-stop, ladder-pass}
 use Rattle.filecalls.specs.declared.Drive.{Drive}
 use Rattle.filecalls.specs.declared.Reply.{Reply}
@@ -30,6 +30,15 @@ met why ys act n = rw (n, n)
 pub not-met : (why : Refusal) (ys : List Test) (act : Act) → unless (test why false ∷ ys) act ≡ unless ys act
 unfolding unless firstMet
 not-met why ys act = refl
+
+-- a whole ladder refuses, and it does not
+pub denies : (ts : List Test) (act : Act) → isNone (firstMet ts) ≡ false → unless ts act ≡ deny (firstMet ts)
+unfolding unless
+denies ts act e = rw e
+
+pub does : (ts : List Test) (act : Act) → isNone (firstMet ts) ≡ true → unless ts act ≡ act
+unfolding unless
+does ts act e = rw e
 
 -- no tests left
 pub all-passed : (act : Act) → unless [] act ≡ act

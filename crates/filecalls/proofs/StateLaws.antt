@@ -1,20 +1,20 @@
 -- What an open state tells, and what the tests of lent lengths tell where they do not refuse.
 use mathlib.Core.Path.{_≡_, refl, sym, ap, _∙_}
 use mathlib.Core.Bool.{Bool, true, false, not, _&&_, false≢true}
-use mathlib.Core.List.{List, [], _∷_}
-use Prim.Native.Nat.{ℕ, _≤_}
+use mathlib.Core.List.{List, [], _∷_, _++_}
+use Prim.Native.Nat.{ℕ}
 use lib.Dec.{leb, eqb}
 use lib.ListN.{length}
 use borrow.Author.Tests.{not-false, eqb-true, leb-true}
 use Rattle.lists.proofs.BoolLaws.{and-parts}
-use Rattle.volume.specs.Geometry.{lawful, bytes, slots}
+use Rattle.volume.specs.Geometry.{lawful, bytes}
 use Rattle.answers.specs.declared.Refusal.{Refusal}
-use Rattle.answers.specs.declared.Refusal.the-variants.{Closed, VolumeLength, BlockLength, BufferLength, DriveCode, Name}
-use Rattle.answers.specs.Refusal.{Test, test, isNone, firstMet}
-use Rattle.answers.proofs.Ladder.{unmet}
+use Rattle.answers.specs.declared.Refusal.the-variants.{Closed, VolumeLength, BlockLength, BufferLength}
+use Rattle.answers.specs.Refusal.{Test, isNone, firstMet}
+use Rattle.answers.proofs.Ladder.{ladder-stop, ladder-pass, unmet}
 use Rattle.filecalls.specs.declared.Drive.{Drive}
-use Rattle.filecalls.specs.State.{goodKept, isOpen}
-use Rattle.filecalls.specs.Tests.{closedState, driveCode, badName}
+use Rattle.filecalls.specs.State.{isOpen}
+use Rattle.filecalls.specs.Tests.{driveCode, badName}
 use Rattle.filecalls.specs.Ready.{Open, Lent}
 use Rattle.filecalls.specs.Lent.{lentTests, namedTests, plainTests}
 
@@ -42,19 +42,18 @@ lent-clear d v f b e =
       buffer = same-length b 128 (z .0);
     }
 
+-- neither of two groups of tests refuses where both together do not
+pub both-clear : (xs ys : List Test) → isNone (firstMet (xs ++ ys)) ≡ true → (isNone (firstMet xs) ≡ true) × (isNone (firstMet ys) ≡ true)
+both-clear xs ys e = go (isNone (firstMet xs)) refl
+  where
+    go : (t : Bool) → isNone (firstMet xs) ≡ t → (isNone (firstMet xs) ≡ true) × (isNone (firstMet ys) ≡ true)
+    go true h = (h, ap isNone (sym (ladder-pass xs ys h)) ∙ e)
+    go false h = absurd (false≢true (sym h ∙ ap isNone (sym (ladder-stop xs ys h)) ∙ e))
+
 pub named-clear : (d : Drive) (v f : List ℕ) (b : ℕ) (p : Bool) → isNone (firstMet (namedTests d v f b p)) ≡ true → Lent d (length v) (length f) b
-unfolding namedTests
+unfolding namedTests lentTests
 named-clear d v f b p e =
-    let s = unmet Closed _ _ refl e in
-    let x = unmet VolumeLength _ _ refl (s .1) in
-    let y = unmet BlockLength _ _ refl (x .1) in
-    let z = unmet BufferLength _ _ refl (y .1) in
-    record {
-      state = is-open d (not-false (isOpen d) (s .0));
-      volume = same-length (length v) (bytes (d .geometry)) (x .0);
-      block = same-length (length f) 36 (y .0);
-      buffer = same-length b 128 (z .0);
-    }
+    lent-clear d (length v) (length f) b (both-clear (lentTests d (length v) (length f) b) (driveCode f ∷ badName p f 1 ∷ []) e .0)
 
 -- a call that is lent no buffer passes the right length for one
 pub no-buffer : (d : Drive) (v f : List ℕ) (p : Bool) → firstMet (namedTests d v f 128 p) ≡ firstMet (plainTests d v f p)

@@ -18,7 +18,7 @@ use Rattle.filecalls.specs.Outcome.{keeps, takes, deny, unless, outcome,
 use Rattle.filecalls.specs.Write.{writeEntry, writeChange, writeDone, directoryTests, emptyTests}
 use Rattle.filecalls.specs.Lent.{namedTests, randomLent}
 use Rattle.filecalls.proofs.OutcomeLaws.{goes-by, says-no}
-use Rattle.filecalls.proofs.LentLaws.{denies, does}
+use Rattle.filecalls.proofs.OutcomeLaws.{denies, does}
 
 -- a random call that is lent no buffer passes the right length for one
 pub empty-lent : (d : Drive) (v f : List ℕ) → firstMet (randomLent d v f 128) ≡ firstMet (emptyTests d v f)

@@ -1,7 +1,8 @@
 -- The tests in order, then the blocks of what matches are free and its entries erased.
 use mathlib.Core.Path.{_≡_, refl, _∙_}
 use Rattle.filecalls.specs.Outcome.{Act, unless, frees, changedState}
-use Rattle.filecalls.proofs.NamingLaws.{refused-named, last-clear, erases, refused-last, says-changed}
+use Rattle.filecalls.proofs.FoundLaws.{named-no}
+use Rattle.filecalls.proofs.NamingLaws.{last-clear, erases, refused-last, says-changed}
 use mathlib.Core.Bool.{true}
 use mathlib.Core.List.{[]}
 use native.Mathlib.Omega.{arith}
@@ -48,7 +49,7 @@ returns : tie.Need-returns
 unfolding deleteAct deleteLadder
 returns c =
     let a = c .before .before .before .before .before .before .before .args in
-    refused-named (a .self) (now (a .volume)) (now (a .f)) true _ _ (c .before .before .before .named-why .ensures) (c .before .before .is-none .ensures) (c .before .if1 .taken) (c .refused .ensures)
+    named-no (a .self) (now (a .volume)) (now (a .f)) true _ _ (c .before .before .before .named-why .ensures) (c .before .before .is-none .ensures) (c .before .if1 .taken) (c .refused .ensures)
 
 refused-requires-2 : tie.Need-refused-requires-2
 refused-requires-2 c κs = search needs

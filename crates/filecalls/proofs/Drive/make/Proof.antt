@@ -1,7 +1,8 @@
 -- The tests in order, then what the crate below lays into the volume and the control block.
 use mathlib.Core.Path.{_≡_, refl, sym, _∙_}
 use Rattle.filecalls.specs.Outcome.{Act, unless, keeps, changedState}
-use Rattle.filecalls.proofs.NamingLaws.{refused-named, last-clear, refused-last, says-laid}
+use Rattle.filecalls.proofs.FoundLaws.{named-no}
+use Rattle.filecalls.proofs.NamingLaws.{last-clear, refused-last, says-laid}
 use mathlib.Core.Bool.{false, not}
 use mathlib.Core.List.{[]}
 use native.Mathlib.Omega.{arith}
@@ -55,7 +56,7 @@ returns : tie.Need-returns
 unfolding makeAct makeLadder
 returns c =
     let a = c .before .before .before .before .before .before .before .before .args in
-    refused-named (a .self) (now (a .volume)) (now (a .f)) false _ _ (c .before .before .before .named-why .ensures) (c .before .before .is-none .ensures) (c .before .if1 .taken) (c .refused .ensures)
+    named-no (a .self) (now (a .volume)) (now (a .f)) false _ _ (c .before .before .before .named-why .ensures) (c .before .before .is-none .ensures) (c .before .if1 .taken) (c .refused .ensures)
 
 slice-read-first : tie.Need-slice-read-first
 slice-read-first c = omega (arith, clear (c .before) .lent .block)

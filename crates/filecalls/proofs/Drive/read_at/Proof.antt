@@ -8,7 +8,7 @@ use Rattle.reading.specs.Read.{readTests}
 use Rattle.answers.specs.Refusal.{isNone}
 use Rattle.filecalls.specs.Read.{readDone}
 use Rattle.filecalls.specs.Outcome.{deny}
-use Rattle.filecalls.proofs.LentLaws.{denies, does}
+use Rattle.filecalls.proofs.OutcomeLaws.{denies, does}
 use Rattle.filecalls.proofs.OutcomeLaws.{refuses, clears, says-no, says-done}
 use borrow.Author.Needs.{needs}
 use Rattle.filecalls.proofs.Drive.read_at.Statement.{statement}

@@ -1,7 +1,8 @@
 -- The tests in order, then the sweep that gives the file's entries the new name.
 use mathlib.Core.Path.{_≡_, refl, sym, ap, _∙_}
 use Rattle.filecalls.specs.Outcome.{Act, unless, keeps, changedState}
-use Rattle.filecalls.proofs.NamingLaws.{refused-named, last-clear, refused-last, says-changed}
+use Rattle.filecalls.proofs.FoundLaws.{named-no}
+use Rattle.filecalls.proofs.NamingLaws.{last-clear, refused-last, says-changed}
 use mathlib.Core.Bool.{false, not}
 use mathlib.Core.List.{[]}
 use native.Mathlib.Omega.{arith}
@@ -55,7 +56,7 @@ returns : tie.Need-returns
 unfolding renameAct renameLadder
 returns c =
     let a = c .before .before .before .before .before .before .before .args in
-    refused-named (a .self) (now (a .volume)) (now (a .f)) false _ _ (c .before .before .before .named-why .ensures) (c .before .before .is-none .ensures) (c .before .if1 .taken) (c .refused .ensures)
+    named-no (a .self) (now (a .volume)) (now (a .f)) false _ _ (c .before .before .before .named-why .ensures) (c .before .before .is-none .ensures) (c .before .if1 .taken) (c .refused .ensures)
 
 sub-good-name : tie.Need-sub-good-name
 sub-good-name c = search needs

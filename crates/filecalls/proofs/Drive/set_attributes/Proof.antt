@@ -4,7 +4,8 @@ use mathlib.Core.List.{_∷_, []}
 use lib.Dec.{leb}
 use mathlib.Core.Path.{_≡_, refl, _∙_}
 use Rattle.filecalls.specs.Outcome.{Act, unless, keeps, changedState}
-use Rattle.filecalls.proofs.NamingLaws.{refused-named, says-changed}
+use Rattle.filecalls.proofs.FoundLaws.{named-no}
+use Rattle.filecalls.proofs.NamingLaws.{says-changed}
 use mathlib.Core.Bool.{false}
 use native.Mathlib.Omega.{arith}
 use denote.Ref.{now}
@@ -54,7 +55,7 @@ returns : tie.Need-returns
 unfolding attributesAct attributesLadder
 returns c =
     let a = c .before .before .before .before .before .before .before .args in
-    refused-named (a .self) (now (a .volume)) (now (a .f)) false _ _ (c .before .before .before .named-why .ensures) (c .before .before .is-none .ensures) (c .before .if1 .taken) (c .refused .ensures)
+    named-no (a .self) (now (a .volume)) (now (a .f)) false _ _ (c .before .before .before .named-why .ensures) (c .before .before .is-none .ensures) (c .before .if1 .taken) (c .refused .ensures)
 
 refused-requires-2 : tie.Need-refused-requires-2
 refused-requires-2 c κs = search needs
