@@ -36,7 +36,7 @@ fn is_kept(kind: Kept, user: u8, last: usize, pattern: &[u8], n: usize) -> bool
 }
 
 // The closed state.
-pub fn closed_drive() -> Drive
+pub(crate) fn closed_drive() -> Drive
     ensures { λ r. ⌜ r ≡ closed ⌝ }
 {
     let geometry = Geometry {
@@ -88,7 +88,7 @@ impl Drive {
     }
 
     // Done with this code: the state as given.
-    pub fn done(self, code: u8) -> Reply
+    pub(crate) fn done(self, code: u8) -> Reply
         ensures { λ r. ⌜ r ≡ record { answer = Done code; drive = self } ⌝ }
     {
         Reply {

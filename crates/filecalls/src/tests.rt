@@ -10,7 +10,7 @@ use answers::Refusal;
 
 impl Drive {
     // 32, 33, 34, 35 by the lengths that are lent; a length that is not lent is given as the right one.
-    pub fn lent_why(self, volume: usize, block: usize, buffer: usize) -> Refusal
+    pub(crate) fn lent_why(self, volume: usize, block: usize, buffer: usize) -> Refusal
         ensures { λ r. ⌜ r ≡ firstMet (lentTests self volume block buffer) ⌝ }
     {
         if !self.is_open() {
@@ -24,7 +24,7 @@ impl Drive {
     }
 
     // The same, then 42 and 39.
-    pub fn named_why(self, volume: &[u8], f: &[u8], buffer: usize, pattern: bool) -> Refusal
+    pub(crate) fn named_why(self, volume: &[u8], f: &[u8], buffer: usize, pattern: bool) -> Refusal
         ensures { λ r. ⌜ r ≡ firstMet (namedTests self (now (volume .entry)) (now (f .entry)) buffer pattern) ⌝ }
     {
         let why = self.lent_why(volume.len(), f.len(), buffer);
@@ -37,7 +37,7 @@ impl Drive {
     }
 
     // The same, then 40 and 6 of a sequential call.
-    pub fn sequential_why(self, volume: &[u8], f: &[u8], buffer: usize) -> Refusal
+    pub(crate) fn sequential_why(self, volume: &[u8], f: &[u8], buffer: usize) -> Refusal
         ensures { λ r. ⌜ r ≡ firstMet (sequentialLent self (now (volume .entry)) (now (f .entry)) buffer) ⌝ }
     {
         let why = self.named_why(volume, f, buffer, false);
@@ -52,7 +52,7 @@ impl Drive {
     }
 
     // 32 to 35, 42 and 39, then 6 of a random call.
-    pub fn random_why(self, volume: &[u8], f: &[u8], buffer: usize) -> Refusal
+    pub(crate) fn random_why(self, volume: &[u8], f: &[u8], buffer: usize) -> Refusal
         ensures { λ r. ⌜ r ≡ firstMet (randomLent self (now (volume .entry)) (now (f .entry)) buffer) ⌝ }
     {
         let why = self.named_why(volume, f, buffer, false);

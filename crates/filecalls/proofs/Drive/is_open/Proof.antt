@@ -1,3 +1,4 @@
+-- The geometry is asked first, since the number of slots rests on it.
 use Rattle.filecalls.specs.State.{isOpen}
 use borrow.Author.Tests.{not-true, not-false}
 use mathlib.Core.Path.{sym, _∙_}

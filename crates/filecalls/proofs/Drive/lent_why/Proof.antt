@@ -1,3 +1,4 @@
+-- The state is asked first; then the three lengths.
 use mathlib.Core.Bool.{true, not}
 use lib.Dec.{eqb}
 use Rattle.volume.specs.Geometry.{bytes}

@@ -1,3 +1,4 @@
+-- What is lent is asked first; then drive code and name.
 use lib.Dec.{ltb}
 use mathlib.Core.Bool.{not}
 use Rattle.lists.specs.Bytes.{byte, part}

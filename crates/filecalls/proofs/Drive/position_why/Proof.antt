@@ -1,3 +1,4 @@
+-- State and length are asked first; then drive code and position.
 use Rattle.filecalls.specs.Small.{setRandomTests}
 use borrow.Author.Tests.{not-false, eqb-true}
 use Rattle.filecalls.specs.Tests.{closedState, blockLength}

@@ -1,3 +1,4 @@
+-- Closed, or protected from now on.
 use Rattle.filecalls.specs.Small.{protectAct, protectTests}
 use Rattle.filecalls.specs.Outcome.{outcome, unless, changedState, storedAll}
 use Rattle.answers.specs.Refusal.{firstMet}

@@ -1,3 +1,4 @@
+-- Refused by its tests, or the position goes into r0 r1 r2.
 use Rattle.filecalls.proofs.OutcomeLaws.{refused-at, clears}
 use Rattle.filecalls.specs.Small.{setRandomTests, setRandomAct}
 use Rattle.filecalls.specs.Outcome.{unless, outcome, changedState, storedAll}

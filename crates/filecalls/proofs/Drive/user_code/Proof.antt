@@ -1,3 +1,4 @@
+-- Closed; a code from 16 to 254; 255; a code that is set.
 use Rattle.filecalls.specs.Small.{userAct, userTests}
 use Rattle.filecalls.specs.Outcome.{outcome, unless, changedState, storedAll}
 use Rattle.answers.specs.Refusal.{firstMet}

@@ -1,3 +1,4 @@
+-- Each arm is the definition's case of the same name.
 use borrow.Author.Needs.{needs}
 use Rattle.filecalls.proofs.state.is_kept.Statement.{statement}
 use Rattle.filecalls.proofs.state.is_kept.Tie as tie

@@ -1,3 +1,4 @@
+-- Name and ex, as the rule has them.
 use Rattle.volume.specs.Name.{nameAt}
 use Rattle.lists.specs.Bytes.{part}
 use borrow.Author.Needs.{needs}
