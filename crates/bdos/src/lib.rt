@@ -1,6 +1,5 @@
 // One door to the file calls: the function's number decides which call is done.
 ghost use mathlib.Core.Path.{_≡_};
-ghost use mathlib.Core.List.{List};
 ghost use Rattle.filecalls.specs.Outcome.{left};
 ghost use Rattle.bdos.specs.Step.{callOf, does, asked, step};
 use answers::Refusal;
@@ -32,7 +31,7 @@ pub enum Call {
 }
 
 // The call of a function's number.
-pub fn call_of(function: u8) -> Call
+fn call_of(function: u8) -> Call
     ensures { λ r. ⌜ r ≡ callOf function ⌝ }
 {
     match function {
@@ -58,19 +57,18 @@ pub fn call_of(function: u8) -> Call
     }
 }
 
-// Does the call of this function's number; g is the geometry that a log-in takes.
-pub fn call(
+// Does a call; g is the geometry that a log-in takes.
+fn serve(
     g: Geometry,
-    function: u8,
+    kind: Call,
     parameter: u8,
     drive: Drive,
     volume: &mut [u8],
     f: &mut [u8],
     buffer: &mut [u8],
 ) -> Reply
-    ensures { λ r. ⌜ left r (now (volume .exit)) (now (f .exit)) (now (buffer .exit)) ≡ step g (asked function parameter (now (f .entry)) (now (buffer .entry))) drive (now (volume .entry)) ⌝ }
+    ensures { λ r. ⌜ left r (now (volume .exit)) (now (f .exit)) (now (buffer .exit)) ≡ does g kind parameter drive (now (volume .entry)) (now (f .entry)) (now (buffer .entry)) ⌝ }
 {
-    let kind = call_of(function);
     match kind {
         Call::LogIn => Drive::log_in(g, volume),
         Call::Open => drive.open_file(volume, f),
@@ -92,4 +90,20 @@ pub fn call(
         Call::EmptyRecord => drive.empty_record(volume, f),
         Call::Unserved => drive.refused(Refusal::NotServed),
     }
+}
+
+// Does the call of this function's number.
+pub fn enter(
+    g: Geometry,
+    function: u8,
+    parameter: u8,
+    drive: Drive,
+    volume: &mut [u8],
+    f: &mut [u8],
+    buffer: &mut [u8],
+) -> Reply
+    ensures { λ r. ⌜ left r (now (volume .exit)) (now (f .exit)) (now (buffer .exit)) ≡ step g (asked function parameter (now (f .entry)) (now (buffer .entry))) drive (now (volume .entry)) ⌝ }
+{
+    let kind = call_of(function);
+    serve(g, kind, parameter, drive, volume, f, buffer)
 }
