@@ -1,0 +1,3 @@
+-- The user's demands, each stated in a file of its own.
+pub mod Order
+pub mod Demand1
