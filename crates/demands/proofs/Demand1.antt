@@ -107,9 +107,9 @@ unfolding does
 closes g k p d v f b e h = rw e (record { state-is = log-in-closed g v (rw e at h); volume-kept = refl; block-kept = refl; buffer-kept = refl })
 
 -- ---- what an answer says of the tests: the first that is met, or a code below m
-record Says (a : Answer) (ts : List Test) (m : ℕ) : Type 0 where
-  met : isNone (firstMet ts) ≡ false → (succeeded a ≡ false) × (numberOf a ≡ refusalNumber (firstMet ts))
-  none : isNone (firstMet ts) ≡ true → (succeeded a ≡ true) × (numberOf a < m)
+pub record Says (a : Answer) (ts : List Test) (m : ℕ) : Type 0 where
+  pub met : isNone (firstMet ts) ≡ false → (succeeded a ≡ false) × (numberOf a ≡ refusalNumber (firstMet ts))
+  pub none : isNone (firstMet ts) ≡ true → (succeeded a ≡ true) × (numberOf a < m)
 
 module _ (d : Drive) (v f b : List ℕ) (ts : List Test) (m : ℕ) where
   says : (k : ℕ) (c : Change) (ss : List Store) (f′ b′ : List ℕ) → (isNone (firstMet ts) ≡ true → k < m)
@@ -135,7 +135,7 @@ user-says d p = go (eqb p 255)
     go true = says d [] [] [] (userTests d p) 16 (d .user) keeps [] [] [] (user-low d p)
     go false = says d [] [] [] (userTests d p) 16 0 (becomes p) [] [] [] (λ e. omega arith)
 
-log-in-says : (g : Geometry) (v : List ℕ) → Says (logIn g v .answer) (logInTests g v) 1
+pub log-in-says : (g : Geometry) (v : List ℕ) → Says (logIn g v .answer) (logInTests g v) 1
 unfolding logIn
 log-in-says g v = record { met = λ e. rw e (which (firstMet (logInTests g v))); none = λ e. rw e (refl, omega arith) }
   where
@@ -234,21 +234,21 @@ in-table-order Unserved n = absurd (n refl)
 
 -- ---- all together
 -- a test is met exactly where the answer is a refusal
-was-met : {a : Answer} {ts : List Test} {m : ℕ} → Says a ts m → succeeded a ≡ false → isNone (firstMet ts) ≡ false
+pub was-met : {a : Answer} {ts : List Test} {m : ℕ} → Says a ts m → succeeded a ≡ false → isNone (firstMet ts) ≡ false
 was-met {a} {ts} {m} s h = go (isNone (firstMet ts)) refl
   where
     go : (t : Bool) → isNone (firstMet ts) ≡ t → isNone (firstMet ts) ≡ false
     go true e = absurd (true≢false (sym (s .none e .0) ∙ h))
     go false e = e
 
-was-none : {a : Answer} {ts : List Test} {m : ℕ} → Says a ts m → succeeded a ≡ true → isNone (firstMet ts) ≡ true
+pub was-none : {a : Answer} {ts : List Test} {m : ℕ} → Says a ts m → succeeded a ≡ true → isNone (firstMet ts) ≡ true
 was-none {a} {ts} {m} s h = go (isNone (firstMet ts)) refl
   where
     go : (t : Bool) → isNone (firstMet ts) ≡ t → isNone (firstMet ts) ≡ true
     go true e = e
     go false e = absurd (false≢true (sym (s .met e .0) ∙ h))
 
-step-says : (g : Geometry) (c : Asked) (d : Drive) (v : List ℕ) → Says (answer g c d v) (tests g c d v) (codesOf (call c))
+pub step-says : (g : Geometry) (c : Asked) (d : Drive) (v : List ℕ) → Says (answer g c d v) (tests g c d v) (codesOf (call c))
 unfolding step
 step-says g c d v = call-says g (c .parameter) d v (c .block) (c .buffer) (call c)
 

@@ -1,2 +1,3 @@
 -- The demands, proved.
 pub mod Demand1
+pub mod Demand2
