@@ -1,0 +1,274 @@
+-- Demand 1 holds: a refusal is the first clause of `outcome`, every call's act stands under `unless` and its own tests,
+-- and what the tests refuse for does not depend on what is given.
+use mathlib.Core.Path.{_≡_, refl, sym, ap, _∙_}
+use mathlib.Core.Bool.{Bool, true, false, cond, _||_, or-true, true≢false, false≢true}
+use mathlib.Core.Logic.{_≢_}
+use mathlib.Core.List.{List, [], _∷_}
+use Prim.Native.Nat.{ℕ, _%_, _<_}
+use native.Mathlib.Omega.{arith}
+use lib.Dec.{eqb}
+use borrow.Author.Tests.{eq-eqb, eqb-true, not-false}
+use Rattle.volume.specs.declared.Geometry.{Geometry}
+use Rattle.answers.specs.declared.Refusal.{Refusal}
+use Rattle.answers.specs.declared.Refusal.the-variants.{Closed, NotServed}
+use Rattle.answers.specs.declared.Answer.{Answer}
+use Rattle.answers.specs.declared.Answer.the-variants.{BadSlot, Refused}
+use Rattle.answers.specs.Refusal.{Test, test, refusalNumber, isNone, refusing, first, firstMet}
+use Rattle.answers.specs.Answer.{numberOf, succeeded}
+use Rattle.answers.proofs.Ladder.{unmet}
+use Rattle.naming.specs.Delete.{deleteTests}
+use Rattle.naming.specs.Make.{makeTests}
+use Rattle.naming.specs.Rename.{renameTests}
+use Rattle.reading.specs.Read.{readTests}
+use Rattle.writing.specs.Write.{writeTests}
+use Rattle.inspection.specs.GoodSlot.{lowestBad}
+use Rattle.filecalls.specs.declared.Drive.{Drive}
+use Rattle.filecalls.specs.Outcome.{Change, keeps, becomes, Store, Act, deny, done, unless, outcome}
+use Rattle.filecalls.specs.State.{isOpen, closed}
+use Rattle.filecalls.specs.LogIn.{logInTests, refusedLogIn, logIn}
+use Rattle.filecalls.specs.Open.{openTests, openAct, closeTests, closeAct, sizeTests, sizeAct}
+use Rattle.filecalls.specs.Search.{firstTests, searchFirstAct, nextTests, searchNextAct, shown}
+use Rattle.filecalls.specs.Names.{deleteLadder, deleteAct, makeLadder, makeAct, renameLadder, renameAct, attributesLadder, attributesAct}
+use Rattle.filecalls.specs.Read.{sequentialTests, randomTests, readDone, readSequentialAct, readRandomAct}
+use Rattle.filecalls.specs.Write.{emptyTests, writeDone, writeSequentialAct, writeRandomAct, emptyRecordAct}
+use Rattle.filecalls.specs.Small.{protectTests, protectAct, userTests, userAct, setRandomTests, setRandomAct}
+use Rattle.filecalls.proofs.StateLaws.{is-open}
+use Rattle.bdos.specs.declared.Call.{Call}
+use Rattle.bdos.specs.declared.Call.the-variants.{LogIn, Open, Close, SearchFirst, SearchNext, Delete, ReadSequential, WriteSequential, Make, Rename, Protect, Attributes, User, ReadRandom, WriteRandom, Size, SetRandom, EmptyRecord, Unserved}
+use Rattle.bdos.specs.Step.{Asked, does, step}
+use Rattle.demands.specs.Order.{paperTable, numbersOf, reasons, inOrder, testsOf, refusalsOf, codesOf}
+use Rattle.demands.specs.Demand1.{call, tests, answer, Leaves, among, Demand1}
+
+-- ---- a refused act leaves all as given
+kept : (d : Drive) (v f b : List ℕ) (a : Act) → succeeded (outcome d v f b a .answer) ≡ false → Leaves (outcome d v f b a) d v f b
+unfolding outcome
+kept d v f b (deny why) h = record { state-is = refl; volume-kept = refl; block-kept = refl; buffer-kept = refl }
+kept d v f b (done code change stores f′ b′) h = absurd (true≢false h)
+
+call-kept : (g : Geometry) (k : Call) (p : ℕ) (d : Drive) (v f b : List ℕ) → k ≢ LogIn → succeeded (does g k p d v f b .answer) ≡ false
+    → Leaves (does g k p d v f b) d v f b
+unfolding does
+call-kept g LogIn p d v f b n h = absurd (n refl)
+call-kept g Open p d v f b n h =
+    let k = kept d v f [] (openAct d v f) h in
+    record { state-is = k .state-is; volume-kept = k .volume-kept; block-kept = k .block-kept; buffer-kept = refl }
+call-kept g Close p d v f b n h =
+    let k = kept d v f [] (closeAct d v f) h in
+    record { state-is = k .state-is; volume-kept = k .volume-kept; block-kept = k .block-kept; buffer-kept = refl }
+call-kept g SearchFirst p d v f b n h = kept d v f b (searchFirstAct d v f b) h
+call-kept g SearchNext p d v f b n h =
+    let k = kept d v [] b (searchNextAct d v b) h in
+    record { state-is = k .state-is; volume-kept = k .volume-kept; block-kept = refl; buffer-kept = k .buffer-kept }
+call-kept g Delete p d v f b n h =
+    let k = kept d v f [] (deleteAct d v f) h in
+    record { state-is = k .state-is; volume-kept = k .volume-kept; block-kept = k .block-kept; buffer-kept = refl }
+call-kept g ReadSequential p d v f b n h = kept d v f b (readSequentialAct d v f b) h
+call-kept g WriteSequential p d v f b n h = kept d v f b (writeSequentialAct d v f b) h
+call-kept g Make p d v f b n h =
+    let k = kept d v f [] (makeAct d v f) h in
+    record { state-is = k .state-is; volume-kept = k .volume-kept; block-kept = k .block-kept; buffer-kept = refl }
+call-kept g Rename p d v f b n h =
+    let k = kept d v f [] (renameAct d v f) h in
+    record { state-is = k .state-is; volume-kept = k .volume-kept; block-kept = k .block-kept; buffer-kept = refl }
+call-kept g Protect p d v f b n h =
+    let k = kept d [] [] [] (protectAct d) h in
+    record { state-is = k .state-is; volume-kept = refl; block-kept = refl; buffer-kept = refl }
+call-kept g Attributes p d v f b n h =
+    let k = kept d v f [] (attributesAct d v f) h in
+    record { state-is = k .state-is; volume-kept = k .volume-kept; block-kept = k .block-kept; buffer-kept = refl }
+call-kept g User p d v f b n h =
+    let k = kept d [] [] [] (userAct d p) h in
+    record { state-is = k .state-is; volume-kept = refl; block-kept = refl; buffer-kept = refl }
+call-kept g ReadRandom p d v f b n h = kept d v f b (readRandomAct d v f b) h
+call-kept g WriteRandom p d v f b n h = kept d v f b (writeRandomAct d v f b) h
+call-kept g Size p d v f b n h =
+    let k = kept d v f [] (sizeAct d v f) h in
+    record { state-is = k .state-is; volume-kept = k .volume-kept; block-kept = k .block-kept; buffer-kept = refl }
+call-kept g SetRandom p d v f b n h =
+    let k = kept d [] f [] (setRandomAct d f) h in
+    record { state-is = k .state-is; volume-kept = refl; block-kept = k .block-kept; buffer-kept = refl }
+call-kept g EmptyRecord p d v f b n h =
+    let k = kept d v f [] (emptyRecordAct d v f) h in
+    record { state-is = k .state-is; volume-kept = k .volume-kept; block-kept = k .block-kept; buffer-kept = refl }
+call-kept g Unserved p d v f b n h = kept d v f b (deny NotServed) h
+
+-- ---- a refused log-in
+log-in-closed : (g : Geometry) (v : List ℕ) → succeeded (logIn g v .answer) ≡ false → logIn g v .drive ≡ closed
+unfolding logIn
+log-in-closed g v h = go (isNone (firstMet (logInTests g v))) refl h
+  where
+    go : (t : Bool) → isNone (firstMet (logInTests g v)) ≡ t → succeeded (logIn g v .answer) ≡ false → logIn g v .drive ≡ closed
+    go true e f = absurd (true≢false (rw e at f))
+    go false e f = rw e
+
+closes : (g : Geometry) (k : Call) (p : ℕ) (d : Drive) (v f b : List ℕ) → k ≡ LogIn → succeeded (does g k p d v f b .answer) ≡ false
+    → Leaves (does g k p d v f b) closed v f b
+unfolding does
+closes g k p d v f b e h = rw e (record { state-is = log-in-closed g v (rw e at h); volume-kept = refl; block-kept = refl; buffer-kept = refl })
+
+-- ---- what an answer says of the tests: the first that is met, or a code below m
+pub record Says (a : Answer) (ts : List Test) (m : ℕ) : Type 0 where
+  pub met : isNone (firstMet ts) ≡ false → (succeeded a ≡ false) × (numberOf a ≡ refusalNumber (firstMet ts))
+  pub none : isNone (firstMet ts) ≡ true → (succeeded a ≡ true) × (numberOf a < m)
+
+module _ (d : Drive) (v f b : List ℕ) (ts : List Test) (m : ℕ) where
+  says : (k : ℕ) (c : Change) (ss : List Store) (f′ b′ : List ℕ) → (isNone (firstMet ts) ≡ true → k < m)
+      → Says (outcome d v f b (unless ts (done k c ss f′ b′)) .answer) ts m
+  unfolding outcome unless
+  says k c ss f′ b′ l = record { met = λ e. rw e (refl, refl); none = λ e. rw e (refl, l e) }
+
+code-lt : (i : ℕ) → i % 4 < 4
+code-lt i = omega arith
+
+-- the user code, by the first of user's tests
+user-low : (d : Drive) (p : ℕ) → isNone (firstMet (userTests d p)) ≡ true → d .user < 16
+unfolding userTests
+user-low d p e =
+    let o = is-open d (not-false (isOpen d) (unmet Closed _ _ refl e .0)) in
+    omega (arith, o .user15)
+
+user-says : (d : Drive) (p : ℕ) → Says (outcome d [] [] [] (userAct d p) .answer) (userTests d p) 16
+unfolding userAct
+user-says d p = go (eqb p 255)
+  where
+    go : (t : Bool) → Says (outcome d [] [] [] (unless (userTests d p) (cond t (done (d .user) keeps [] [] []) (done 0 (becomes p) [] [] []))) .answer) (userTests d p) 16
+    go true = says d [] [] [] (userTests d p) 16 (d .user) keeps [] [] [] (user-low d p)
+    go false = says d [] [] [] (userTests d p) 16 0 (becomes p) [] [] [] (λ e. omega arith)
+
+pub log-in-says : (g : Geometry) (v : List ℕ) → Says (logIn g v .answer) (logInTests g v) 1
+unfolding logIn
+log-in-says g v = record { met = λ e. rw e (which (firstMet (logInTests g v))); none = λ e. rw e (refl, omega arith) }
+  where
+    which : (why : Refusal) → (succeeded (refusedLogIn why (lowestBad g v)) ≡ false) × (numberOf (refusedLogIn why (lowestBad g v)) ≡ refusalNumber why)
+    which why = unfold refusedLogIn in go (eqb (refusalNumber why) 36) refl
+      where
+        go : (t : Bool) → eqb (refusalNumber why) 36 ≡ t
+            → (succeeded (cond t (BadSlot (lowestBad g v)) (Refused why)) ≡ false) × (numberOf (cond t (BadSlot (lowestBad g v)) (Refused why)) ≡ refusalNumber why)
+        go true e = (refl, sym (eqb-true (refusalNumber why) 36 e))
+        go false e = (refl, refl)
+
+unserved-says : (d : Drive) (v f b : List ℕ) → Says (outcome d v f b (deny NotServed) .answer) (test NotServed true ∷ []) 0
+unfolding outcome firstMet
+unserved-says d v f b = record { met = λ e. (refl, refl); none = λ e. absurd (false≢true e) }
+
+module _ (g : Geometry) (p : ℕ) (d : Drive) (v f b : List ℕ) where
+  call-says : (k : Call) → Says (does g k p d v f b .answer) (testsOf g k p d v f b) (codesOf k)
+  unfolding does openAct closeAct sizeAct searchFirstAct searchNextAct shown deleteAct makeAct renameAct attributesAct readSequentialAct readRandomAct readDone writeSequentialAct writeRandomAct emptyRecordAct writeDone protectAct setRandomAct
+  call-says LogIn = log-in-says g v
+  call-says Open = says d v f [] (testsOf g Open p d v f b) 4 _ _ _ _ _ (λ e. code-lt _)
+  call-says Close = says d v f [] (testsOf g Close p d v f b) 4 _ _ _ _ _ (λ e. code-lt _)
+  call-says SearchFirst = says d v f b (testsOf g SearchFirst p d v f b) 4 _ _ _ _ _ (λ e. code-lt _)
+  call-says SearchNext = says d v [] b (testsOf g SearchNext p d v f b) 4 _ _ _ _ _ (λ e. code-lt _)
+  call-says Delete = says d v f [] (testsOf g Delete p d v f b) 1 _ _ _ _ _ (λ e. omega arith)
+  call-says ReadSequential = says d v f b (testsOf g ReadSequential p d v f b) 1 _ _ _ _ _ (λ e. omega arith)
+  call-says WriteSequential = says d v f b (testsOf g WriteSequential p d v f b) 1 _ _ _ _ _ (λ e. omega arith)
+  call-says Make = says d v f [] (testsOf g Make p d v f b) 4 _ _ _ _ _ (λ e. code-lt _)
+  call-says Rename = says d v f [] (testsOf g Rename p d v f b) 1 _ _ _ _ _ (λ e. omega arith)
+  call-says Protect = says d [] [] [] (testsOf g Protect p d v f b) 1 _ _ _ _ _ (λ e. omega arith)
+  call-says Attributes = says d v f [] (testsOf g Attributes p d v f b) 1 _ _ _ _ _ (λ e. omega arith)
+  call-says User = user-says d p
+  call-says ReadRandom = says d v f b (testsOf g ReadRandom p d v f b) 1 _ _ _ _ _ (λ e. omega arith)
+  call-says WriteRandom = says d v f b (testsOf g WriteRandom p d v f b) 1 _ _ _ _ _ (λ e. omega arith)
+  call-says Size = says d v f [] (testsOf g Size p d v f b) 1 _ _ _ _ _ (λ e. omega arith)
+  call-says SetRandom = says d [] f [] (testsOf g SetRandom p d v f b) 1 _ _ _ _ _ (λ e. omega arith)
+  call-says EmptyRecord = says d v f [] (testsOf g EmptyRecord p d v f b) 1 _ _ _ _ _ (λ e. omega arith)
+  call-says Unserved = unserved-says d v f b
+
+-- the first test that is met is one of the tests
+number-among : (ts : List Test) → isNone (firstMet ts) ≡ false → among (refusalNumber (firstMet ts)) (numbersOf (reasons ts)) ≡ true
+unfolding firstMet
+number-among [] h = absurd (true≢false h)
+number-among (t ∷ ts) h = go (t .met) (isNone (t .why)) refl h (number-among ts)
+  where
+    go : (m n : Bool) → isNone (t .why) ≡ n → isNone (first (refusing (t .why) m) (firstMet ts)) ≡ false
+        → (isNone (firstMet ts) ≡ false → among (refusalNumber (firstMet ts)) (numbersOf (reasons ts)) ≡ true)
+        → (eqb (refusalNumber (first (refusing (t .why) m) (firstMet ts))) (refusalNumber (t .why))
+        || among (refusalNumber (first (refusing (t .why) m) (firstMet ts))) (numbersOf (reasons ts))) ≡ true
+    go false n e h later = rw (later h, or-true)
+    go true true e h later = rw e (rw (later (rw e at h), or-true))
+    go true false e h later = rw (e, eq-eqb (refusalNumber (t .why)) (refusalNumber (t .why)) refl)
+
+-- ---- the order of tests, by computation
+tests-are : (g : Geometry) (k : Call) (p : ℕ) (d : Drive) (v f b : List ℕ) → reasons (testsOf g k p d v f b) ≡ refusalsOf k
+unfolding logInTests openTests closeTests sizeTests firstTests nextTests deleteLadder deleteTests makeLadder makeTests renameLadder renameTests attributesLadder sequentialTests randomTests readTests emptyTests writeTests protectTests userTests setRandomTests
+tests-are g LogIn p d v f b = refl
+tests-are g Open p d v f b = refl
+tests-are g Close p d v f b = refl
+tests-are g SearchFirst p d v f b = refl
+tests-are g SearchNext p d v f b = refl
+tests-are g Delete p d v f b = refl
+tests-are g ReadSequential p d v f b = refl
+tests-are g WriteSequential p d v f b = refl
+tests-are g Make p d v f b = refl
+tests-are g Rename p d v f b = refl
+tests-are g Protect p d v f b = refl
+tests-are g Attributes p d v f b = refl
+tests-are g User p d v f b = refl
+tests-are g ReadRandom p d v f b = refl
+tests-are g WriteRandom p d v f b = refl
+tests-are g Size p d v f b = refl
+tests-are g SetRandom p d v f b = refl
+tests-are g EmptyRecord p d v f b = refl
+tests-are g Unserved p d v f b = refl
+
+in-table-order : (k : Call) → k ≢ Unserved → inOrder (refusalsOf k) paperTable ≡ true
+in-table-order LogIn n = refl
+in-table-order Open n = refl
+in-table-order Close n = refl
+in-table-order SearchFirst n = refl
+in-table-order SearchNext n = refl
+in-table-order Delete n = refl
+in-table-order ReadSequential n = refl
+in-table-order WriteSequential n = refl
+in-table-order Make n = refl
+in-table-order Rename n = refl
+in-table-order Protect n = refl
+in-table-order Attributes n = refl
+in-table-order User n = refl
+in-table-order ReadRandom n = refl
+in-table-order WriteRandom n = refl
+in-table-order Size n = refl
+in-table-order SetRandom n = refl
+in-table-order EmptyRecord n = refl
+in-table-order Unserved n = absurd (n refl)
+
+-- ---- all together
+-- a test is met exactly where the answer is a refusal
+pub was-met : {a : Answer} {ts : List Test} {m : ℕ} → Says a ts m → succeeded a ≡ false → isNone (firstMet ts) ≡ false
+was-met {a} {ts} {m} s h = go (isNone (firstMet ts)) refl
+  where
+    go : (t : Bool) → isNone (firstMet ts) ≡ t → isNone (firstMet ts) ≡ false
+    go true e = absurd (true≢false (sym (s .none e .0) ∙ h))
+    go false e = e
+
+pub was-none : {a : Answer} {ts : List Test} {m : ℕ} → Says a ts m → succeeded a ≡ true → isNone (firstMet ts) ≡ true
+was-none {a} {ts} {m} s h = go (isNone (firstMet ts)) refl
+  where
+    go : (t : Bool) → isNone (firstMet ts) ≡ t → isNone (firstMet ts) ≡ true
+    go true e = e
+    go false e = absurd (false≢true (sym (s .met e .0) ∙ h))
+
+pub step-says : (g : Geometry) (c : Asked) (d : Drive) (v : List ℕ) → Says (answer g c d v) (tests g c d v) (codesOf (call c))
+unfolding step
+step-says g c d v = call-says g (c .parameter) d v (c .block) (c .buffer) (call c)
+
+refusal-among : (g : Geometry) (c : Asked) (d : Drive) (v : List ℕ) → succeeded (answer g c d v) ≡ false
+    → among (numberOf (answer g c d v)) (numbersOf (refusalsOf (call c))) ≡ true
+refusal-among g c d v h =
+    let s = step-says g c d v in
+    let m = was-met s h in
+    rw (s .met m .1, ← tests-are g (call c) (c .parameter) d v (c .block) (c .buffer)) (number-among (tests g c d v) m)
+
+pub demand1 : Demand1
+unfolding step
+demand1 = record {
+  refused-leaves-all = λ g c d v. call-kept g (call c) (c .parameter) d v (c .block) (c .buffer);
+  refused-log-in-closes = λ g c d v. closes g (call c) (c .parameter) d v (c .block) (c .buffer);
+  success-of-paper = λ g c d v h. let s = step-says g c d v in s .none (was-none s h) .1;
+  refusal-of-paper = refusal-among;
+  first-test-refuses = λ g c d v. step-says g c d v .met;
+  no-test-succeeds = λ g c d v h. step-says g c d v .none h .0;
+  tests-are = tests-are;
+  in-table-order = in-table-order;
+  table-numbers = refl;
+}

@@ -1,0 +1,242 @@
+-- Demand 2 holds but for what is written: a definition has one value, the last test of a write asks for a free block, and
+-- log-in's words are those of the blocks that entries name.
+use mathlib.Core.Path.{_≡_, refl, sym, ap, _∙_}
+use mathlib.Core.Bool.{Bool, true, false, not, cond, _&&_, true≢false, false≢true}
+use mathlib.Core.List.{List, [], _∷_, _++_}
+use Prim.Native.Nat.{ℕ, _-_, _/_, _%_, _^_, _≤_, _<_}
+use native.Mathlib.Decide.{decLt}
+use native.Mathlib.Nat.{div-eq-of-lt}
+use native.Mathlib.Omega.{arith}
+use lib.Dec.{leb, ltb, eqb}
+use lib.ListN.{length, getD, List·getD-eq-default}
+use lib.Pow.{pow-pos}
+use borrow.Author.Tests.{not-true, not-false, eqb-true, eq-eqb, leb-true, leb-false, le-leb, le-ltb, ltb-true, ltb-false, lt-ltb}
+use Rattle.lists.specs.Search.{countFrom}
+use Rattle.lists.proofs.BoolLaws.{and-parts}
+use Rattle.lists.proofs.SearchLaws.{count-ext}
+use Rattle.volume.specs.declared.Geometry.{Geometry}
+use Rattle.volume.specs.Geometry.{lawful, bytes, slots, inside, placeOf}
+use Rattle.volume.specs.Name.{nameOf}
+use Rattle.volume.proofs.GeometryLaws.{bounds}
+use Rattle.control.specs.Block.{position, random}
+use Rattle.blocks.specs.Held.{digit, holds, isFree, freeCount}
+use Rattle.blocks.proofs.WordsLaws.{length-words}
+use Rattle.answers.specs.declared.Refusal.{Refusal}
+use Rattle.answers.specs.declared.Refusal.the-variants.{Closed, VolumeLength, BadSlot, NoBlock}
+use Rattle.answers.specs.Refusal.{Test, test, refusalNumber, isNone, firstMet}
+use Rattle.answers.specs.Answer.{numberOf, valueOf, succeeded}
+use Rattle.answers.proofs.Ladder.{unmet, ladder-pass}
+use Rattle.inspection.specs.GoodSlot.{namedBelow, goodSlot, lowestBad}
+use Rattle.inspection.specs.Named.{named, heldOf}
+use Rattle.inspection.proofs.AcceptedLaws.{accepted, accepts, lowest-bad-le}
+use Rattle.inspection.proofs.NamedLaws.{holds-held}
+use Rattle.writing.specs.Write.{alloc, baseEntry, needsBlock, writeTests}
+use Rattle.writing.proofs.AllocLaws.{alloc-le, alloc-none, none-alloc}
+use Rattle.filecalls.specs.declared.Drive.{Drive}
+use Rattle.filecalls.specs.declared.Reply.{Reply}
+use Rattle.filecalls.specs.Outcome.{Outcome, left}
+use Rattle.filecalls.specs.State.{isOpen}
+use Rattle.filecalls.specs.LogIn.{logInTests, logIn}
+use Rattle.filecalls.specs.Read.{sequentialTests, randomTests}
+use Rattle.filecalls.specs.Write.{emptyTests}
+use Rattle.filecalls.proofs.StateLaws.{is-open}
+use Rattle.bdos.specs.declared.Call.{Call}
+use Rattle.bdos.specs.declared.Call.the-variants.{LogIn, WriteSequential, WriteRandom, EmptyRecord}
+use Rattle.bdos.specs.Step.{Asked, does, step}
+use Rattle.demands.specs.Order.{testsOf, codesOf}
+use Rattle.demands.specs.Demand1.{call, tests, answer}
+use Rattle.demands.specs.Demand2.{Writes, sequential, direct, empty, earlier, NoneFree, Same, Demand2}
+use Rattle.demands.proofs.Demand1.{log-in-says, step-says, was-none}
+
+-- ---- one outcome: the general lemma, for any outcome at all
+pub one : (o : Outcome) (r s : Reply) (v w f h b e : List ℕ) → left r v f b ≡ o → left s w h e ≡ o → Same r s v w f h b e
+one o r s v w f h b e p q =
+    let z = p ∙ sym q in
+    record {
+      reply = λ i. record { answer = z i .answer; drive = z i .drive };
+      volume = ap (λ (x : Outcome). x .volume) z;
+      block = ap (λ (x : Outcome). x .block) z;
+      buffer = ap (λ (x : Outcome). x .buffer) z;
+    }
+
+-- ---- 2: the last test of a write
+abbrev noneLeft : Drive → List ℕ → List ℕ → ℕ → Bool
+noneLeft d v f n =
+    needsBlock (d .geometry) v (d .user) (nameOf f) n
+    && leb (d .geometry .total) (alloc (d .geometry) (d .held) (baseEntry (d .geometry) v (d .user) (nameOf f) n) (placeOf (d .geometry) n))
+
+module _ (g : Geometry) (p : ℕ) (d : Drive) (v f b : List ℕ) where
+  last-test : {k : Call} {n : ℕ} → Writes f k n
+      → testsOf g k p d v f b ≡ earlier (testsOf g k p d v f b) ++ (test NoBlock (noneLeft d v f n) ∷ [])
+  unfolding sequentialTests randomTests emptyTests writeTests
+  last-test sequential = refl
+  last-test direct = refl
+  last-test empty = refl
+
+  open-state : {k : Call} {n : ℕ} → Writes f k n → isNone (firstMet (earlier (testsOf g k p d v f b))) ≡ true → isOpen d ≡ true
+  unfolding sequentialTests randomTests emptyTests writeTests
+  open-state sequential e = not-false (isOpen d) (unmet Closed _ _ refl e .0)
+  open-state direct e = not-false (isOpen d) (unmet Closed _ _ refl e .0)
+  open-state empty e = not-false (isOpen d) (unmet Closed _ _ refl e .0)
+
+  one-code : {k : Call} {n : ℕ} → Writes f k n → codesOf k ≡ 1
+  one-code sequential = refl
+  one-code direct = refl
+  one-code empty = refl
+
+  -- where the tests before it pass, the last decides
+  last-decides : {k : Call} {n : ℕ} → Writes f k n → isNone (firstMet (earlier (testsOf g k p d v f b))) ≡ true
+      → firstMet (testsOf g k p d v f b) ≡ firstMet (test NoBlock (noneLeft d v f n) ∷ [])
+  last-decides {k} w e = ap firstMet (last-test w) ∙ ladder-pass (earlier (testsOf g k p d v f b)) _ e
+
+last-met : (m : Bool) → m ≡ true → firstMet (test NoBlock m ∷ []) ≡ NoBlock
+unfolding firstMet
+last-met m e = rw e
+
+last-none : (m : Bool) → m ≡ false → isNone (firstMet (test NoBlock m ∷ [])) ≡ true
+unfolding firstMet
+last-none m e = rw e
+
+module _ (g : Geometry) (c : Asked) (d : Drive) (v : List ℕ) (n : ℕ) (w : Writes (c .block) (call c) n)
+    (e : isNone (firstMet (earlier (tests g c d v))) ≡ true) (needs : needsBlock (d .geometry) v (d .user) (nameOf (c .block)) n ≡ true) where
+  abbrev given : ℕ
+  given = alloc (d .geometry) (d .held) (baseEntry (d .geometry) v (d .user) (nameOf (c .block)) n) (placeOf (d .geometry) n)
+
+  good : lawful (d .geometry) ≡ true
+  good = is-open d (open-state g (c .parameter) d v (c .block) (c .buffer) w e) .law
+
+  decides : firstMet (tests g c d v) ≡ firstMet (test NoBlock (noneLeft d v (c .block) n) ∷ [])
+  decides = last-decides g (c .parameter) d v (c .block) (c .buffer) w e
+
+  two-none : numberOf (answer g c d v) ≡ 2 → NoneFree d
+  two-none two = go (noneLeft d v (c .block) n) refl
+    where
+      go : (m : Bool) → noneLeft d v (c .block) n ≡ m → NoneFree d
+      go true q =
+          let l = leb-true (d .geometry .total) given (and-parts (needsBlock (d .geometry) v (d .user) (nameOf (c .block)) n) (leb (d .geometry .total) given) q .1) in
+          let u = alloc-le (d .geometry) (d .held) (baseEntry (d .geometry) v (d .user) (nameOf (c .block)) n) (placeOf (d .geometry) n) good in
+          alloc-none (d .geometry) (d .held) (baseEntry (d .geometry) v (d .user) (nameOf (c .block)) n) (placeOf (d .geometry) n) good (omega arith)
+      go false q =
+          let l = step-says g c d v .none (ap isNone decides ∙ last-none _ q) .1 in
+          absurd (omega (arith, one-code g (c .parameter) d v (c .block) (c .buffer) w))
+
+  none-two : NoneFree d → numberOf (answer g c d v) ≡ 2
+  none-two h =
+      let a = none-alloc (d .geometry) (d .held) (baseEntry (d .geometry) v (d .user) (nameOf (c .block)) n) (placeOf (d .geometry) n) good h in
+      let q : noneLeft d v (c .block) n ≡ true = rw (needs, le-leb (d .geometry .total) given (omega arith)) in
+      let f : firstMet (tests g c d v) ≡ NoBlock = decides ∙ last-met (noneLeft d v (c .block) n) q in
+      step-says g c d v .met (ap isNone f) .1 ∙ ap refusalNumber f
+
+-- ---- log-in
+module _ (g : Geometry) (v : List ℕ) where
+  -- an accepted log-in: no test is met, and the state's words are those of the named blocks
+  record Accepted : Type 0 where
+    law : lawful g ≡ true
+    size : length v ≡ bytes g
+    all-good : lowestBad g v ≡ slots g
+    count : valueOf (logIn g v .answer) ≡ freeCount (heldOf g v) (g .directory) (g .total)
+    words : logIn g v .drive .held ≡ heldOf g v
+
+  no-test : succeeded (logIn g v .answer) ≡ true → isNone (firstMet (logInTests g v)) ≡ true
+  no-test h = was-none (log-in-says g v) h
+
+  accepted-log-in : succeeded (logIn g v .answer) ≡ true → Accepted
+  unfolding logIn logInTests
+  accepted-log-in h =
+      let n = no-test h in
+      let x = unmet Closed _ _ refl n in
+      let y = unmet VolumeLength _ _ refl (x .1) in
+      let z = unmet BadSlot _ _ refl (y .1) in
+      record {
+        law = not-false (lawful g) (x .0);
+        size = eqb-true (length v) (bytes g) (not-false (eqb (length v) (bytes g)) (y .0));
+        all-good = omega (arith, ltb-false (lowestBad g v) (slots g) (z .0), lowest-bad-le g v);
+        count = rw n;
+        words = rw n;
+      }
+
+  passes-tests : lawful g ≡ true → length v ≡ bytes g → lowestBad g v ≡ slots g → isNone (firstMet (logInTests g v)) ≡ true
+  unfolding logInTests firstMet
+  passes-tests l s a = rw (l, eq-eqb (length v) (bytes g) s, le-ltb (lowestBad g v) (slots g) (omega arith))
+
+  -- the blocks from D to T-1 that it holds are the named ones
+  pub holds-named : lawful g ≡ true → (b : ℕ) → g .directory ≤ b → b < g .total → holds (heldOf g v) b ≡ namedBelow g v (slots g) b
+  unfolding named inside
+  holds-named l b low high =
+      holds-held g v b (omega (arith, bounds g l)) ∙ rw (le-leb (g .directory) b low, lt-ltb b (g .total) high)
+
+  -- no other: neither one outside D to T-1, nor one past the words
+  far : (b : ℕ) → 256 ≤ b → holds (heldOf g v) b ≡ false
+  unfolding holds digit heldOf
+  far b h =
+      let z = List·getD-eq-default (heldOf g v) 0 {n = b / 64} (omega (arith, length-words (named g v))) in
+      rw (z, div-eq-of-lt (pow-pos (b % 64)))
+
+  pub holds-inside : (b : ℕ) → holds (heldOf g v) b ≡ true → (g .directory ≤ b) × (b < g .total)
+  unfolding named inside
+  holds-inside b h = elim (decLt b 256) [
+    | yes l ↦ parts (and-parts (leb (g .directory) b && ltb b (g .total)) _ (sym (holds-held g v b l) ∙ h) .0)
+    | no l ↦ absurd (false≢true (sym (far b (omega arith)) ∙ h))
+  ]
+    where
+      parts : leb (g .directory) b && ltb b (g .total) ≡ true → (g .directory ≤ b) × (b < g .total)
+      parts q =
+          let p = and-parts (leb (g .directory) b) (ltb b (g .total)) q in
+          (leb-true (g .directory) b (p .0), ltb-true b (g .total) (p .1))
+
+  free-named : lawful g ≡ true → freeCount (heldOf g v) (g .directory) (g .total) ≡ countFrom (λ b. not (namedBelow g v (slots g) b)) (g .directory) (g .total - g .directory)
+  unfolding freeCount
+  free-named l =
+      count-ext (isFree (heldOf g v)) (λ b. not (namedBelow g v (slots g) b)) (g .directory) (g .total - g .directory)
+      (λ b x y. ap not (holds-named l b x (omega arith)))
+
+-- log-in at the door
+at-door : (g : Geometry) (k : Call) (p : ℕ) (d : Drive) (v f b : List ℕ) → k ≡ LogIn → does g k p d v f b ≡ left (logIn g v) v f b
+unfolding does
+at-door g k p d v f b e = rw e
+
+module _ (g : Geometry) (c : Asked) (d : Drive) (v : List ℕ) (e : call c ≡ LogIn) where
+  door : step g c d v ≡ left (logIn g v) v (c .block) (c .buffer)
+  unfolding step
+  door = at-door g (call c) (c .parameter) d v (c .block) (c .buffer) e
+
+  answer-is : answer g c d v ≡ logIn g v .answer
+  answer-is = ap (λ (o : Outcome). o .answer) door
+
+  state-is : step g c d v .drive ≡ logIn g v .drive
+  state-is = ap (λ (o : Outcome). o .drive) door
+
+  log-in-accepts : lawful g ≡ true → length v ≡ bytes g → ((i : ℕ) → i < slots g → goodSlot g v i ≡ true) → succeeded (answer g c d v) ≡ true
+  log-in-accepts l s h = ap succeeded answer-is ∙ log-in-says g v .none (passes-tests g v l s (accepts g v h)) .0
+
+  module _ (h : succeeded (answer g c d v) ≡ true) where
+    facts : Accepted g v
+    facts = accepted-log-in g v (sym (ap succeeded answer-is) ∙ h)
+
+    log-in-good : (i : ℕ) → i < slots g → goodSlot g v i ≡ true
+    log-in-good = accepted g v (facts .all-good)
+
+    log-in-count : valueOf (answer g c d v) ≡ countFrom (λ b. not (namedBelow g v (slots g) b)) (g .directory) (g .total - g .directory)
+    log-in-count = ap valueOf answer-is ∙ facts .count ∙ free-named g v (facts .law)
+
+    held-words : step g c d v .drive .held ≡ heldOf g v
+    held-words = ap (λ (s : Drive). s .held) state-is ∙ facts .words
+
+    log-in-holds : (b : ℕ) → g .directory ≤ b → b < g .total → holds (step g c d v .drive .held) b ≡ namedBelow g v (slots g) b
+    log-in-holds b low high = rw held-words (holds-named g v (facts .law) b low high)
+
+    log-in-holds-no-other : (b : ℕ) → holds (step g c d v .drive .held) b ≡ true → (g .directory ≤ b) × (b < g .total)
+    log-in-holds-no-other b q = holds-inside g v b (rw held-words at q)
+
+-- ---- all together
+pub demand2 : Demand2
+demand2 = record {
+  one-outcome = λ g c d v₀. one (step g c d v₀);
+  refused-none-free = two-none;
+  none-free-refused = none-two;
+  accepts-good = log-in-accepts;
+  accepted-is-good = log-in-good;
+  log-in-count = log-in-count;
+  log-in-holds = log-in-holds;
+  log-in-holds-no-other = log-in-holds-no-other;
+}

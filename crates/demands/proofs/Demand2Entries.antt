@@ -1,0 +1,78 @@
+-- Facts of single entries and records that the laws of a write's neighbours use.
+use mathlib.Core.Path.{_≡_, refl, sym, ap, _∙_}
+use mathlib.Core.Bool.{Bool, true, false, cond}
+use mathlib.Core.Logic.{_⊎_, inl, inr, _≢_}
+use mathlib.Core.List.{List, _++_}
+use Prim.Native.Nat.{ℕ, _+_, _*_, _/_, _%_, _≤_, _<_, min, max}
+use native.Mathlib.Decide.{ℕ-discrete, decLt}
+use native.Mathlib.Omega.{arith}
+use lib.Dec.{ltb, eqb}
+use lib.ListN.{length, replicate, set, getD-replicate}
+use lib.Seq.{getD-append-add, getD-set-same, getD-set-other}
+use borrow.Author.Tests.{eqb-true, ne-eqb}
+use Rattle.lists.specs.Bytes.{byte, part}
+use Rattle.lists.proofs.BoolLaws.{and-left}
+use Rattle.lists.proofs.PartLaws.{length-part}
+use Rattle.volume.specs.declared.Geometry.{Geometry}
+use Rattle.volume.specs.Geometry.{lawful, records, extents, groupOf, placeOf}
+use Rattle.volume.specs.Name.{nameOf, same}
+use Rattle.volume.specs.Entry.{Entry, isEmpty, extent, places, blockIn, countOf, ofFile}
+use Rattle.volume.proofs.EntryLaws.{count-below, count-above, count-own}
+use Rattle.volume.proofs.GeometryLaws.{bounds}
+use Rattle.writing.specs.Write.{likeEntry, grown}
+use Rattle.writing.proofs.GrowLaws.{grown-extent, grown-own, grown-earlier, grown-full, grown-other}
+
+-- an entry of a user 0..15 is not an empty slot
+pub file-used : (u : ℕ) (name : List ℕ) (e : Entry) → u ≤ 15 → ofFile u name e ≡ true → isEmpty e ≡ false
+unfolding ofFile
+file-used u name e l h =
+    let q = eqb-true (byte e 0) u (and-left (eqb (byte e 0) u) (same (nameOf e) name) h) in
+    ne-eqb (byte e 0) 229 (omega arith)
+
+-- a new entry's map is empty
+pub like-no-block : (g : Geometry) (e : Entry) → length e ≡ 32 → (p : ℕ) → p < places g → blockIn g (likeEntry e) p ≡ 0
+unfolding likeEntry blockIn places
+like-no-block g e l p h =
+    let k = length-part e 0 12 (omega arith) in
+    let z : 16 + p ≡ length (part e 0 12) + (4 + p) = omega arith in
+    ap (byte (part e 0 12 ++ replicate 20 0)) z ∙ getD-append-add (part e 0 12) (replicate 20 0) (4 + p) 0 ∙ getD-replicate 20 (4 + p) 0 0 (omega arith)
+
+-- ---- counts
+count-le : (e : Entry) (x : ℕ) → countOf e x ≤ 128
+unfolding countOf
+count-le e x = go (ltb x (extent e)) (ltb (extent e) x)
+  where
+    go : (s t : Bool) → cond s 128 (cond t 0 (min (byte e 15) 128)) ≤ 128
+    go true t = omega arith
+    go false true = omega arith
+    go false false = omega arith
+
+-- growing takes no record away
+pub count-grows : (e : Entry) (n x : ℕ) → length e ≡ 32 → countOf e x ≤ countOf (grown e n) x
+count-grows e n x l = go (decLt (extent e) (n / 128)) (decLt x (n / 128)) (ℕ-discrete x (n / 128)) (ℕ-discrete (extent e) (n / 128))
+  where
+    go : Dec (extent e < n / 128) → Dec (x < n / 128) → Dec (x ≡ n / 128) → Dec (extent e ≡ n / 128) → countOf e x ≤ countOf (grown e n) x
+    go (yes h) (yes k) a b = rw (grown-full e n l h x k) (count-le e x)
+    go (yes h) (no k) a b = rw (count-above e x (omega arith)) (omega arith)
+    go (no h) k (no a) b = rw (grown-other e n l (omega arith) x a) (omega arith)
+    go (no h) k (yes a) (no b) = rw (grown-earlier e n (omega (arith, b))) (omega arith)
+    go (no h) k (yes a) (yes b) =
+        let rc = getD-set-same e 15 (max (byte e 15) (n % 128 + 1)) 0 (omega arith) in
+        let s2 = getD-set-other e 15 14 (max (byte e 15) (n % 128 + 1)) 0 (omega arith) in
+        let ex = getD-set-other e 15 12 (max (byte e 15) (n % 128 + 1)) 0 (omega arith) in
+        let own : x ≡ extent (set e 15 (max (byte e 15) (n % 128 + 1))) = omega arith in
+        rw (grown-own e n b, count-own (set e 15 (max (byte e 15) (n % 128 + 1))) x own, rc, count-own e x (a ∙ sym b)) (omega arith)
+
+-- ---- a record is told by its group, its place and its number in the block
+whole : (b : ℕ) → (b ≡ 1024) ⊎ ((b ≡ 2048) ⊎ (b ≡ 4096)) → (m : ℕ)
+    → m / 128 / (b / 1024) * (128 * (b / 1024)) + m % (128 * (b / 1024)) / (b / 128) * (b / 128) + m % (b / 128) ≡ m
+whole b (inl e) m = rw e (omega arith)
+whole b (inr (inl e)) m = rw e (omega arith)
+whole b (inr (inr e)) m = rw e (omega arith)
+
+pub same-record : (g : Geometry) → lawful g ≡ true → (m n : ℕ) → groupOf g (m / 128) ≡ groupOf g (n / 128) → placeOf g m ≡ placeOf g n
+    → m % records g ≡ n % records g → m ≡ n
+unfolding groupOf placeOf
+same-record g good m n x y z =
+    let sizes = bounds g good .block-sizes in
+    sym (whole (g .block) sizes m) ∙ rw (x, y, z) (whole (g .block) sizes n)

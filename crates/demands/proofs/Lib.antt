@@ -1,0 +1,5 @@
+-- The demands, proved.
+pub mod Demand1
+pub mod Demand2Entries
+pub mod Demand2Apart
+pub mod Demand2

@@ -1,0 +1,4 @@
+-- The user's demands, each stated in a file of its own.
+pub mod Order
+pub mod Demand1
+pub mod Demand2
