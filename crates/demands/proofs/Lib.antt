@@ -2,4 +2,5 @@
 pub mod Demand1
 pub mod Demand2Entries
 pub mod Demand2Apart
+pub mod Demand2Others
 pub mod Demand2
