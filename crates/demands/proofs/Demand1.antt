@@ -152,7 +152,7 @@ unfolding outcome firstMet
 unserved-says d v f b = record { met = λ e. (refl, refl); none = λ e. absurd (false≢true e) }
 
 module _ (g : Geometry) (p : ℕ) (d : Drive) (v f b : List ℕ) where
-  call-says : (k : Call) → Says (does g k p d v f b .answer) (testsOf g k p d v f b) (codesOf k)
+  pub call-says : (k : Call) → Says (does g k p d v f b .answer) (testsOf g k p d v f b) (codesOf k)
   unfolding does openAct closeAct sizeAct searchFirstAct searchNextAct shown deleteAct makeAct renameAct attributesAct readSequentialAct readRandomAct readDone writeSequentialAct writeRandomAct emptyRecordAct writeDone protectAct setRandomAct
   call-says LogIn = log-in-says g v
   call-says Open = says d v f [] (testsOf g Open p d v f b) 4 _ _ _ _ _ (λ e. code-lt _)

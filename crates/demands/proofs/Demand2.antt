@@ -2,6 +2,7 @@
 -- log-in's words are those of the blocks that entries name.
 use mathlib.Core.Path.{_≡_, refl, sym, ap, _∙_}
 use mathlib.Core.Bool.{Bool, true, false, not, cond, _&&_, true≢false, false≢true}
+use mathlib.Core.Logic.{_≢_}
 use mathlib.Core.List.{List, [], _∷_, _++_}
 use Prim.Native.Nat.{ℕ, _-_, _/_, _%_, _^_, _≤_, _<_}
 use native.Mathlib.Decide.{decLt}
@@ -31,11 +32,12 @@ use Rattle.inspection.specs.Named.{named, heldOf}
 use Rattle.inspection.proofs.AcceptedLaws.{accepted, accepts, lowest-bad-le}
 use Rattle.inspection.proofs.NamedLaws.{holds-held}
 use Rattle.writing.specs.Write.{alloc, baseEntry, needsBlock, writeTests}
+use Rattle.writing.proofs.WriteLaws.{inside-is}
 use Rattle.writing.proofs.AllocLaws.{alloc-le, alloc-none, none-alloc}
 use Rattle.filecalls.specs.declared.Drive.{Drive}
 use Rattle.filecalls.specs.declared.Reply.{Reply}
 use Rattle.filecalls.specs.Outcome.{Outcome, left}
-use Rattle.filecalls.specs.State.{isOpen}
+use Rattle.filecalls.specs.State.{isOpen, loggedIn}
 use Rattle.filecalls.specs.LogIn.{logInTests, logIn}
 use Rattle.filecalls.specs.Read.{sequentialTests, randomTests}
 use Rattle.filecalls.specs.Write.{emptyTests}
@@ -45,8 +47,11 @@ use Rattle.bdos.specs.declared.Call.the-variants.{LogIn, WriteSequential, Write
 use Rattle.bdos.specs.Step.{Asked, does, step}
 use Rattle.demands.specs.Order.{testsOf, codesOf}
 use Rattle.demands.specs.Demand1.{call, tests, answer}
-use Rattle.demands.specs.Demand2.{Writes, sequential, direct, empty, earlier, NoneFree, Same, Demand2}
+use Rattle.demands.specs.Demand2.{Writes, sequential, direct, empty, earlier, NoneFree, Sound, Present, Same, Demand2}
 use Rattle.demands.proofs.Demand1.{log-in-says, step-says, was-none}
+use Rattle.demands.proofs.Demand2Apart.{Apart, inspected}
+use Rattle.demands.proofs.Demand2Writes.{stores, others}
+use Rattle.demands.proofs.Demand2Sequence.{sequence}
 
 -- ---- one outcome: the general lemma, for any outcome at all
 pub one : (o : Outcome) (r s : Reply) (v w f h b e : List ℕ) → left r v f b ≡ o → left s w h e ≡ o → Same r s v w f h b e
@@ -66,26 +71,26 @@ noneLeft d v f n =
     && leb (d .geometry .total) (alloc (d .geometry) (d .held) (baseEntry (d .geometry) v (d .user) (nameOf f) n) (placeOf (d .geometry) n))
 
 module _ (g : Geometry) (p : ℕ) (d : Drive) (v f b : List ℕ) where
-  last-test : {k : Call} {n : ℕ} → Writes f k n
+  last-test : {k : Call} {n : ℕ} {r : List ℕ} → Writes f b k n r
       → testsOf g k p d v f b ≡ earlier (testsOf g k p d v f b) ++ (test NoBlock (noneLeft d v f n) ∷ [])
   unfolding sequentialTests randomTests emptyTests writeTests
   last-test sequential = refl
   last-test direct = refl
   last-test empty = refl
 
-  open-state : {k : Call} {n : ℕ} → Writes f k n → isNone (firstMet (earlier (testsOf g k p d v f b))) ≡ true → isOpen d ≡ true
+  open-state : {k : Call} {n : ℕ} {r : List ℕ} → Writes f b k n r → isNone (firstMet (earlier (testsOf g k p d v f b))) ≡ true → isOpen d ≡ true
   unfolding sequentialTests randomTests emptyTests writeTests
   open-state sequential e = not-false (isOpen d) (unmet Closed _ _ refl e .0)
   open-state direct e = not-false (isOpen d) (unmet Closed _ _ refl e .0)
   open-state empty e = not-false (isOpen d) (unmet Closed _ _ refl e .0)
 
-  one-code : {k : Call} {n : ℕ} → Writes f k n → codesOf k ≡ 1
+  one-code : {k : Call} {n : ℕ} {r : List ℕ} → Writes f b k n r → codesOf k ≡ 1
   one-code sequential = refl
   one-code direct = refl
   one-code empty = refl
 
   -- where the tests before it pass, the last decides
-  last-decides : {k : Call} {n : ℕ} → Writes f k n → isNone (firstMet (earlier (testsOf g k p d v f b))) ≡ true
+  last-decides : {k : Call} {n : ℕ} {r : List ℕ} → Writes f b k n r → isNone (firstMet (earlier (testsOf g k p d v f b))) ≡ true
       → firstMet (testsOf g k p d v f b) ≡ firstMet (test NoBlock (noneLeft d v f n) ∷ [])
   last-decides {k} w e = ap firstMet (last-test w) ∙ ladder-pass (earlier (testsOf g k p d v f b)) _ e
 
@@ -97,7 +102,7 @@ last-none : (m : Bool) → m ≡ false → isNone (firstMet (test NoBlock m ∷ 
 unfolding firstMet
 last-none m e = rw e
 
-module _ (g : Geometry) (c : Asked) (d : Drive) (v : List ℕ) (n : ℕ) (w : Writes (c .block) (call c) n)
+module _ (g : Geometry) (c : Asked) (d : Drive) (v : List ℕ) (n : ℕ) (r : List ℕ) (w : Writes (c .block) (c .buffer) (call c) n r)
     (e : isNone (firstMet (earlier (tests g c d v))) ≡ true) (needs : needsBlock (d .geometry) v (d .user) (nameOf (c .block)) n ≡ true) where
   abbrev given : ℕ
   given = alloc (d .geometry) (d .held) (baseEntry (d .geometry) v (d .user) (nameOf (c .block)) n) (placeOf (d .geometry) n)
@@ -135,7 +140,7 @@ module _ (g : Geometry) (v : List ℕ) where
     size : length v ≡ bytes g
     all-good : lowestBad g v ≡ slots g
     count : valueOf (logIn g v .answer) ≡ freeCount (heldOf g v) (g .directory) (g .total)
-    words : logIn g v .drive .held ≡ heldOf g v
+    state : logIn g v .drive ≡ loggedIn g (heldOf g v)
 
   no-test : succeeded (logIn g v .answer) ≡ true → isNone (firstMet (logInTests g v)) ≡ true
   no-test h = was-none (log-in-says g v) h
@@ -152,7 +157,7 @@ module _ (g : Geometry) (v : List ℕ) where
         size = eqb-true (length v) (bytes g) (not-false (eqb (length v) (bytes g)) (y .0));
         all-good = omega (arith, ltb-false (lowestBad g v) (slots g) (z .0), lowest-bad-le g v);
         count = rw n;
-        words = rw n;
+        state = rw n;
       }
 
   passes-tests : lawful g ≡ true → length v ≡ bytes g → lowestBad g v ≡ slots g → isNone (firstMet (logInTests g v)) ≡ true
@@ -190,6 +195,20 @@ module _ (g : Geometry) (v : List ℕ) where
       count-ext (isFree (heldOf g v)) (λ b. not (namedBelow g v (slots g) b)) (g .directory) (g .total - g .directory)
       (λ b x y. ap not (holds-named l b x (omega arith)))
 
+  -- so log-in leaves a state that is sound
+  held-named : lawful g ≡ true → (b : ℕ) → named g v b ≡ true → holds (heldOf g v) b ≡ true
+  unfolding named
+  held-named l b q =
+      let i = inside-is g b (and-parts (inside g b) (namedBelow g v (slots g) b) q .0) in
+      holds-held g v b (omega (arith, bounds g l .total-high, i .1)) ∙ q
+
+  four : length (heldOf g v) ≡ 4
+  unfolding heldOf
+  four = length-words (named g v)
+
+  logged-in-sound : Accepted → Sound (loggedIn g (heldOf g v)) v
+  logged-in-sound a = record { inspected = a .all-good; words = four; holds-named = held-named (a .law) }
+
 -- log-in at the door
 at-door : (g : Geometry) (k : Call) (p : ℕ) (d : Drive) (v f b : List ℕ) → k ≡ LogIn → does g k p d v f b ≡ left (logIn g v) v f b
 unfolding does
@@ -216,11 +235,14 @@ module _ (g : Geometry) (c : Asked) (d : Drive) (v : List ℕ) (e : call c ≡ L
     log-in-good : (i : ℕ) → i < slots g → goodSlot g v i ≡ true
     log-in-good = accepted g v (facts .all-good)
 
+    log-in-sound : Sound (step g c d v .drive) (step g c d v .volume)
+    log-in-sound = rw (door, facts .state) (logged-in-sound g v facts)
+
     log-in-count : valueOf (answer g c d v) ≡ countFrom (λ b. not (namedBelow g v (slots g) b)) (g .directory) (g .total - g .directory)
     log-in-count = ap valueOf answer-is ∙ facts .count ∙ free-named g v (facts .law)
 
     held-words : step g c d v .drive .held ≡ heldOf g v
-    held-words = ap (λ (s : Drive). s .held) state-is ∙ facts .words
+    held-words = ap (λ (s : Drive). s .held) (state-is ∙ facts .state)
 
     log-in-holds : (b : ℕ) → g .directory ≤ b → b < g .total → holds (step g c d v .drive .held) b ≡ namedBelow g v (slots g) b
     log-in-holds b low high = rw held-words (holds-named g v (facts .law) b low high)
@@ -228,14 +250,34 @@ module _ (g : Geometry) (c : Asked) (d : Drive) (v : List ℕ) (e : call c ≡ L
     log-in-holds-no-other : (b : ℕ) → holds (step g c d v .drive .held) b ≡ true → (g .directory ≤ b) × (b < g .total)
     log-in-holds-no-other b q = holds-inside g v b (rw held-words at q)
 
+-- ---- the writes
+apart : (d : Drive) (v : List ℕ) → Sound d v → Apart (d .geometry) (d .held) v
+apart d v s = inspected (d .geometry) (d .held) v (s .words) (s .inspected) (s .holds-named)
+
+module _ (g : Geometry) (c : Asked) (d : Drive) (v : List ℕ) (n : ℕ) (r : List ℕ) (w : Writes (c .block) (c .buffer) (call c) n r)
+    (h : succeeded (answer g c d v) ≡ true) where
+  write-stores : Present d (c .block) (step g c d v .volume) n r
+  unfolding step
+  write-stores = stores g (c .parameter) d v (c .block) (c .buffer) w (was-none (step-says g c d v) h)
+
+  write-keeps : Sound d v → (m : ℕ) → m ≢ n → (s : List ℕ) → Present d (c .block) v m s → Present d (c .block) (step g c d v .volume) m s
+  unfolding step
+  write-keeps sound m ne s p =
+      let k = others g (c .parameter) d v (c .block) (c .buffer) w (was-none (step-says g c d v) h) (apart d v sound) m ne (p .is-present) in
+      record { is-present = k .still-present; has-bytes = k .same-bytes ∙ p .has-bytes }
+
 -- ---- all together
 pub demand2 : Demand2
 demand2 = record {
   one-outcome = λ g c d v₀. one (step g c d v₀);
   refused-none-free = two-none;
   none-free-refused = none-two;
+  write-stores = write-stores;
+  write-keeps-others = write-keeps;
+  sequential-writes = λ g p rs d v f s. sequence g p rs d v f (apart d v s);
   accepts-good = log-in-accepts;
   accepted-is-good = log-in-good;
+  accepted-is-sound = log-in-sound;
   log-in-count = log-in-count;
   log-in-holds = log-in-holds;
   log-in-holds-no-other = log-in-holds-no-other;

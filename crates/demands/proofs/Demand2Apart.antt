@@ -59,6 +59,14 @@ inspected g held v four ok h = record {
 }
 
 -- ---- the block of a write
+-- the entry of a record's group is no empty slot
+pub group-used : (g : Geometry) (v : List ℕ) (u : ℕ) (name : List ℕ) (m : ℕ) → u ≤ 15 → recordSlot g v u name m < slots g
+    → isEmpty (slotAt g v (recordSlot g v u name m)) ≡ false
+unfolding recordSlot ofGroup
+group-used g v u name m u15 h =
+    let e = slotAt g v (recordSlot g v u name m) in
+    file-used u name e u15 (and-left (ofFile u name e) (eqb (groupOf g (extent e)) (groupOf g (m / 128))) (found-fits g v u name (Group (groupOf g (m / 128))) h))
+
 module _ (g : Geometry) (held v : List ℕ) (u : ℕ) (name : List ℕ) (n : ℕ) (good : lawful g ≡ true) (size : length v ≡ bytes g) (u15 : u ≤ 15)
     (passed : isNone (firstMet (writeTests g held v u name n)) ≡ true) where
   -- an entry of the record's group is there
@@ -66,12 +74,6 @@ module _ (g : Geometry) (held v : List ℕ) (u : ℕ) (name : List ℕ) (n : ℕ
     pub slot-is : writeSlot g v u name n ≡ recordSlot g v u name n
     pub entry-is : baseEntry g v u name n ≡ slotAt g v (recordSlot g v u name n)
     pub place-at : At g v (writeSlot g v u name n) (placeOf g n)
-
-  pub group-used : recordSlot g v u name n < slots g → isEmpty (slotAt g v (recordSlot g v u name n)) ≡ false
-  unfolding recordSlot ofGroup
-  group-used h =
-      let e = slotAt g v (recordSlot g v u name n) in
-      file-used u name e u15 (and-left (ofFile u name e) (eqb (groupOf g (extent e)) (groupOf g (n / 128))) (found-fits g v u name (Group (groupOf g (n / 128))) h))
 
   pub own : hasGroup g v u name n ≡ true → Own
   unfolding writeSlot baseEntry
@@ -81,7 +83,7 @@ module _ (g : Geometry) (held v : List ℕ) (u : ℕ) (name : List ℕ) (n : ℕ
       record {
         slot-is = s;
         entry-is = rw e;
-        place-at = rw s (record { slot = h; used = group-used h; place = place-lt g good n });
+        place-at = rw s (record { slot = h; used = group-used g v u name n u15 h; place = place-lt g good n });
       }
 
   -- none is there: the entry is new, and so is the block

@@ -1,37 +1,42 @@
 -- Demand 2. "For each call, inputs admit only one outcome; a write that meets no earlier refusal and needs a block is
--- refused by 2 exactly when no block from D to T-1 is free; .. log-in's count equals the number of free blocks, and its
--- held blocks are exactly those named by entries."
--- Each sentence is a field of `Demand2`; that it holds is `demand2` in the proofs. What is written and read stands in
--- `Demand2Writes`.
+-- refused by 2 exactly when no block from D to T-1 is free; after a successful write of record n, n is present with the
+-- bytes written, and every other record of that file that was present is present with the same bytes; k sequential writes
+-- that all succeed leave k records with their own bytes; log-in's count equals the number of free blocks, and its held
+-- blocks are exactly those named by entries."
+-- Each sentence is a field of `Demand2`; that it holds is `demand2` in the proofs.
 use mathlib.Core.Path.{_≡_}
-use mathlib.Core.Bool.{Bool, true, false, not}
+use mathlib.Core.Bool.{Bool, true, false, not, _&&_}
+use mathlib.Core.Logic.{_≢_}
 use mathlib.Core.List.{List, [], _∷_}
-use Prim.Native.Nat.{ℕ, _-_, _≤_, _<_}
-use lib.ListN.{length}
+use Prim.Native.Nat.{ℕ, _+_, _-_, _≤_, _<_}
+use lib.ListN.{length, getD, replicate}
 use Rattle.lists.specs.Search.{countFrom}
 use Rattle.volume.specs.declared.Geometry.{Geometry}
 use Rattle.volume.specs.Geometry.{lawful, bytes, slots}
 use Rattle.volume.specs.Name.{nameOf}
+use Rattle.volume.specs.Record.{present}
 use Rattle.control.specs.Block.{position, random}
 use Rattle.blocks.specs.Held.{holds}
 use Rattle.answers.specs.Refusal.{Test, isNone, firstMet}
 use Rattle.answers.specs.Answer.{numberOf, valueOf, succeeded}
-use Rattle.inspection.specs.GoodSlot.{namedBelow, goodSlot}
+use Rattle.inspection.specs.GoodSlot.{namedBelow, goodSlot, lowestBad}
+use Rattle.inspection.specs.Named.{named}
+use Rattle.reading.specs.Read.{readBytes}
 use Rattle.writing.specs.Write.{needsBlock}
 use Rattle.filecalls.specs.declared.Drive.{Drive}
 use Rattle.filecalls.specs.declared.Reply.{Reply}
 use Rattle.filecalls.specs.Outcome.{left}
 use Rattle.bdos.specs.declared.Call.{Call}
 use Rattle.bdos.specs.declared.Call.the-variants.{LogIn, WriteSequential, WriteRandom, EmptyRecord}
-use Rattle.bdos.specs.Step.{Asked, step}
+use Rattle.bdos.specs.Step.{Asked, asked, step}
 use Rattle.demands.specs.Demand1.{call, tests, answer}
 
 -- ---- what the statement is written with
--- one of the writes, and the record that it means
-pub data Writes (f : List ℕ) : Call → ℕ → Type 0 where
-  sequential : Writes f WriteSequential (position f)
-  direct : Writes f WriteRandom (random f)
-  empty : Writes f EmptyRecord (random f)
+-- one of the writes: given control block and buffer, the record that it means and the bytes that it writes there
+pub data Writes (f b : List ℕ) : Call → ℕ → List ℕ → Type 0 where
+  sequential : Writes f b WriteSequential (position f) b
+  direct : Writes f b WriteRandom (random f) b
+  empty : Writes f b EmptyRecord (random f) (replicate 128 0)
 
 -- all tests but the last
 abbrev pub earlier : List Test → List Test
@@ -46,6 +51,32 @@ earlier (t ∷ ts) = butLast t ts
 abbrev pub NoneFree : Drive → Type 0
 NoneFree d = (b : ℕ) → d .geometry .directory ≤ b → b < d .geometry .total → holds (d .held) b ≡ true
 
+-- the volume passes inspection, and the state holds each block that an entry names: so it is after an accepted log-in, and
+-- demand 3 says that it stays so
+pub record Sound (d : Drive) (v : List ℕ) : Type 0 where
+  pub inspected : lowestBad (d .geometry) v ≡ slots (d .geometry)
+  pub words : length (d .held) ≡ 4
+  pub holds-named : (b : ℕ) → named (d .geometry) v b ≡ true → holds (d .held) b ≡ true
+
+-- record n of the file that a call means is present with the bytes r
+pub record Present (d : Drive) (f v : List ℕ) (n : ℕ) (r : List ℕ) : Type 0 where
+  pub is-present : present (d .geometry) v (d .user) (nameOf f) n ≡ true
+  pub has-bytes : readBytes (d .geometry) v (d .user) (nameOf f) n ≡ r
+
+-- records written by function 21 one after another, each time with the control block and the state that the last left:
+-- whether all succeed, and the volume at the end
+abbrev pub allWritten : Geometry → ℕ → List (List ℕ) → Drive → List ℕ → List ℕ → Bool
+allWritten g p [] d v f = true
+allWritten g p (r ∷ rs) d v f =
+    let o = step g (asked 21 p f r) d v in
+    succeeded (o .answer) && allWritten g p rs (o .drive) (o .volume) (o .block)
+
+abbrev pub volumeAtEnd : Geometry → ℕ → List (List ℕ) → Drive → List ℕ → List ℕ → List ℕ
+volumeAtEnd g p [] d v f = v
+volumeAtEnd g p (r ∷ rs) d v f =
+    let o = step g (asked 21 p f r) d v in
+    volumeAtEnd g p rs (o .drive) (o .volume) (o .block)
+
 -- two replies with what is left beside them are the same
 pub record Same (r s : Reply) (v w f h b c : List ℕ) : Type 0 where
   pub reply : r ≡ s
@@ -59,17 +90,29 @@ pub record Demand2 : Type 0 where
   pub one-outcome : (g : Geometry) (c : Asked) (d : Drive) (v₀ : List ℕ) (r s : Reply) (v w f h b e : List ℕ)
       → left r v f b ≡ step g c d v₀ → left s w h e ≡ step g c d v₀ → Same r s v w f h b e
   -- "a write that meets no earlier refusal and needs a block is refused by 2 exactly when no block .. is free"
-  pub refused-none-free : (g : Geometry) (c : Asked) (d : Drive) (v : List ℕ) (n : ℕ) → Writes (c .block) (call c) n
+  pub refused-none-free : (g : Geometry) (c : Asked) (d : Drive) (v : List ℕ) (n : ℕ) (r : List ℕ) → Writes (c .block) (c .buffer) (call c) n r
       → isNone (firstMet (earlier (tests g c d v))) ≡ true → needsBlock (d .geometry) v (d .user) (nameOf (c .block)) n ≡ true
       → numberOf (answer g c d v) ≡ 2 → NoneFree d
-  pub none-free-refused : (g : Geometry) (c : Asked) (d : Drive) (v : List ℕ) (n : ℕ) → Writes (c .block) (call c) n
+  pub none-free-refused : (g : Geometry) (c : Asked) (d : Drive) (v : List ℕ) (n : ℕ) (r : List ℕ) → Writes (c .block) (c .buffer) (call c) n r
       → isNone (firstMet (earlier (tests g c d v))) ≡ true → needsBlock (d .geometry) v (d .user) (nameOf (c .block)) n ≡ true
       → NoneFree d → numberOf (answer g c d v) ≡ 2
+  -- "after a successful write of record n, n is present with the bytes written"
+  pub write-stores : (g : Geometry) (c : Asked) (d : Drive) (v : List ℕ) (n : ℕ) (r : List ℕ) → Writes (c .block) (c .buffer) (call c) n r
+      → succeeded (answer g c d v) ≡ true → Present d (c .block) (step g c d v .volume) n r
+  -- "and every other record of that file that was present is present with the same bytes"
+  pub write-keeps-others : (g : Geometry) (c : Asked) (d : Drive) (v : List ℕ) (n : ℕ) (r : List ℕ) → Writes (c .block) (c .buffer) (call c) n r
+      → succeeded (answer g c d v) ≡ true → Sound d v
+      → (m : ℕ) → m ≢ n → (s : List ℕ) → Present d (c .block) v m s → Present d (c .block) (step g c d v .volume) m s
+  -- "k sequential writes that all succeed leave k records with their own bytes"
+  pub sequential-writes : (g : Geometry) (p : ℕ) (rs : List (List ℕ)) (d : Drive) (v f : List ℕ) → Sound d v → allWritten g p rs d v f ≡ true
+      → (j : ℕ) → j < length rs → Present d f (volumeAtEnd g p rs d v f) (position f + j) (getD rs j [])
   -- "Log-in accepts exactly when all slots are good"
   pub accepts-good : (g : Geometry) (c : Asked) (d : Drive) (v : List ℕ) → call c ≡ LogIn → lawful g ≡ true → length v ≡ bytes g
       → ((i : ℕ) → i < slots g → goodSlot g v i ≡ true) → succeeded (answer g c d v) ≡ true
   pub accepted-is-good : (g : Geometry) (c : Asked) (d : Drive) (v : List ℕ) → call c ≡ LogIn → succeeded (answer g c d v) ≡ true
       → (i : ℕ) → i < slots g → goodSlot g v i ≡ true
+  pub accepted-is-sound : (g : Geometry) (c : Asked) (d : Drive) (v : List ℕ) → call c ≡ LogIn → succeeded (answer g c d v) ≡ true
+      → Sound (step g c d v .drive) (step g c d v .volume)
   -- "log-in's count equals the number of free blocks": those from D to T-1, one by one, that no entry names
   pub log-in-count : (g : Geometry) (c : Asked) (d : Drive) (v : List ℕ) → call c ≡ LogIn → succeeded (answer g c d v) ≡ true
       → valueOf (answer g c d v) ≡ countFrom (λ b. not (namedBelow g v (slots g) b)) (g .directory) (g .total - g .directory)
