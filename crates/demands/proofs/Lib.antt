@@ -1,0 +1,2 @@
+-- Why the demands hold.
+pub mod Sound

@@ -1,0 +1,1 @@
+// The user's demands, as theorems about the calls: no code of its own.
