@@ -1,2 +1,4 @@
 -- Why the demands hold.
 pub mod Sound
+pub mod Inspected
+pub mod Frame
