@@ -2,3 +2,4 @@
 pub mod Sound
 pub mod Inspected
 pub mod Frame
+pub mod Acts

@@ -3,7 +3,7 @@
 -- leave it sound: one slot laid anew (make, writes), entries gone (delete), entries changed each for itself (rename,
 -- attributes). And the held blocks: exactly those that entries name.
 use mathlib.Core.Path.{_≡_, refl, sym, ap, _∙_}
-use mathlib.Core.Logic.{_≢_, _↔_}
+use mathlib.Core.Logic.{_⊎_, inl, inr, _≢_}
 use mathlib.Core.Bool.{Bool, true, false, not, true≢false, false≢true}
 use mathlib.Core.List.{List}
 use Prim.Native.Nat.{ℕ, _≤_, _<_}
@@ -172,3 +172,56 @@ held-changed g h d d′ k x = record {
 
     back : (b : ℕ) → HeldBy g d′ b → HeldBy g d b
     back b w = record { slot = w .slot; place = w .place; slot< = w .slot<; place< = w .place<; live = sym (k .empty (w .slot) (w .slot<)) ∙ w .live; is = sym (k .blocks (w .slot) (w .place) (w .slot<) (w .place<)) ∙ w .is }
+
+-- ---- held blocks where one slot is laid anew
+-- the entry has block b
+pub record InMap (g : Geometry) (e : Entry) (b : ℕ) : Type 0 where
+  pub place : ℕ
+  pub place< : place < places g
+  pub is : blockIn g e place ≡ b
+
+-- what the new words h′ owe to the old ones and to the new entry e of slot i
+pub record HeldAnew (g : Geometry) (h h′ : List ℕ) (d : Directory) (i : ℕ) (e : Entry) : Type 0 where
+  pub four : length h′ ≡ 4
+  pub live : Live e
+  pub stays : (b : ℕ) → holds h b ≡ true → holds h′ b ≡ true
+  pub only : (b : ℕ) → g .directory ≤ b → b < g .total → holds h′ b ≡ true → (holds h b ≡ true) ⊎ InMap g e b
+  pub keeps : (p : ℕ) → p < places g → Live (d i) → g .directory ≤ blockIn g (d i) p → InMap g e (blockIn g (d i) p)
+  pub holds-all : (p : ℕ) → p < places g → g .directory ≤ blockIn g e p → blockIn g e p < g .total → holds h′ (blockIn g e p) ≡ true
+
+pub held-laid : (g : Geometry) (h h′ : List ℕ) (d d′ : Directory) (i : ℕ) (e : Entry) → i < slots g → Held g h d → Laid g d d′ i e → HeldAnew g h h′ d i e → Held g h′ d′
+held-laid g h h′ d d′ i e i< held laid anew = record { four = anew .four; sound = sound; whole = whole }
+  where
+    at-i : (b : ℕ) → InMap g e b → HeldBy g d′ b
+    at-i b m = record { slot = i; place = m .place; slot< = i<; place< = m .place<; live = rw (laid .here) (anew .live); is = rw (laid .here) (m .is) }
+
+    sound : (b : ℕ) → g .directory ≤ b → b < g .total → holds h′ b ≡ true → HeldBy g d′ b
+    sound b low high t = go (anew .only b low high t)
+      where
+        via : HeldBy g d b → HeldBy g d′ b
+        via w = at (ℕ-discrete (w .slot) i)
+          where
+            at : Dec (w .slot ≡ i) → HeldBy g d′ b
+            at (no z) =
+                let s : d′ (w .slot) ≡ d (w .slot) = laid .there (w .slot) (w .slot<) z in
+                record { slot = w .slot; place = w .place; slot< = w .slot<; place< = w .place<; live = rw s (w .live); is = rw s (w .is) }
+            at (yes z) =
+                let x : blockIn g (d i) (w .place) ≡ b = ap (λ (k : ℕ). blockIn g (d k) (w .place)) (sym z) ∙ w .is in
+                let l : Live (d i) = ap (λ (k : ℕ). isEmpty (d k)) (sym z) ∙ w .live in
+                let m = anew .keeps (w .place) (w .place<) l (rw x low) in
+                at-i b (record { place = m .place; place< = m .place<; is = m .is ∙ x })
+
+        go : (holds h b ≡ true) ⊎ InMap g e b → HeldBy g d′ b
+        go (inl q) = via (held .sound b low high q)
+        go (inr m) = at-i b m
+
+    whole : (b : ℕ) → g .directory ≤ b → b < g .total → HeldBy g d′ b → holds h′ b ≡ true
+    whole b low high w = at (ℕ-discrete (w .slot) i)
+      where
+        at : Dec (w .slot ≡ i) → holds h′ b ≡ true
+        at (no z) =
+            let s : d′ (w .slot) ≡ d (w .slot) = laid .there (w .slot) (w .slot<) z in
+            anew .stays b (held .whole b low high (record { slot = w .slot; place = w .place; slot< = w .slot<; place< = w .place<; live = rw s at (w .live); is = rw s at (w .is) }))
+        at (yes z) =
+            let x : blockIn g e (w .place) ≡ b = ap (λ (f : Entry). blockIn g f (w .place)) (sym (ap d′ z ∙ laid .here)) ∙ w .is in
+            ap (holds h′) (sym x) ∙ anew .holds-all (w .place) (w .place<) (rw x low) (rw x high)
