@@ -3,3 +3,4 @@ pub mod Sound
 pub mod Inspected
 pub mod Frame
 pub mod Acts
+pub mod NewEntry
