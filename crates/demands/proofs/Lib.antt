@@ -3,4 +3,6 @@ pub mod Sound
 pub mod Inspected
 pub mod Frame
 pub mod Acts
+pub mod Files
 pub mod NewEntry
+pub mod MakeKeeps

@@ -1,0 +1,67 @@
+-- A file is a user and a name: what it means that an entry is one of a file's, and that a call names another file.
+use mathlib.Core.Path.{_≡_, refl, sym, ap, _∙_}
+use mathlib.Core.Bool.{Bool, true, false, _&&_, _||_, true≢false, false≢true}
+use mathlib.Core.List.{List}
+use Prim.Native.Nat.{ℕ}
+use lib.Dec.{eqb}
+use borrow.Author.Tests.{eqb-true, eq-eqb}
+use Rattle.lists.specs.Bytes.{byte}
+use Rattle.lists.proofs.BoolLaws.{and-parts}
+use Rattle.volume.specs.Name.{nameOf, same, like}
+use Rattle.volume.specs.Entry.{Entry, ofFile, matches}
+use Rattle.volume.proofs.NameLaws.{same-refl, same-true}
+
+-- not both
+pub not-both : (a b : Bool) → (a ≡ true → b ≡ true → ⊥) → (a && b) ≡ false
+not-both true true h = absurd (h refl refl)
+not-both true false h = refl
+not-both false b h = refl
+
+pub record IsOf (u : ℕ) (name : List ℕ) (e : Entry) : Type 0 where
+  pub user : byte e 0 ≡ u
+  pub name-is : nameOf e ≡ name
+
+pub is-of : (u : ℕ) (name : List ℕ) (e : Entry) → ofFile u name e ≡ true → IsOf u name e
+unfolding ofFile
+is-of u name e h =
+    let p = and-parts (eqb (byte e 0) u) (same (nameOf e) name) h in
+    record { user = eqb-true (byte e 0) u (p .0); name-is = same-true (nameOf e) name (p .1) }
+
+pub of-file : (u : ℕ) (name : List ℕ) (e : Entry) → IsOf u name e → ofFile u name e ≡ true
+unfolding ofFile
+of-file u name e k = rw (eq-eqb (byte e 0) u (k .user), k .name-is) (same-refl name)
+
+pub not-file : (u : ℕ) (name : List ℕ) (e : Entry) → ¬ IsOf u name e → ofFile u name e ≡ false
+not-file u name e h = go (ofFile u name e) refl
+  where
+    go : (t : Bool) → ofFile u name e ≡ t → t ≡ false
+    go false q = refl
+    go true q = absurd (h (is-of u name e q))
+
+-- an entry of the user w under the name own is none of a file that the call does not name
+pub other-file : (w : ℕ) (own : List ℕ) (u : ℕ) (name : List ℕ) (e : Entry) → (eqb u w && same name own) ≡ false → byte e 0 ≡ w → nameOf e ≡ own → ofFile u name e ≡ false
+other-file w own u name e h x y = not-file u name e no
+  where
+    no : ¬ IsOf u name e
+    no k =
+        let z : (eqb u w && same name own) ≡ true = rw (eq-eqb u w (sym (k .user) ∙ x), sym (k .name-is) ∙ y) (same-refl own) in
+        true≢false (sym z ∙ h)
+
+-- the same of a pattern
+pub record Matched (u : ℕ) (pattern : List ℕ) (e : Entry) : Type 0 where
+  pub user : byte e 0 ≡ u
+  pub liked : like (nameOf e) pattern ≡ true
+
+pub matched : (u : ℕ) (pattern : List ℕ) (e : Entry) → matches u pattern e ≡ true → Matched u pattern e
+unfolding matches
+matched u pattern e h =
+    let p = and-parts (eqb (byte e 0) u) (like (nameOf e) pattern) h in
+    record { user = eqb-true (byte e 0) u (p .0); liked = p .1 }
+
+pub other-match : (w : ℕ) (pattern : List ℕ) (u : ℕ) (name : List ℕ) (e : Entry) → (eqb u w && like name pattern) ≡ false → Matched w pattern e → ofFile u name e ≡ false
+other-match w pattern u name e h m = not-file u name e no
+  where
+    no : ¬ IsOf u name e
+    no k =
+        let z : (eqb u w && like name pattern) ≡ true = rw (eq-eqb u w (sym (k .user) ∙ m .user), ← k .name-is) (m .liked) in
+        true≢false (sym z ∙ h)
