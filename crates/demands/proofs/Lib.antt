@@ -6,3 +6,4 @@ pub mod Acts
 pub mod Files
 pub mod NewEntry
 pub mod MakeKeeps
+pub mod Agree
