@@ -2,20 +2,21 @@
 use mathlib.Core.Path.{_≡_, refl, sym, ap, _∙_}
 use mathlib.Core.Bool.{Bool, true, false, _&&_, _||_, true≢false, false≢true}
 use mathlib.Core.List.{List}
-use Prim.Native.Nat.{ℕ}
+use mathlib.Core.Logic.{_≢_}
+use Prim.Native.Nat.{ℕ, _≤_, _<_}
+use native.Mathlib.Omega.{arith}
 use lib.Dec.{eqb}
-use borrow.Author.Tests.{eqb-true, eq-eqb}
+use borrow.Author.Tests.{eqb-true, eq-eqb, ne-eqb}
 use Rattle.lists.specs.Bytes.{byte}
 use Rattle.lists.proofs.BoolLaws.{and-parts}
 use Rattle.volume.specs.Name.{nameOf, same, like}
-use Rattle.volume.specs.Entry.{Entry, ofFile, matches}
+use Rattle.volume.specs.declared.Geometry.{Geometry}
+use Rattle.volume.specs.Geometry.{slots}
+use Rattle.volume.specs.Entry.{Entry, places, blockIn, ofFile, matches}
+use Rattle.volume.specs.Directory.{slotAt}
 use Rattle.volume.proofs.NameLaws.{same-refl, same-true}
-
--- not both
-pub not-both : (a b : Bool) → (a ≡ true → b ≡ true → ⊥) → (a && b) ≡ false
-not-both true true h = absurd (h refl refl)
-not-both true false h = refl
-not-both false b h = refl
+use Rattle.writing.proofs.WriteLaws.{inside-is}
+use Rattle.demands.proofs.Sound.{Live, Sound}
 
 pub record IsOf (u : ℕ) (name : List ℕ) (e : Entry) : Type 0 where
   pub user : byte e 0 ≡ u
@@ -65,3 +66,19 @@ other-match w pattern u name e h m = not-file u name e no
     no k =
         let z : (eqb u w && like name pattern) ≡ true = rw (eq-eqb u w (sym (k .user) ∙ m .user), ← k .name-is) (m .liked) in
         true≢false (sym z ∙ h)
+
+-- ---- the entries of a user's file are not empty, and their blocks are from D to T-1
+pub user-live : (e : Entry) → byte e 0 ≤ 15 → Live e
+user-live e h = ne-eqb (byte e 0) 229 (omega arith)
+
+pub file-live : (u : ℕ) (name : List ℕ) (e : Entry) → u ≤ 15 → ofFile u name e ≡ true → Live e
+file-live u name e u15 own = user-live e (omega (arith, is-of u name e own .user))
+
+pub file-block : (g : Geometry) (v : List ℕ) → Sound g (slotAt g v) → (u : ℕ) (name : List ℕ) → u ≤ 15 → (j p : ℕ) → j < slots g → p < places g
+    → ofFile u name (slotAt g v j) ≡ true → blockIn g (slotAt g v j) p ≢ 0 → (g .directory ≤ blockIn g (slotAt g v j) p) × (blockIn g (slotAt g v j) p < g .total)
+file-block g v sound u name u15 j p j< p< own nz =
+    inside-is g (blockIn g (slotAt g v j) p) (sound .order j j< (file-live u name (slotAt g v j) u15 own) .range p p< nz)
+
+-- an empty slot is none of a user's file
+pub empty-foreign : (u : ℕ) (name : List ℕ) (e : Entry) → u ≤ 15 → eqb (byte e 0) 229 ≡ true → ofFile u name e ≡ false
+empty-foreign u name e u15 h = not-file u name e (λ k. let z = eqb-true (byte e 0) 229 h in omega (arith, k .user))

@@ -6,4 +6,5 @@ pub mod Acts
 pub mod Files
 pub mod NewEntry
 pub mod MakeKeeps
+pub mod WrittenEntry
 pub mod Agree

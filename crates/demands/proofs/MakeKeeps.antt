@@ -9,7 +9,6 @@ use native.Mathlib.Decide.{ℕ-discrete}
 use lib.Dec.{leb, ltb, eqb}
 use lib.ListN.{length}
 use borrow.Author.Tests.{not-false, eqb-true, ltb-false, leb-false}
-use Rattle.lists.specs.Bytes.{byte}
 use Rattle.volume.specs.declared.Geometry.{Geometry}
 use Rattle.volume.specs.declared.Wanted.the-variants.{Empty, File}
 use Rattle.volume.specs.Geometry.{lawful, bytes, slots, inside}
@@ -24,7 +23,6 @@ use Rattle.answers.specs.declared.Refusal.the-variants.{Closed, VolumeLength, B
 use Rattle.answers.specs.Refusal.{isNone, firstMet}
 use Rattle.answers.proofs.Ladder.{unmet}
 use Rattle.naming.specs.Make.{makeTests, freshEntry}
-use Rattle.writing.proofs.WriteLaws.{inside-is}
 use Rattle.filecalls.specs.declared.Drive.{Drive}
 use Rattle.filecalls.specs.State.{isOpen}
 use Rattle.filecalls.specs.Ready.{Open}
@@ -34,8 +32,8 @@ use Rattle.filecalls.proofs.StateLaws.{is-open}
 use Rattle.demands.proofs.Sound.{Live, Sound, Laid, Fresh, Held, InMap, HeldAnew, sound-laid, held-laid}
 use Rattle.demands.proofs.Frame.{Touch, unchanged, foreign, Apart}
 use Rattle.demands.proofs.Acts.{Consistent, Done, Keeps, does, keeps-unless, leaves-apart}
-use Rattle.demands.proofs.Files.{IsOf, is-of, of-file, not-file, other-file}
-use Rattle.demands.proofs.NewEntry.{user-live, fresh-32, fresh-user, fresh-name, fresh-block, fresh-in-order}
+use Rattle.demands.proofs.Files.{IsOf, of-file, other-file, user-live, file-block, empty-foreign}
+use Rattle.demands.proofs.NewEntry.{fresh-32, fresh-user, fresh-name, fresh-block, fresh-in-order}
 
 -- what is known once no test of make is met
 record Ready (d : Drive) (v f : List ℕ) : Type 0 where
@@ -123,21 +121,17 @@ module _ (d : Drive) (v f : List ℕ) (c : Consistent d v) (r : Ready d v f) whe
   apart : (u : ℕ) (name : List ℕ) → u ≤ 15 → (eqb u (d .user) && same name (nameOf f)) ≡ false → Apart g u name v v′
   apart u name u15 other = record { entries = λ j j<. entry j j< (ℕ-discrete j i); bytes = bytes-there }
     where
-      before : ofFile u name (slotAt g v i) ≡ false
-      before = not-file u name (slotAt g v i) (λ k. let z = eqb-true (byte (slotAt g v i) 0) 229 was-empty in omega (arith, k .user))
-
       entry : (j : ℕ) → j < slots g → Dec (j ≡ i) → Touch u name (slotAt g v j) (slotAt g v′ j)
       entry j j< (no z) = unchanged (laid .there j j< z)
       entry j j< (yes z) =
-          foreign (ap (λ (x : ℕ). ofFile u name (slotAt g v x)) z ∙ before)
+          foreign (ap (λ (x : ℕ). ofFile u name (slotAt g v x)) z ∙ empty-foreign u name (slotAt g v i) u15 was-empty)
           (ap (λ (x : ℕ). ofFile u name (slotAt g v′ x)) z ∙ ap (ofFile u name) (laid .here)
           ∙ other-file (d .user) (nameOf f) u name e other (fresh-user (d .user) f (r .block36)) (fresh-name (d .user) f (r .block36)))
 
       bytes-there : (j p n : ℕ) → j < slots g → p < places g → ofFile u name (slotAt g v j) ≡ true → blockIn g (slotAt g v j) p ≢ 0
           → recordAt g v′ (blockIn g (slotAt g v j) p) n ≡ recordAt g v (blockIn g (slotAt g v j) p) n
       bytes-there j p n j< p< own nz =
-          let l : Live (slotAt g v j) = user-live (slotAt g v j) (omega (arith, is-of u name (slotAt g v j) own .user)) in
-          let b = inside-is g (blockIn g (slotAt g v j) p) (c .sound .order j j< l .range p p< nz) in
+          let b = file-block g v (c .sound) u name u15 j p j< p< own nz in
           record-putSlot g (c .law) v (c .size) i (r .room) e e32 (blockIn g (slotAt g v j) p) n (b .0) (b .1)
 
 pub make-keeps : (d : Drive) (v f : List ℕ) → Consistent d v → Keeps (λ u name. eqb u (d .user) && same name (nameOf f)) d v (makeAct d v f)

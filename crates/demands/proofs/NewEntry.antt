@@ -6,29 +6,23 @@ use mathlib.Core.Bool.{true, false}
 use mathlib.Core.List.{List, [], _∷_, _++_}
 use Prim.Native.Nat.{ℕ, zero, suc, _+_, _%_, _≤_, _<_}
 use native.Mathlib.Omega.{arith}
-use lib.Dec.{eqb}
 use lib.ListN.{length, take, drop, replicate, length-append}
 use lib.Seq.{take-at, getD-append-add, take-all}
-use borrow.Author.Tests.{ne-eqb}
 use Rattle.lists.specs.Bytes.{byte, part}
 use Rattle.lists.proofs.PartLaws.{length-part, part-part, byte-part}
 use Rattle.volume.specs.declared.Geometry.{Geometry}
 use Rattle.volume.specs.Name.{strip, nameAt, nameOf, goodName}
-use Rattle.volume.specs.Entry.{Entry, isEmpty, extent, places, blockIn}
+use Rattle.volume.specs.Entry.{Entry, blockIn}
 use Rattle.volume.proofs.NameLaws.{length-strip, byte-strip, strip-strip}
-use Rattle.inspection.specs.GoodSlot.{goodTopBits}
-use Rattle.inspection.proofs.GoodLaws.{Fields, top-bits-good, good-top-bits}
+use Rattle.inspection.proofs.GoodLaws.{top-bits-good, good-top-bits}
 use Rattle.naming.specs.Make.{freshEntry}
 use Rattle.writing.specs.Write.{likeEntry}
-use Rattle.demands.proofs.Sound.{Live, InOrder}
+use Rattle.demands.proofs.Sound.{InOrder}
 
 byte-zeros : (n k : ℕ) → byte (replicate n 0) k ≡ 0
 byte-zeros zero k = refl
 byte-zeros (suc n) zero = refl
 byte-zeros (suc n) (suc k) = byte-zeros n k
-
-pub user-live : (e : Entry) → byte e 0 ≤ 15 → Live e
-user-live e h = ne-eqb (byte e 0) 229 (omega arith)
 
 module _ (l : List ℕ) (twelve : length l ≡ 12) where
   new-head : part (l ++ replicate 20 0) 0 12 ≡ l
