@@ -7,4 +7,5 @@ pub mod Files
 pub mod NewEntry
 pub mod MakeKeeps
 pub mod WrittenEntry
+pub mod WriteKeeps
 pub mod Agree
