@@ -8,4 +8,5 @@ pub mod NewEntry
 pub mod MakeKeeps
 pub mod WrittenEntry
 pub mod WriteKeeps
+pub mod WritesKeep
 pub mod Agree
