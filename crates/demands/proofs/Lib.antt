@@ -9,4 +9,6 @@ pub mod MakeKeeps
 pub mod WrittenEntry
 pub mod WriteKeeps
 pub mod WritesKeep
+pub mod FreeMatches
+pub mod DeleteKeeps
 pub mod Agree
