@@ -11,4 +11,5 @@ pub mod WriteKeeps
 pub mod WritesKeep
 pub mod FreeMatches
 pub mod DeleteKeeps
+pub mod NamedEntry
 pub mod Agree
