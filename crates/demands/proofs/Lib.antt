@@ -12,4 +12,7 @@ pub mod WritesKeep
 pub mod FreeMatches
 pub mod DeleteKeeps
 pub mod NamedEntry
+pub mod FileEdit
+pub mod RenameKeeps
+pub mod AttributesKeep
 pub mod Agree
