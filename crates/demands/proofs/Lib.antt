@@ -15,4 +15,5 @@ pub mod NamedEntry
 pub mod FileEdit
 pub mod RenameKeeps
 pub mod AttributesKeep
+pub mod CallsKeep
 pub mod Agree
