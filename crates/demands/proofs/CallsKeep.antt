@@ -30,7 +30,7 @@ use Rattle.filecalls.specs.Small.{protectTests, protectAct, userTests, userAct,
 use Rattle.filecalls.specs.Outcome.{Change, keeps, protects, becomes, Store, Act, deny, done, unless, changedState, storedAll, Outcome, outcome, left}
 use Rattle.bdos.specs.declared.Call.{Call}
 use Rattle.bdos.specs.declared.Call.the-variants.{LogIn, Open, Close, SearchFirst, SearchNext, Delete, ReadSequential, WriteSequential, Make, Rename, Protect, Attributes, User, ReadRandom, WriteRandom, Size, SetRandom, EmptyRecord, Unserved}
-use Rattle.bdos.specs.Step.{keepsBuffer, keepsBlock, keepsVolume} 
+use Rattle.bdos.specs.Step.{keepsBuffer, keepsBlock, keepsVolume}
 use Rattle.bdos.specs.Step as door
 use Rattle.demands.specs.Demand3.{Bytes, names}
 use Rattle.demands.proofs.Sound.{Sound}

@@ -16,4 +16,5 @@ pub mod FileEdit
 pub mod RenameKeeps
 pub mod AttributesKeep
 pub mod CallsKeep
+pub mod Demand3Holds
 pub mod Agree

@@ -93,7 +93,7 @@ module _ (d : Drive) (v f : List ℕ) (c : Consistent d v) (r : Ready d v f) whe
     blocks = λ j p q j< ne l p< q< nz same. nz (fresh-block (d .user) f (r .block36) g p);
     unlike = λ j j< ne l k. true≢false
         (sym (of-file (d .user) (nameOf f) (slotAt g v j)
-          (record { user = sym (k .user) ∙ fresh-user (d .user) f (r .block36); name-is = sym (k .name) ∙ fresh-name (d .user) f (r .block36) }))
+        (record { user = sym (k .user) ∙ fresh-user (d .user) f (r .block36); name-is = sym (k .name) ∙ fresh-name (d .user) f (r .block36) }))
         ∙ not-found g v (d .user) (nameOf f) File (r .unused) j j<);
   }
 

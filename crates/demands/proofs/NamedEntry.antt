@@ -56,9 +56,9 @@ module _ (e : Entry) (e32 : length e ≡ 32) (x y : ℕ) where
       let ld : length (strip (part d 1 11)) ≡ 11 = length-strip (part d 1 11) ∙ length-part d 1 11 (omega (arith, marks-length)) in
       let le : length (strip (part e 1 11)) ≡ 11 = length-strip (part e 1 11) ∙ length-part e 1 11 (omega arith) in
       ext-getD 0 (strip (part d 1 11)) (strip (part e 1 11)) (ld ∙ sym le) (λ k h.
-        let k< : k < 11 = omega arith in
-        byte-strip (part d 1 11) k ∙ ap (λ (z : ℕ). z % 128) (byte-part d 1 11 k k<) ∙ marks-low p q (1 + k)
-        ∙ ap (λ (z : ℕ). z % 128) (sym (byte-part e 1 11 k k<)) ∙ sym (byte-strip (part e 1 11) k))
+      let k< : k < 11 = omega arith in
+      byte-strip (part d 1 11) k ∙ ap (λ (z : ℕ). z % 128) (byte-part d 1 11 k k<) ∙ marks-low p q (1 + k)
+      ∙ ap (λ (z : ℕ). z % 128) (sym (byte-part e 1 11 k k<)) ∙ sym (byte-strip (part e 1 11) k))
 
   marks-top-bits : goodTopBits e ≡ true → goodTopBits (set (set e 9 x) 10 y) ≡ true
   marks-top-bits h =

@@ -253,8 +253,8 @@ module _ (g : Geometry) (law : lawful g ≡ true) (v : List ℕ) (size : length 
           let own = is-of u name e (after-file g h v u name n law size passed) in
           true≢false
           (sym (of-group g u name group (slotAt g v j)
-            (of-file u name (slotAt g v j) (record { user = sym (k .user) ∙ own .user; name-is = sym (k .name) ∙ own .name-is }))
-            (sym (k .group) ∙ e-group))
+          (of-file u name (slotAt g v j) (record { user = sym (k .user) ∙ own .user; name-is = sym (k .name) ∙ own .name-is }))
+          (sym (k .group) ∙ e-group))
           ∙ none j j<)
 
   e-live : Live e
