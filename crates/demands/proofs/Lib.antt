@@ -1,4 +1,4 @@
--- The demands, proved.
+-- Why the demands hold.
 pub mod Demand1
 pub mod Demand2Entries
 pub mod Demand2Apart
@@ -6,3 +6,22 @@ pub mod Demand2Others
 pub mod Demand2Writes
 pub mod Demand2Sequence
 pub mod Demand2
+pub mod Sound
+pub mod Inspected
+pub mod Frame
+pub mod Acts
+pub mod Files
+pub mod NewEntry
+pub mod MakeKeeps
+pub mod WrittenEntry
+pub mod WriteKeeps
+pub mod WritesKeep
+pub mod FreeMatches
+pub mod DeleteKeeps
+pub mod NamedEntry
+pub mod FileEdit
+pub mod RenameKeeps
+pub mod AttributesKeep
+pub mod CallsKeep
+pub mod Agree
+pub mod Demand3Holds

@@ -2,3 +2,5 @@
 pub mod Order
 pub mod Demand1
 pub mod Demand2
+pub mod Run
+pub mod Demand3

@@ -1,0 +1,174 @@
+-- Two states that differ in the held blocks alone, and hold the same of the blocks from D to T-1, answer every call alike
+-- and leave the same volume: a call looks at the held blocks only where a write is given a block.
+use mathlib.Core.Path.{_≡_, refl, sym, ap, _∙_}
+use mathlib.Core.Bool.{Bool, true, false}
+use mathlib.Core.List.{List, [], _∷_}
+use Prim.Native.Nat.{ℕ, _≤_, _<_}
+use Rattle.volume.specs.declared.Geometry.{Geometry}
+use Rattle.volume.specs.Geometry.{placeOf}
+use Rattle.volume.specs.Entry.{Entry}
+use Rattle.volume.specs.Name.{nameOf}
+use Rattle.blocks.specs.Held.{holds}
+use Rattle.answers.specs.declared.Refusal.the-variants.{NotServed}
+use Rattle.writing.specs.Write.{alloc, baseEntry, needsBlock, writeBlock, writeTests}
+use Rattle.writing.proofs.AllocLaws.{alloc-ext}
+use Rattle.filecalls.specs.declared.Drive.{Drive}
+use Rattle.filecalls.specs.State.{isOpen}
+use Rattle.filecalls.specs.LogIn.{logIn}
+use Rattle.filecalls.specs.Open.{openTests, openAct, closeTests, closeAct, sizeTests, sizeAct}
+use Rattle.filecalls.specs.Search.{firstTests, searchFirstAct, newSearch, shown, nextTests, searchNextAct}
+use Rattle.filecalls.specs.Names.{deleteLadder, deleteAct, makeLadder, makeAct, renameLadder, renameAct, attributesLadder, attributesAct}
+use Rattle.filecalls.specs.Read.{sequentialTests, randomTests, readDone, readSequentialAct, readRandomAct}
+use Rattle.filecalls.specs.Write.{writeEntry, writeChange, writeDone, writeSequentialAct, writeRandomAct, emptyTests, emptyRecordAct}
+use Rattle.filecalls.specs.Small.{protectTests, protectAct, userTests, userAct, setRandomTests, setRandomAct}
+use Rattle.filecalls.specs.Outcome.{Change, keeps, takes, frees, protects, becomes, searches, Act, deny, done, changedState, withHeld, Outcome, outcome}
+use Rattle.bdos.specs.declared.Call.{Call}
+use Rattle.bdos.specs.declared.Call.the-variants.{LogIn, Open, Close, SearchFirst, SearchNext, Delete, ReadSequential, WriteSequential, Make, Rename, Protect, Attributes, User, ReadRandom, WriteRandom, Size, SetRandom, EmptyRecord, Unserved}
+use Rattle.bdos.specs.Step.{keepsBuffer, keepsBlock, keepsVolume, does}
+
+-- two outcomes alike, but for the held blocks
+pub record Alike (o p : Outcome) : Type 0 where
+  pub answer : o .answer ≡ p .answer
+  pub volume : o .volume ≡ p .volume
+  pub block : o .block ≡ p .block
+  pub buffer : o .buffer ≡ p .buffer
+  pub drive : p .drive ≡ withHeld (o .drive) (p .drive .held)
+
+-- ---- an act that is the same in both states
+module _ (d : Drive) (k : List ℕ) where
+  state-alike : (v : List ℕ) (ch : Change) → changedState (withHeld d k) v ch ≡ withHeld (changedState d v ch) (changedState (withHeld d k) v ch .held)
+  unfolding changedState
+  state-alike v keeps = refl
+  state-alike v (takes b) = refl
+  state-alike v (frees u pattern) = refl
+  state-alike v protects = refl
+  state-alike v (becomes u) = refl
+  state-alike v (searches q) = refl
+
+  pub outcome-alike : (v f b : List ℕ) (act : Act) → Alike (outcome d v f b act) (outcome (withHeld d k) v f b act)
+  unfolding outcome
+  outcome-alike v f b (deny why) = record { answer = refl; volume = refl; block = refl; buffer = refl; drive = refl }
+  outcome-alike v f b (done code change stores f′ b′) = record { answer = refl; volume = refl; block = refl; buffer = refl; drive = state-alike v change }
+
+-- ---- the writes
+module _ (d : Drive) (k v : List ℕ) (same : (b : ℕ) → d .geometry .directory ≤ b → b < d .geometry .total → holds k b ≡ holds (d .held) b) where
+  given : (e : Entry) (p : ℕ) → alloc (d .geometry) k e p ≡ alloc (d .geometry) (d .held) e p
+  given e p = alloc-ext (d .geometry) k (d .held) e p same
+
+  block-alike : (u : ℕ) (name : List ℕ) (n : ℕ) → writeBlock (d .geometry) k v u name n ≡ writeBlock (d .geometry) (d .held) v u name n
+  unfolding writeBlock
+  block-alike u name n = rw (given (baseEntry (d .geometry) v u name n) (placeOf (d .geometry) n))
+
+  tests-alike : (u : ℕ) (name : List ℕ) (n : ℕ) → writeTests (d .geometry) k v u name n ≡ writeTests (d .geometry) (d .held) v u name n
+  unfolding writeTests
+  tests-alike u name n = rw (given (baseEntry (d .geometry) v u name n) (placeOf (d .geometry) n))
+
+  done-alike : (f : List ℕ) (n cr : ℕ) (r b : List ℕ) → writeDone (withHeld d k) v f n cr r b ≡ writeDone d v f n cr r b
+  unfolding writeDone writeEntry writeChange
+  done-alike f n cr r b = rw (block-alike (d .user) (nameOf f) n)
+
+  sequential-alike : (f b : List ℕ) → writeSequentialAct (withHeld d k) v f b ≡ writeSequentialAct d v f b
+  unfolding writeSequentialAct sequentialTests isOpen
+  sequential-alike f b = simp (done-alike, tests-alike)
+
+  random-alike : (f b : List ℕ) → writeRandomAct (withHeld d k) v f b ≡ writeRandomAct d v f b
+  unfolding writeRandomAct randomTests isOpen
+  random-alike f b = simp (done-alike, tests-alike)
+
+  empty-alike : (f : List ℕ) → emptyRecordAct (withHeld d k) v f ≡ emptyRecordAct d v f
+  unfolding emptyRecordAct emptyTests isOpen
+  empty-alike f = simp (done-alike, tests-alike)
+
+-- ---- every call
+module _ (d : Drive) (k v f b : List ℕ) where
+  open-alike : openAct (withHeld d k) v f ≡ openAct d v f
+  unfolding openAct openTests isOpen
+  open-alike = refl
+
+  close-alike : closeAct (withHeld d k) v f ≡ closeAct d v f
+  unfolding closeAct closeTests isOpen
+  close-alike = refl
+
+  size-alike : sizeAct (withHeld d k) v f ≡ sizeAct d v f
+  unfolding sizeAct sizeTests isOpen
+  size-alike = refl
+
+  first-alike : searchFirstAct (withHeld d k) v f b ≡ searchFirstAct d v f b
+  unfolding searchFirstAct firstTests newSearch shown isOpen
+  first-alike = refl
+
+  next-alike : searchNextAct (withHeld d k) v b ≡ searchNextAct d v b
+  unfolding searchNextAct nextTests shown isOpen
+  next-alike = refl
+
+  delete-alike : deleteAct (withHeld d k) v f ≡ deleteAct d v f
+  unfolding deleteAct deleteLadder isOpen
+  delete-alike = refl
+
+  make-alike : makeAct (withHeld d k) v f ≡ makeAct d v f
+  unfolding makeAct makeLadder isOpen
+  make-alike = refl
+
+  rename-alike : renameAct (withHeld d k) v f ≡ renameAct d v f
+  unfolding renameAct renameLadder isOpen
+  rename-alike = refl
+
+  attributes-alike : attributesAct (withHeld d k) v f ≡ attributesAct d v f
+  unfolding attributesAct attributesLadder isOpen
+  attributes-alike = refl
+
+  read-sequential-alike : readSequentialAct (withHeld d k) v f b ≡ readSequentialAct d v f b
+  unfolding readSequentialAct sequentialTests readDone isOpen
+  read-sequential-alike = refl
+
+  read-random-alike : readRandomAct (withHeld d k) v f b ≡ readRandomAct d v f b
+  unfolding readRandomAct randomTests readDone isOpen
+  read-random-alike = refl
+
+  protect-alike : protectAct (withHeld d k) ≡ protectAct d
+  unfolding protectAct protectTests isOpen
+  protect-alike = refl
+
+  user-alike : (code : ℕ) → userAct (withHeld d k) code ≡ userAct d code
+  unfolding userAct userTests isOpen
+  user-alike code = refl
+
+  set-random-alike : setRandomAct (withHeld d k) f ≡ setRandomAct d f
+  unfolding setRandomAct setRandomTests isOpen
+  set-random-alike = refl
+
+  -- in one step: the act is the same, and so is what it leaves
+  by-act : {act act′ : Act} (w f′ b′ : List ℕ) → act′ ≡ act → Alike (outcome d w f′ b′ act) (outcome (withHeld d k) w f′ b′ act′)
+  by-act {act} {act′} w f′ b′ e = rw e (outcome-alike d k w f′ b′ act)
+
+  buffer-kept : {o p : Outcome} → Alike o p → Alike (keepsBuffer b o) (keepsBuffer b p)
+  buffer-kept a = record { answer = a .answer; volume = a .volume; block = a .block; buffer = refl; drive = a .drive }
+
+  block-kept : {o p : Outcome} → Alike o p → Alike (keepsBlock f o) (keepsBlock f p)
+  block-kept a = record { answer = a .answer; volume = a .volume; block = refl; buffer = a .buffer; drive = a .drive }
+
+  volume-kept : {o p : Outcome} → Alike o p → Alike (keepsVolume v o) (keepsVolume v p)
+  volume-kept a = record { answer = a .answer; volume = refl; block = a .block; buffer = a .buffer; drive = a .drive }
+
+  module _ (same : (b : ℕ) → d .geometry .directory ≤ b → b < d .geometry .total → holds k b ≡ holds (d .held) b) where
+    pub does-alike : (g : Geometry) (call : Call) (p : ℕ) → Alike (does g call p d v f b) (does g call p (withHeld d k) v f b)
+    unfolding does
+    does-alike g LogIn p = record { answer = refl; volume = refl; block = refl; buffer = refl; drive = refl }
+    does-alike g Open p = buffer-kept (by-act v f [] open-alike)
+    does-alike g Close p = buffer-kept (by-act v f [] close-alike)
+    does-alike g SearchFirst p = by-act v f b first-alike
+    does-alike g SearchNext p = block-kept (by-act v [] b next-alike)
+    does-alike g Delete p = buffer-kept (by-act v f [] delete-alike)
+    does-alike g ReadSequential p = by-act v f b read-sequential-alike
+    does-alike g WriteSequential p = by-act v f b (sequential-alike d k v same f b)
+    does-alike g Make p = buffer-kept (by-act v f [] make-alike)
+    does-alike g Rename p = buffer-kept (by-act v f [] rename-alike)
+    does-alike g Protect p = volume-kept (block-kept (buffer-kept (by-act [] [] [] protect-alike)))
+    does-alike g Attributes p = buffer-kept (by-act v f [] attributes-alike)
+    does-alike g User p = volume-kept (block-kept (buffer-kept (by-act [] [] [] (user-alike p))))
+    does-alike g ReadRandom p = by-act v f b read-random-alike
+    does-alike g WriteRandom p = by-act v f b (random-alike d k v same f b)
+    does-alike g Size p = buffer-kept (by-act v f [] size-alike)
+    does-alike g SetRandom p = volume-kept (buffer-kept (by-act [] f [] set-random-alike))
+    does-alike g EmptyRecord p = buffer-kept (by-act v f [] (empty-alike d k v same f))
+    does-alike g Unserved p = outcome-alike d k v f b (deny NotServed)

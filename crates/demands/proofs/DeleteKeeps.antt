@@ -1,0 +1,182 @@
+-- Delete keeps state and volume consistent and leaves every file that its pattern does not match.
+use mathlib.Core.Path.{_≡_, refl, sym, ap, _∙_}
+use mathlib.Core.Logic.{_≢_}
+use mathlib.Core.Bool.{Bool, true, false, not, cond, _&&_, true≢false, false≢true}
+use mathlib.Core.List.{List, [], _∷_}
+use Prim.Native.Nat.{ℕ, _≤_, _<_}
+use native.Mathlib.Omega.{arith}
+use lib.Dec.{eqb}
+use lib.ListN.{length, set, length-set}
+use lib.Seq.{getD-set-same}
+use borrow.Author.Tests.{not-true, not-false, eqb-true, eq-eqb}
+use Rattle.lists.specs.Bytes.{byte}
+use Rattle.lists.specs.Search.{anyFrom}
+use Rattle.lists.proofs.BoolLaws.{and-parts}
+use Rattle.lists.proofs.SearchLaws.{any-true, any-intro, any-false, any-none}
+use Rattle.volume.specs.declared.Geometry.{Geometry}
+use Rattle.volume.specs.Geometry.{lawful, bytes, slots, inside}
+use Rattle.volume.specs.Name.{nameOf, like}
+use Rattle.volume.specs.Entry.{Entry, isEmpty, places, blockIn, ofFile, matches}
+use Rattle.volume.specs.Directory.{slotAt, mapSlots}
+use Rattle.volume.specs.Record.{recordAt}
+use Rattle.volume.proofs.GeometryLaws.{bounds}
+use Rattle.volume.proofs.DirectoryLaws.{slot-length}
+use Rattle.volume.proofs.SweepLaws.{mapSlots-length, mapSlots-slot, mapSlots-record}
+use Rattle.blocks.specs.Held.{holds}
+use Rattle.answers.specs.declared.Refusal.the-variants.{Closed}
+use Rattle.answers.specs.Refusal.{isNone, firstMet}
+use Rattle.answers.proofs.Ladder.{unmet}
+use Rattle.inspection.specs.GoodSlot.{inPlaces}
+use Rattle.naming.specs.declared.Edit.the-variants.{Erase}
+use Rattle.naming.specs.Sweep.{erased, changed}
+use Rattle.naming.specs.Delete.{freeMatches}
+use Rattle.writing.proofs.WriteLaws.{is-inside}
+use Rattle.filecalls.specs.declared.Drive.{Drive}
+use Rattle.filecalls.specs.State.{isOpen}
+use Rattle.filecalls.specs.Outcome.{stored, storedAll, changedState, withHeld}
+use Rattle.filecalls.specs.Names.{deleteLadder, deleteAct}
+use Rattle.filecalls.proofs.StateLaws.{is-open}
+use Rattle.demands.proofs.Sound.{Live, Sound, HeldBy, Held, sound-less}
+use Rattle.demands.proofs.Frame.{Touch, unchanged, foreign, Apart}
+use Rattle.demands.proofs.Acts.{Consistent, Done, Keeps, does, keeps-unless, leaves-apart}
+use Rattle.demands.proofs.Files.{Matched, matched, other-match, user-live, file-block, empty-foreign}
+use Rattle.demands.proofs.FreeMatches.{frees, freed, freed-four}
+
+-- ---- an entry afterwards
+module _ (u : ℕ) (pattern : List ℕ) (e : Entry) where
+  erases-hit : matches u pattern e ≡ true → changed Erase u pattern [] e ≡ erased e
+  unfolding changed
+  erases-hit q = rw q
+
+  erases-miss : matches u pattern e ≡ false → changed Erase u pattern [] e ≡ e
+  unfolding changed
+  erases-miss q = rw q
+
+  erases-length : length e ≡ 32 → length (changed Erase u pattern [] e) ≡ 32
+  erases-length l = go (matches u pattern e) refl
+    where
+      go : (t : Bool) → matches u pattern e ≡ t → length (changed Erase u pattern [] e) ≡ 32
+      go true q = ap length (erases-hit q) ∙ length-set e 0 229 ∙ l
+      go false q = ap length (erases-miss q) ∙ l
+
+  erased-empty : length e ≡ 32 → matches u pattern e ≡ true → isEmpty (changed Erase u pattern [] e) ≡ true
+  erased-empty l q = ap isEmpty (erases-hit q) ∙ eq-eqb (byte (set e 0 229) 0) 229 (getD-set-same e 0 229 0 (omega arith))
+
+-- slot j matches and has block b in place p
+module _ (g : Geometry) (law : lawful g ≡ true) (v : List ℕ) (u : ℕ) (pattern : List ℕ) (b j : ℕ) where
+  frees-intro : (p : ℕ) → p < places g → matches u pattern (slotAt g v j) ≡ true → blockIn g (slotAt g v j) p ≡ b → frees g law v u pattern b j ≡ true
+  unfolding frees inPlaces
+  frees-intro p p< m z = rw m (any-intro (λ q. eqb (blockIn g (slotAt g v j) q) b) 0 (places g) p (omega arith) (omega arith) (eq-eqb (blockIn g (slotAt g v j) p) b z))
+
+  record Freed : Type 0 where
+    hit : matches u pattern (slotAt g v j) ≡ true
+    place : ℕ
+    place< : place < places g
+    is : blockIn g (slotAt g v j) place ≡ b
+
+  frees-is : frees g law v u pattern b j ≡ true → Freed
+  unfolding frees inPlaces
+  frees-is h =
+      let m = and-parts (matches u pattern (slotAt g v j)) (anyFrom (λ q. eqb (blockIn g (slotAt g v j) q) b) 0 (places g)) h in
+      let p = any-true (λ q. eqb (blockIn g (slotAt g v j) q) b) 0 (places g) (m .1) in
+      record { hit = m .0; place = p .place; place< = omega (arith, p .below); is = eqb-true (blockIn g (slotAt g v j) (p .place)) b (p .passes) }
+
+module _ (g : Geometry) (law : lawful g ≡ true) (v : List ℕ) (size : length v ≡ bytes g) (sound : Sound g (slotAt g v)) (h : List ℕ) (held : Held g h (slotAt g v))
+    (u : ℕ) (u15 : u ≤ 15) (pattern : List ℕ) where
+  abbrev v′ : List ℕ
+  v′ = mapSlots g (changed Erase u pattern []) v
+
+  abbrev h′ : List ℕ
+  h′ = freeMatches g v u pattern h
+
+  after : (j : ℕ) → j < slots g → slotAt g v′ j ≡ changed Erase u pattern [] (slotAt g v j)
+  after = mapSlots-slot g law (changed Erase u pattern []) (erases-length u pattern) v size
+
+  after-miss : (j : ℕ) → j < slots g → matches u pattern (slotAt g v j) ≡ false → slotAt g v′ j ≡ slotAt g v j
+  after-miss j j< q = after j j< ∙ erases-miss u pattern (slotAt g v j) q
+
+  after-hit : (j : ℕ) → j < slots g → matches u pattern (slotAt g v j) ≡ true → isEmpty (slotAt g v′ j) ≡ true
+  after-hit j j< q = ap isEmpty (after j j<) ∙ erased-empty u pattern (slotAt g v j) (slot-length g law v size j j<) q
+
+  -- an entry that is left did not match
+  missed : (j : ℕ) → j < slots g → Live (slotAt g v′ j) → matches u pattern (slotAt g v j) ≡ false
+  missed j j< l = go (matches u pattern (slotAt g v j)) refl
+    where
+      go : (t : Bool) → matches u pattern (slotAt g v j) ≡ t → t ≡ false
+      go false q = refl
+      go true q = absurd (true≢false (sym (after-hit j j< q) ∙ l))
+
+  hit-live : (j : ℕ) → matches u pattern (slotAt g v j) ≡ true → Live (slotAt g v j)
+  hit-live j q = user-live (slotAt g v j) (omega (arith, matched u pattern (slotAt g v j) q .user))
+
+  pub delete-size : length v′ ≡ bytes g
+  delete-size = mapSlots-length g law (changed Erase u pattern []) (erases-length u pattern) v size ∙ size
+
+  pub delete-sound : Sound g (slotAt g v′)
+  delete-sound = sound-less g (slotAt g v) (slotAt g v′) sound (λ j j< l. after-miss j j< (missed j j< l))
+
+  pub delete-held : Held g h′ (slotAt g v′)
+  delete-held = record { four = freed-four g law v u pattern h (held .four); sound = sound-after; whole = whole-after }
+    where
+      is : (b : ℕ) → g .directory ≤ b → b < g .total → holds h′ b ≡ (holds h b && not (anyFrom (frees g law v u pattern b) 0 (slots g)))
+      is b low high = freed g law v u pattern b (is-inside g b low high) h (held .four)
+
+      sound-after : (b : ℕ) → g .directory ≤ b → b < g .total → holds h′ b ≡ true → HeldBy g (slotAt g v′) b
+      sound-after b low high t =
+          let x = and-parts (holds h b) (not (anyFrom (frees g law v u pattern b) 0 (slots g))) (sym (is b low high) ∙ t) in
+          let w = held .sound b low high (x .0) in
+          go w (not-true _ (x .1)) (matches u pattern (slotAt g v (w .slot))) refl
+        where
+          go : (w : HeldBy g (slotAt g v) b) → anyFrom (frees g law v u pattern b) 0 (slots g) ≡ false → (t : Bool) → matches u pattern (slotAt g v (w .slot)) ≡ t → HeldBy g (slotAt g v′) b
+          go w none false q =
+              let k : slotAt g v′ (w .slot) ≡ slotAt g v (w .slot) = after-miss (w .slot) (w .slot<) q in
+              record { slot = w .slot; place = w .place; slot< = w .slot<; place< = w .place<; live = rw k (w .live); is = rw k (w .is) }
+          go w none true q =
+              absurd (true≢false (sym (frees-intro g law v u pattern b (w .slot) (w .place) (w .place<) q (w .is)) ∙ any-false (frees g law v u pattern b) 0 (slots g) none (w .slot) (omega arith) (omega (arith, w .slot<))))
+
+      whole-after : (b : ℕ) → g .directory ≤ b → b < g .total → HeldBy g (slotAt g v′) b → holds h′ b ≡ true
+      whole-after b low high w =
+          let m : matches u pattern (slotAt g v (w .slot)) ≡ false = missed (w .slot) (w .slot<) (w .live) in
+          let k : slotAt g v′ (w .slot) ≡ slotAt g v (w .slot) = after-miss (w .slot) (w .slot<) m in
+          let l : Live (slotAt g v (w .slot)) = ap isEmpty (sym k) ∙ w .live in
+          let z : blockIn g (slotAt g v (w .slot)) (w .place) ≡ b = ap (λ (x : Entry). blockIn g x (w .place)) (sym k) ∙ w .is in
+          let t = held .whole b low high (record { slot = w .slot; place = w .place; slot< = w .slot<; place< = w .place<; live = l; is = z }) in
+          let none = any-none (frees g law v u pattern b) 0 (slots g) (λ j x y. not-freed m l z j (omega arith) (frees g law v u pattern b j) refl) in
+          is b low high ∙ rw (t, none)
+        where
+          not-freed : matches u pattern (slotAt g v (w .slot)) ≡ false → Live (slotAt g v (w .slot)) → blockIn g (slotAt g v (w .slot)) (w .place) ≡ b
+              → (j : ℕ) → j < slots g → (t : Bool) → frees g law v u pattern b j ≡ t → t ≡ false
+          not-freed m l z j j< false q = refl
+          not-freed m l z j j< true q =
+              let x = frees-is g law v u pattern b j q in
+              let nz : blockIn g (slotAt g v j) (x .place) ≢ 0 = λ o. let y : b ≡ 0 = sym (x .is) ∙ o in omega (arith, bounds g law .directory-low) in
+              let s : j ≡ w .slot = sound .alone j (w .slot) (x .place) (w .place) j< (w .slot<) (hit-live j (x .hit)) l (x .place<) (w .place<) nz (x .is ∙ sym z) in
+              absurd (true≢false (sym (x .hit) ∙ ap (λ (y : ℕ). matches u pattern (slotAt g v y)) s ∙ m))
+
+  pub delete-apart : (w : ℕ) (name : List ℕ) → w ≤ 15 → (eqb w u && like name pattern) ≡ false → Apart g w name v v′
+  delete-apart w name w15 other = record {
+    entries = λ j j<. entry j j< (matches u pattern (slotAt g v j)) refl;
+    bytes = λ j p n j< p< own nz.
+        let b = file-block g v sound w name w15 j p j< p< own nz in
+        mapSlots-record g law (changed Erase u pattern []) (erases-length u pattern) v size (blockIn g (slotAt g v j) p) n (b .0) (b .1);
+  }
+    where
+      entry : (j : ℕ) → j < slots g → (t : Bool) → matches u pattern (slotAt g v j) ≡ t → Touch w name (slotAt g v j) (slotAt g v′ j)
+      entry j j< false q = unchanged (after-miss j j< q)
+      entry j j< true q = foreign (other-match u pattern w name (slotAt g v j) other (matched u pattern (slotAt g v j) q)) (empty-foreign w name (slotAt g v′ j) w15 (after-hit j j< q))
+
+pub delete-keeps : (d : Drive) (v f : List ℕ) → Consistent d v → Keeps (λ u name. eqb u (d .user) && like name (nameOf f)) d v (deleteAct d v f)
+unfolding deleteAct stored storedAll changedState
+delete-keeps d v f c = keeps-unless (deleteLadder d v f) _ (λ h. does (record {
+  consistent = record {
+    law = c .law;
+    size = delete-size (d .geometry) (c .law) v (c .size) (c .sound) (d .held) (c .held) (d .user) (user15 h) (nameOf f);
+    sound = delete-sound (d .geometry) (c .law) v (c .size) (c .sound) (d .held) (c .held) (d .user) (user15 h) (nameOf f);
+    held = delete-held (d .geometry) (c .law) v (c .size) (c .sound) (d .held) (c .held) (d .user) (user15 h) (nameOf f);
+  };
+  others = λ u name u15 other. leaves-apart (d .geometry) (c .law) u name v _
+      (delete-apart (d .geometry) (c .law) v (c .size) (c .sound) (d .held) (c .held) (d .user) (user15 h) (nameOf f) u name u15 other);
+}))
+  where
+    user15 : isNone (firstMet (deleteLadder d v f)) ≡ true → d .user ≤ 15
+    user15 h = is-open d (not-false (isOpen d) (unfold deleteLadder in unmet Closed _ _ refl h .0)) .user15

@@ -1,0 +1,126 @@
+-- Demand 3 holds: after log-in the state is consistent with the volume, every call keeps it so (`does-keeps`), and a state
+-- that is consistent answers as one whose held blocks were worked out from the directory (`does-alike`).
+use mathlib.Core.Path.{_≡_, refl, sym, ap, ap₂, _∙_, subst}
+use mathlib.Core.Bool.{Bool, true, false, _&&_, _||_}
+use mathlib.Core.List.{List, [], _∷_}
+use Prim.Native.Nat.{ℕ, _≤_, _<_}
+use lib.ListN.{length}
+use Rattle.volume.specs.declared.Geometry.{Geometry}
+use Rattle.volume.specs.Geometry.{lawful, bytes, slots}
+use Rattle.volume.specs.Directory.{slotAt}
+use Rattle.volume.specs.Record.{present}
+use Rattle.blocks.specs.Held.{freeCount}
+use Rattle.answers.specs.declared.Answer.the-variants.{Ready}
+use Rattle.answers.specs.Answer.{succeeded}
+use Rattle.inspection.specs.GoodSlot.{lowestBad}
+use Rattle.inspection.specs.Named.{heldOf}
+use Rattle.inspection.proofs.AcceptedLaws.{one-place}
+use Rattle.naming.proofs.EditLaws.{or-false}
+use Rattle.filecalls.specs.declared.Drive.{Drive}
+use Rattle.filecalls.specs.State.{loggedIn}
+use Rattle.filecalls.specs.LogIn.{logIn}
+use Rattle.filecalls.specs.Outcome.{Outcome, withHeld, left}
+use Rattle.bdos.specs.declared.Call.the-variants.{LogIn}
+use Rattle.bdos.specs.Step.{Asked, callOf, does, step}
+use Rattle.demands.specs.Run.{Seen, seen, answers, final, plainStep}
+use Rattle.demands.specs.Demand3.{Bytes, BytesLent, touches, touched, Kept, Demand3, OneOwner, NoBlockTwice}
+use Rattle.demands.proofs.Sound.{Sound, held-agree}
+use Rattle.demands.proofs.Inspected.{accepted-sound, sound-accepted, held-of}
+use Rattle.demands.proofs.Acts.{Consistent, Leaves, StepKeeps}
+use Rattle.demands.proofs.Agree.{Alike, does-alike}
+use Rattle.demands.proofs.CallsKeep.{log-in-is, logged-in, does-keeps}
+
+-- ---- one call
+step-keeps : (g : Geometry) (c : Asked) (d : Drive) (v : List ℕ) → d .geometry ≡ g → Consistent d v → Bytes (c .block)
+    → StepKeeps (λ u name. touches c d u name) d v (step g c d v)
+unfolding step touches
+step-keeps g c d v same k small = does-keeps g (c .parameter) d v (c .block) (c .buffer) same k small (callOf (c .function))
+
+plain-alike : (g : Geometry) (c : Asked) (d : Drive) (k v : List ℕ) → Consistent d v → Alike (step g c d v) (plainStep g c (withHeld d k) v)
+unfolding step plainStep
+plain-alike g c d k v s =
+    does-alike d (heldOf (d .geometry) v) v (c .block) (c .buffer)
+    (held-agree (d .geometry) (heldOf (d .geometry) v) (d .held) (slotAt (d .geometry) v) (held-of (d .geometry) v (s .law)) (s .held))
+    g (callOf (c .function)) (c .parameter)
+
+seen-alike : {o p : Outcome} → Alike o p → seen o ≡ seen p
+seen-alike a = λ i. record { answer = a .answer i; block = a .block i; buffer = a .buffer i }
+
+-- ---- a run from a consistent state; the plain way's state differs at most in what it holds
+runs : (g : Geometry) (cs : List Asked) (d : Drive) (k v : List ℕ) → d .geometry ≡ g → Consistent d v → BytesLent cs → Kept g v cs d (withHeld d k)
+unfolding answers final touched
+runs g [] d k v same s small = record {
+  answers-same = refl;
+  volume-same = refl;
+  inspected = rw (← same) (sound-accepted (d .geometry) v (s .sound));
+  others-present = λ u name u15 h n. refl;
+  others-bytes = λ u name u15 h n there. refl;
+}
+runs g (c ∷ cs) d k v same s small =
+    let keeps = step-keeps g c d v same s (small .0) in
+    let alike = plain-alike g c d k v s in
+    let d′ = step g c d v .drive in
+    let v′ = step g c d v .volume in
+    let k′ = plainStep g c (withHeld d k) v .drive .held in
+    let rest = runs g cs d′ k′ v′ (keeps .geometry ∙ same) (keeps .consistent) (small .1) in
+    let here : (u : ℕ) (name : List ℕ) → u ≤ 15 → ((succeeded (step g c d v .answer) && touches c d u name) || touched g cs d′ v′ u name) ≡ false → Leaves g v v′ u name
+    = λ u name u15 h. subst (λ (x : Geometry). Leaves x v v′ u name) same (keeps .others u name u15 (or-false (succeeded (step g c d v .answer) && touches c d u name) (touched g cs d′ v′ u name) h .0)) in
+    let later : (u : ℕ) (name : List ℕ) → ((succeeded (step g c d v .answer) && touches c d u name) || touched g cs d′ v′ u name) ≡ false → touched g cs d′ v′ u name ≡ false
+    = λ u name h. or-false (succeeded (step g c d v .answer) && touches c d u name) (touched g cs d′ v′ u name) h .1 in
+    record {
+      answers-same = ap₂ {C = List Seen} (λ a l. a ∷ l) (seen-alike alike) (rest .answers-same ∙ ap₂ (answers (plainStep g) cs) (sym (alike .drive)) (alike .volume));
+      volume-same = rest .volume-same ∙ ap₂ (final (plainStep g) cs) (sym (alike .drive)) (alike .volume);
+      inspected = rest .inspected;
+      others-present = λ u name u15 h n. rest .others-present u name u15 (later u name h) n ∙ here u name u15 h .presence n;
+      others-bytes = λ u name u15 h n there.
+          rest .others-bytes u name u15 (later u name h) n (here u name u15 h .presence n ∙ there) ∙ here u name u15 h .contents n there;
+    }
+
+-- ---- log-in first
+module _ (g : Geometry) (law : lawful g ≡ true) (v : List ℕ) (size : length v ≡ bytes g) (ok : lowestBad g v ≡ slots g)
+    (login : Asked) (first : callOf (login .function) ≡ LogIn) where
+  -- what it leaves, by either way and from any state
+  abbrev ready : Outcome
+  ready = record {
+    answer = Ready (freeCount (heldOf g v) (g .directory) (g .total));
+    drive = loggedIn g (heldOf g v);
+    volume = v;
+    block = login .block;
+    buffer = login .buffer;
+  }
+
+  starts : (d : Drive) → step g login d v ≡ ready
+  unfolding step does
+  starts d = rw (first, log-in-is g law v size (accepted-sound g v ok))
+
+  starts-plain : (e : Drive) → plainStep g login e v ≡ ready
+  unfolding plainStep
+  starts-plain e = starts (withHeld e (heldOf (e .geometry) v))
+
+-- "any list of calls that begins with log-in"
+pub demand3 : Demand3
+unfolding answers final touched
+demand3 g law v size ok login first cs small d e =
+    let a = starts g law v size ok login first d in
+    let b = starts-plain g law v size ok login first e in
+    let s = logged-in g law v size (accepted-sound g v ok) in
+    let r = runs g cs (loggedIn g (heldOf g v)) (heldOf g v) v refl s small in
+    let rest : (u : ℕ) (name : List ℕ)
+    → ((succeeded (step g login d v .answer) && touches login d u name) || touched g cs (step g login d v .drive) (step g login d v .volume) u name) ≡ false
+    → touched g cs (loggedIn g (heldOf g v)) v u name ≡ false
+    = λ u name h. (rw a at (or-false (succeeded (step g login d v .answer) && touches login d u name) (touched g cs (step g login d v .drive) (step g login d v .volume) u name) h .1)) in
+    record {
+      answers-same = rw (a, b) (ap {B = List Seen} (λ l. seen (ready g law v size ok login first) ∷ l) (r .answers-same));
+      volume-same = rw (a, b) (r .volume-same);
+      inspected = rw a (r .inspected);
+      others-present = λ u name u15 h n. rw a (r .others-present u name u15 (rest u name h) n);
+      others-bytes = λ u name u15 h n there. rw a (r .others-bytes u name u15 (rest u name h) n there);
+    }
+
+-- "no block belongs to two entries at any moment": the list is any, so this is so after each of its calls
+pub no-block-twice : NoBlockTwice
+no-block-twice g law v size ok login first cs small d = record {
+  one-place = λ i j p q i< j< li lj p< q< nz same.
+      one-place g (final (step g) (login ∷ cs) d v) (demand3 g law v size ok login first cs small d d .inspected) i p j q
+      (record { slot = i<; used = li; place = p< }) (record { slot = j<; used = lj; place = q< }) nz same;
+}

@@ -1,0 +1,144 @@
+-- Make keeps state and volume consistent and leaves every file but the one that it names.
+use mathlib.Core.Path.{_≡_, refl, sym, ap, _∙_}
+use mathlib.Core.Logic.{_⊎_, inl, inr, _≢_}
+use mathlib.Core.Bool.{Bool, true, false, not, _&&_, true≢false, false≢true}
+use mathlib.Core.List.{List, [], _∷_}
+use Prim.Native.Nat.{ℕ, _%_, _≤_, _<_}
+use native.Mathlib.Omega.{arith}
+use native.Mathlib.Decide.{ℕ-discrete}
+use lib.Dec.{leb, ltb, eqb}
+use lib.ListN.{length}
+use borrow.Author.Tests.{not-false, eqb-true, ltb-false, leb-false}
+use Rattle.volume.specs.declared.Geometry.{Geometry}
+use Rattle.volume.specs.declared.Wanted.the-variants.{Empty, File}
+use Rattle.volume.specs.Geometry.{lawful, bytes, slots, inside}
+use Rattle.volume.specs.Name.{nameOf, goodName, same}
+use Rattle.volume.specs.Entry.{Entry, isEmpty, places, blockIn, ofFile}
+use Rattle.volume.specs.Directory.{slotAt, putSlot, findSlot}
+use Rattle.volume.specs.Record.{recordAt}
+use Rattle.volume.proofs.FindLaws.{found-fits, not-found}
+use Rattle.volume.proofs.GeometryLaws.{bounds}
+use Rattle.volume.proofs.DirectoryLaws.{putSlot-length, slot-putSlot, slot-putSlot-other, record-putSlot}
+use Rattle.answers.specs.declared.Refusal.the-variants.{Closed, VolumeLength, BlockLength, DriveCode, Name, Position, Protected, Exists, NoRoom}
+use Rattle.answers.specs.Refusal.{isNone, firstMet}
+use Rattle.answers.proofs.Ladder.{unmet}
+use Rattle.naming.specs.Make.{makeTests, freshEntry}
+use Rattle.filecalls.specs.declared.Drive.{Drive}
+use Rattle.filecalls.specs.State.{isOpen}
+use Rattle.filecalls.specs.Ready.{Open}
+use Rattle.filecalls.specs.Outcome.{keeps, entryTo, stored, storedAll, changedState}
+use Rattle.filecalls.specs.Names.{makeLadder, makeAct}
+use Rattle.filecalls.proofs.StateLaws.{is-open}
+use Rattle.demands.proofs.Sound.{Live, Sound, Laid, Fresh, Held, InMap, HeldAnew, sound-laid, held-laid}
+use Rattle.demands.proofs.Frame.{Touch, unchanged, foreign, Apart}
+use Rattle.demands.proofs.Acts.{Consistent, Done, Keeps, does, keeps-unless, leaves-apart}
+use Rattle.demands.proofs.Files.{IsOf, of-file, other-file, user-live, file-block, empty-foreign}
+use Rattle.demands.proofs.NewEntry.{fresh-32, fresh-user, fresh-name, fresh-block, fresh-in-order}
+
+-- what is known once no test of make is met
+record Ready (d : Drive) (v f : List ℕ) : Type 0 where
+  user15 : d .user ≤ 15
+  block36 : length f ≡ 36
+  good-name : goodName false (nameOf f) ≡ true
+  unused : slots (d .geometry) ≤ findSlot (d .geometry) v (d .user) (nameOf f) File
+  room : findSlot (d .geometry) v (d .user) (nameOf f) Empty < slots (d .geometry)
+
+ready : (d : Drive) (v f : List ℕ) → isNone (firstMet (makeLadder d v f)) ≡ true → Ready d v f
+unfolding makeLadder makeTests
+ready d v f h =
+    let closed = unmet Closed _ _ refl h in
+    let volume = unmet VolumeLength _ _ refl (closed .1) in
+    let block = unmet BlockLength _ _ refl (volume .1) in
+    let drive = unmet DriveCode _ _ refl (block .1) in
+    let name = unmet Name _ _ refl (drive .1) in
+    let position = unmet Position _ _ refl (name .1) in
+    let protection = unmet Protected _ _ refl (position .1) in
+    let exists = unmet Exists _ _ refl (protection .1) in
+    let full = unmet NoRoom _ _ refl (exists .1) in
+    record {
+      user15 = is-open d (not-false (isOpen d) (closed .0)) .user15;
+      block36 = eqb-true (length f) 36 (not-false _ (block .0));
+      good-name = not-false _ (name .0);
+      unused = ltb-false _ _ (exists .0);
+      room = leb-false _ _ (full .0);
+    }
+
+module _ (d : Drive) (v f : List ℕ) (c : Consistent d v) (r : Ready d v f) where
+  abbrev g : Geometry
+  g = d .geometry
+
+  abbrev i : ℕ
+  i = findSlot (d .geometry) v (d .user) (nameOf f) Empty
+
+  abbrev e : Entry
+  e = freshEntry (d .user) (nameOf f)
+
+  abbrev v′ : List ℕ
+  v′ = putSlot (d .geometry) v (findSlot (d .geometry) v (d .user) (nameOf f) Empty) (freshEntry (d .user) (nameOf f))
+
+  e32 : length e ≡ 32
+  e32 = fresh-32 (d .user) f (r .block36)
+
+  was-empty : isEmpty (slotAt g v i) ≡ true
+  was-empty = found-fits g v (d .user) (nameOf f) Empty (r .room)
+
+  live : Live e
+  live = user-live e (rw (fresh-user (d .user) f (r .block36)) (r .user15))
+
+  laid : Laid g (slotAt g v) (slotAt g v′) i e
+  laid = record { here = slot-putSlot g (c .law) v (c .size) i (r .room) e e32; there = slot-putSlot-other g (c .law) v (c .size) i (r .room) e e32 }
+
+  fresh : Fresh g (slotAt g v) i e
+  fresh = record {
+    blocks = λ j p q j< ne l p< q< nz same. nz (fresh-block (d .user) f (r .block36) g p);
+    unlike = λ j j< ne l k. true≢false
+        (sym (of-file (d .user) (nameOf f) (slotAt g v j)
+        (record { user = sym (k .user) ∙ fresh-user (d .user) f (r .block36); name-is = sym (k .name) ∙ fresh-name (d .user) f (r .block36) }))
+        ∙ not-found g v (d .user) (nameOf f) File (r .unused) j j<);
+  }
+
+  no-block : (p : ℕ) → g .directory ≤ blockIn g e p → ⊥
+  no-block p h = omega (arith, bounds g (c .law) .directory-low, fresh-block (d .user) f (r .block36) g p)
+
+  anew : HeldAnew g (d .held) (d .held) (slotAt g v) i e
+  anew = record {
+    four = c .held .four;
+    live = live;
+    stays = λ b h. h;
+    only = λ b low high h. inl h;
+    keeps = λ p p< l low. absurd (true≢false (sym was-empty ∙ l));
+    holds-all = λ p p< low high. absurd (no-block p low);
+  }
+
+  consistent : Consistent d v′
+  consistent = record {
+    law = c .law;
+    size = putSlot-length g (c .law) v (c .size) i (r .room) e e32 ∙ c .size;
+    sound = sound-laid g (slotAt g v) (slotAt g v′) i e (c .sound) laid (fresh-in-order (d .user) f (r .block36) g (r .user15) (r .good-name)) fresh;
+    held = held-laid g (d .held) (d .held) (slotAt g v) (slotAt g v′) i e (r .room) (c .held) laid anew;
+  }
+
+  apart : (u : ℕ) (name : List ℕ) → u ≤ 15 → (eqb u (d .user) && same name (nameOf f)) ≡ false → Apart g u name v v′
+  apart u name u15 other = record { entries = λ j j<. entry j j< (ℕ-discrete j i); bytes = bytes-there }
+    where
+      entry : (j : ℕ) → j < slots g → Dec (j ≡ i) → Touch u name (slotAt g v j) (slotAt g v′ j)
+      entry j j< (no z) = unchanged (laid .there j j< z)
+      entry j j< (yes z) =
+          foreign (ap (λ (x : ℕ). ofFile u name (slotAt g v x)) z ∙ empty-foreign u name (slotAt g v i) u15 was-empty)
+          (ap (λ (x : ℕ). ofFile u name (slotAt g v′ x)) z ∙ ap (ofFile u name) (laid .here)
+          ∙ other-file (d .user) (nameOf f) u name e other (fresh-user (d .user) f (r .block36)) (fresh-name (d .user) f (r .block36)))
+
+      bytes-there : (j p n : ℕ) → j < slots g → p < places g → ofFile u name (slotAt g v j) ≡ true → blockIn g (slotAt g v j) p ≢ 0
+          → recordAt g v′ (blockIn g (slotAt g v j) p) n ≡ recordAt g v (blockIn g (slotAt g v j) p) n
+      bytes-there j p n j< p< own nz =
+          let b = file-block g v (c .sound) u name u15 j p j< p< own nz in
+          record-putSlot g (c .law) v (c .size) i (r .room) e e32 (blockIn g (slotAt g v j) p) n (b .0) (b .1)
+
+pub make-keeps : (d : Drive) (v f : List ℕ) → Consistent d v → Keeps (λ u name. eqb u (d .user) && same name (nameOf f)) d v (makeAct d v f)
+unfolding makeAct stored storedAll changedState
+make-keeps d v f c = keeps-unless (makeLadder d v f) _ (λ h.
+    let r = ready d v f h in
+    does (record {
+      consistent = consistent d v f c r;
+      others = λ u name u15 other. leaves-apart (d .geometry) (c .law) u name v _ (apart d v f c r u name u15 other);
+    }))

@@ -1,0 +1,98 @@
+-- Demand 3: "for any geometry within the rules, any volume of its length that passes inspection, any list of calls that
+-- begins with log-in, refused ones among them, with any lent lengths and bytes: answers (with control blocks and buffers)
+-- and volume equal those of the plain way; the volume passes inspection at the end; each file, that is user and name,
+-- that no successful call named or matched has the same records present with the same bytes."
+--
+-- Of what is lent only this is asked: the bytes of control blocks are below 256. The list may be any, so each of its
+-- beginnings has all this too: the volume passes inspection after every call. Calls that only read name a file and are not
+-- counted as touching it, which makes the last sentence say more than was asked.
+use mathlib.Core.Path.{_≡_}
+use mathlib.Core.Bool.{Bool, true, false, _&&_, _||_}
+use mathlib.Core.Logic.{_≢_}
+use mathlib.Core.List.{List, [], _∷_}
+use Prim.Native.Nat.{ℕ, _≤_, _<_}
+use lib.Dec.{eqb}
+use lib.ListN.{length}
+use Rattle.lists.specs.Bytes.{byte}
+use Rattle.volume.specs.declared.Geometry.{Geometry}
+use Rattle.volume.specs.Geometry.{lawful, bytes, slots}
+use Rattle.volume.specs.Name.{nameOf, same, like}
+use Rattle.volume.specs.Entry.{isEmpty, places, blockIn}
+use Rattle.volume.specs.Directory.{slotAt}
+use Rattle.volume.specs.Record.{present}
+use Rattle.control.specs.Block.{newName}
+use Rattle.answers.specs.Answer.{succeeded}
+use Rattle.inspection.specs.GoodSlot.{lowestBad}
+use Rattle.reading.specs.Read.{readBytes}
+use Rattle.filecalls.specs.declared.Drive.{Drive}
+use Rattle.bdos.specs.declared.Call.{Call}
+use Rattle.bdos.specs.declared.Call.the-variants.{LogIn, Open, Close, SearchFirst, SearchNext, Delete, ReadSequential, WriteSequential, Make, Rename, Protect, Attributes, User, ReadRandom, WriteRandom, Size, SetRandom, EmptyRecord, Unserved}
+use Rattle.bdos.specs.Step.{Asked, callOf, step}
+use Rattle.demands.specs.Run.{answers, final, plainStep}
+
+-- bytes are below 256
+abbrev pub Bytes : List ℕ → Type 0
+Bytes l = (k : ℕ) → byte l k < 256
+
+abbrev pub BytesLent : List Asked → Type 0
+BytesLent [] = Unit {0}
+BytesLent (c ∷ cs) = Bytes (c .block) × BytesLent cs
+
+-- a call of the user w with this control block, which changes what it names: does it name or match the file (u, name)?
+abbrev pub names : Call → ℕ → List ℕ → ℕ → List ℕ → Bool
+names Delete w f u name = eqb u w && like name (nameOf f)
+names Make w f u name = eqb u w && same name (nameOf f)
+names WriteSequential w f u name = eqb u w && same name (nameOf f)
+names WriteRandom w f u name = eqb u w && same name (nameOf f)
+names EmptyRecord w f u name = eqb u w && same name (nameOf f)
+names Attributes w f u name = eqb u w && same name (nameOf f)
+names Rename w f u name = eqb u w && (same name (nameOf f) || same name (newName f))
+names LogIn w f u name = false
+names Open w f u name = false
+names Close w f u name = false
+names SearchFirst w f u name = false
+names SearchNext w f u name = false
+names ReadSequential w f u name = false
+names ReadRandom w f u name = false
+names Size w f u name = false
+names Protect w f u name = false
+names User w f u name = false
+names SetRandom w f u name = false
+names Unserved w f u name = false
+
+-- in the state d
+unfoldable pub touches : Asked → Drive → ℕ → List ℕ → Bool
+touches c d u name = names (callOf (c .function)) (d .user) (c .block) u name
+
+-- a successful call of the run touches the file
+unfoldable pub touched : Geometry → List Asked → Drive → List ℕ → ℕ → List ℕ → Bool
+touched g [] d v u name = false
+touched g (c ∷ cs) d v u name =
+    (succeeded (step g c d v .answer) && touches c d u name) || touched g cs (step g c d v .drive) (step g c d v .volume) u name
+
+-- what a run on the volume v leaves, from the state d, and from e the plain way
+pub record Kept (g : Geometry) (v : List ℕ) (cs : List Asked) (d e : Drive) : Type 0 where
+  pub answers-same : answers (step g) cs d v ≡ answers (plainStep g) cs e v
+  pub volume-same : final (step g) cs d v ≡ final (plainStep g) cs e v
+  pub inspected : lowestBad g (final (step g) cs d v) ≡ slots g
+  pub others-present : (u : ℕ) (name : List ℕ) → u ≤ 15 → touched g cs d v u name ≡ false
+      → (n : ℕ) → present g (final (step g) cs d v) u name n ≡ present g v u name n
+  pub others-bytes : (u : ℕ) (name : List ℕ) → u ≤ 15 → touched g cs d v u name ≡ false
+      → (n : ℕ) → present g v u name n ≡ true → readBytes g (final (step g) cs d v) u name n ≡ readBytes g v u name n
+
+abbrev pub Demand3 : Type 0
+Demand3 =
+    (g : Geometry) → lawful g ≡ true → (v : List ℕ) → length v ≡ bytes g → lowestBad g v ≡ slots g
+    → (login : Asked) → callOf (login .function) ≡ LogIn → (cs : List Asked) → BytesLent cs
+    → (d e : Drive) → Kept g v (login ∷ cs) d e
+
+-- "No block belongs to two entries at any moment."
+pub record OneOwner (g : Geometry) (v : List ℕ) : Type 0 where
+  pub one-place : (i j p q : ℕ) → i < slots g → j < slots g → isEmpty (slotAt g v i) ≡ false → isEmpty (slotAt g v j) ≡ false
+      → p < places g → q < places g → blockIn g (slotAt g v i) p ≢ 0 → blockIn g (slotAt g v i) p ≡ blockIn g (slotAt g v j) q → (i ≡ j) × (p ≡ q)
+
+abbrev pub NoBlockTwice : Type 0
+NoBlockTwice =
+    (g : Geometry) → lawful g ≡ true → (v : List ℕ) → length v ≡ bytes g → lowestBad g v ≡ slots g
+    → (login : Asked) → callOf (login .function) ≡ LogIn → (cs : List Asked) → BytesLent cs
+    → (d : Drive) → OneOwner g (final (step g) (login ∷ cs) d v)
