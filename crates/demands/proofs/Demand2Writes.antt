@@ -38,8 +38,9 @@ use Rattle.filecalls.specs.Tests.{protectedDrive}
 use Rattle.filecalls.specs.Lent.{namedTests, sequentialLent, randomLent}
 use Rattle.filecalls.specs.Read.{sequentialTests, randomTests}
 use Rattle.filecalls.specs.Write.{writeEntry, writeChange, writeDone, directoryTests, emptyTests, writeSequentialAct, writeRandomAct, emptyRecordAct}
-use Rattle.filecalls.proofs.LentLaws as lent
-use Rattle.filecalls.proofs.StateLaws.{is-open, named-clear}
+use Rattle.filecalls.proofs.LentLaws.{sequential-lent, random-lent}
+use Rattle.filecalls.proofs.OutcomeLaws as laws
+use Rattle.filecalls.proofs.StateLaws.{is-open, both-clear, named-clear}
 use Rattle.filecalls.proofs.WriteLaws.{empty-lent}
 use Rattle.bdos.specs.declared.Call.{Call}
 use Rattle.bdos.specs.declared.Call.the-variants.{WriteSequential, WriteRandom, EmptyRecord}
@@ -68,25 +69,25 @@ module _ (d : Drive) (v f : List ℕ) where
   clear-sequential : (b : List ℕ) → isNone (firstMet (sequentialTests d v f b ++ directoryTests d v f (position f))) ≡ true → Clear d v f b (position f)
   unfolding sequentialLent
   clear-sequential b e =
-      let p = lent.both-clear (sequentialTests d v f b) (directoryTests d v f (position f)) e in
-      let q : isNone (firstMet (sequentialLent d v f (length b))) ≡ true = sym (ap (λ (ts : List Test). isNone (firstMet ts)) (lent.sequential-lent d v f b)) ∙ p .0 in
-      let l = named-clear d v f (length b) false (lent.both-clear (namedTests d v f (length b) false) _ q .0) in
+      let p = both-clear (sequentialTests d v f b) (directoryTests d v f (position f)) e in
+      let q : isNone (firstMet (sequentialLent d v f (length b))) ≡ true = sym (ap (λ (ts : List Test). isNone (firstMet ts)) (sequential-lent d v f b)) ∙ p .0 in
+      let l = named-clear d v f (length b) false (both-clear (namedTests d v f (length b) false) _ q .0) in
       clear b (position f) l (l .buffer) (p .1)
 
   clear-random : (b : List ℕ) → isNone (firstMet (randomTests d v f b ++ directoryTests d v f (random f))) ≡ true → Clear d v f b (random f)
   unfolding randomLent
   clear-random b e =
-      let p = lent.both-clear (randomTests d v f b) (directoryTests d v f (random f)) e in
-      let q : isNone (firstMet (randomLent d v f (length b))) ≡ true = sym (ap (λ (ts : List Test). isNone (firstMet ts)) (lent.random-lent d v f b)) ∙ p .0 in
-      let l = named-clear d v f (length b) false (lent.both-clear (namedTests d v f (length b) false) _ q .0) in
+      let p = both-clear (randomTests d v f b) (directoryTests d v f (random f)) e in
+      let q : isNone (firstMet (randomLent d v f (length b))) ≡ true = sym (ap (λ (ts : List Test). isNone (firstMet ts)) (random-lent d v f b)) ∙ p .0 in
+      let l = named-clear d v f (length b) false (both-clear (namedTests d v f (length b) false) _ q .0) in
       clear b (random f) l (l .buffer) (p .1)
 
   clear-empty : isNone (firstMet (emptyTests d v f ++ directoryTests d v f (random f))) ≡ true → Clear d v f (replicate 128 0) (random f)
   unfolding randomLent
   clear-empty e =
-      let p = lent.both-clear (emptyTests d v f) (directoryTests d v f (random f)) e in
+      let p = both-clear (emptyTests d v f) (directoryTests d v f (random f)) e in
       let q : isNone (firstMet (randomLent d v f 128)) ≡ true = ap isNone (empty-lent d v f) ∙ p .0 in
-      let l = named-clear d v f 128 false (lent.both-clear (namedTests d v f 128 false) _ q .0) in
+      let l = named-clear d v f 128 false (both-clear (namedTests d v f 128 false) _ q .0) in
       clear (replicate 128 0) (random f) l (length-replicate {A = ℕ} 128 0) (p .1)
 
 -- ---- what a write leaves
@@ -117,7 +118,7 @@ module _ (d : Drive) (v f b : List ℕ) (n cr : ℕ) (r c : List ℕ) where
 
   wrote : (ts : List Test) → isNone (firstMet ts) ≡ true → Wrote d v f n r (outcome d v f b (unless ts (writeDone d v f n cr r c)))
   wrote ts e =
-      let z = ap (outcome d v f b) (lent.does ts (writeDone d v f n cr r c) e) ∙ leaves in
+      let z = ap (outcome d v f b) (laws.does ts (writeDone d v f n cr r c) e) ∙ leaves in
       record {
         geometry-is = ap (λ (o : Outcome). o .drive .geometry) z;
         user-is = ap (λ (o : Outcome). o .drive .user) z;
@@ -127,7 +128,7 @@ module _ (d : Drive) (v f b : List ℕ) (n cr : ℕ) (r c : List ℕ) where
 
   pub block-left : (ts : List Test) → isNone (firstMet ts) ≡ true
       → outcome d v f b (unless ts (writeDone d v f n cr r c)) .block ≡ setTo f (entryAfter (d .geometry) (d .held) v (d .user) (nameOf f) n) n cr
-  block-left ts e = ap (λ (o : Outcome). o .block) (ap (outcome d v f b) (lent.does ts (writeDone d v f n cr r c) e) ∙ leaves)
+  block-left ts e = ap (λ (o : Outcome). o .block) (ap (outcome d v f b) (laws.does ts (writeDone d v f n cr r c) e) ∙ leaves)
 
 -- ---- the three writes
 module _ (g : Geometry) (p : ℕ) (d : Drive) (v f b : List ℕ) where

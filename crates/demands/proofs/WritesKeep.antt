@@ -22,7 +22,8 @@ use Rattle.filecalls.specs.Lent.{sequentialLent, randomLent}
 use Rattle.filecalls.specs.Outcome.{keeps, takes, stored, storedAll, changedState, withHeld}
 use Rattle.filecalls.specs.Read.{sequentialTests, randomTests}
 use Rattle.filecalls.specs.Write.{writeEntry, writeChange, writeDone, directoryTests, writeSequentialAct, writeRandomAct, emptyTests, emptyRecordAct}
-use Rattle.filecalls.proofs.LentLaws.{both-clear, sequential-lent, random-lent, sequential-passed, random-passed}
+use Rattle.filecalls.proofs.LentLaws.{sequential-lent, random-lent, sequential-passed, random-passed}
+use Rattle.filecalls.proofs.StateLaws.{both-clear}
 use Rattle.filecalls.proofs.WriteLaws.{empty-lent}
 use Rattle.demands.specs.Demand3.{Bytes}
 use Rattle.demands.proofs.Acts.{Consistent, Done, Keeps, does, keeps-unless, leaves-apart}
