@@ -1,8 +1,7 @@
 -- Two states that differ in the held blocks alone, and hold the same of the blocks from D to T-1, answer every call alike
 -- and leave the same volume: a call looks at the held blocks only where a write is given a block.
-use mathlib.Core.Path.{_≡_, refl, sym, ap, _∙_}
-use mathlib.Core.Bool.{Bool, true, false}
-use mathlib.Core.List.{List, [], _∷_}
+use mathlib.Core.Path.{_≡_, refl}
+use mathlib.Core.List.{List, []}
 use Prim.Native.Nat.{ℕ, _≤_, _<_}
 use Rattle.volume.specs.declared.Geometry.{Geometry}
 use Rattle.volume.specs.Geometry.{placeOf}
@@ -10,11 +9,10 @@ use Rattle.volume.specs.Entry.{Entry}
 use Rattle.volume.specs.Name.{nameOf}
 use Rattle.blocks.specs.Held.{holds}
 use Rattle.answers.specs.declared.Refusal.the-variants.{NotServed}
-use Rattle.writing.specs.Write.{alloc, baseEntry, needsBlock, writeBlock, writeTests}
+use Rattle.writing.specs.Write.{alloc, baseEntry, writeBlock, writeTests}
 use Rattle.writing.proofs.AllocLaws.{alloc-ext}
 use Rattle.filecalls.specs.declared.Drive.{Drive}
 use Rattle.filecalls.specs.State.{isOpen}
-use Rattle.filecalls.specs.LogIn.{logIn}
 use Rattle.filecalls.specs.Open.{openTests, openAct, closeTests, closeAct, sizeTests, sizeAct}
 use Rattle.filecalls.specs.Search.{firstTests, searchFirstAct, newSearch, shown, nextTests, searchNextAct}
 use Rattle.filecalls.specs.Names.{deleteLadder, deleteAct, makeLadder, makeAct, renameLadder, renameAct, attributesLadder, attributesAct}

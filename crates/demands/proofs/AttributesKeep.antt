@@ -1,13 +1,11 @@
 -- Attributes keep state and volume consistent and leave every file but the one that they name.
-use mathlib.Core.Path.{_≡_, refl, sym, ap, _∙_}
-use mathlib.Core.Bool.{Bool, true, false, not, _&&_}
-use mathlib.Core.List.{List, [], _∷_}
-use Prim.Native.Nat.{ℕ, _≤_, _<_}
+use mathlib.Core.Path.{_≡_, refl}
+use mathlib.Core.Bool.{true, false, _&&_}
+use mathlib.Core.List.{List}
+use Prim.Native.Nat.{ℕ, _<_}
 use lib.Dec.{eqb}
-use lib.ListN.{length}
 use borrow.Author.Tests.{not-false}
 use Rattle.lists.specs.Bytes.{part}
-use Rattle.volume.specs.declared.Geometry.{Geometry}
 use Rattle.volume.specs.Geometry.{slots}
 use Rattle.volume.specs.Name.{nameOf, goodName, same}
 use Rattle.volume.specs.Entry.{Entry, ofFile}
@@ -20,9 +18,9 @@ use Rattle.naming.specs.Sweep.{attributed, changed}
 use Rattle.filecalls.specs.declared.Drive.{Drive}
 use Rattle.filecalls.specs.Outcome.{stored, storedAll, changedState}
 use Rattle.filecalls.specs.Names.{attributesLadder, attributesAct}
-use Rattle.demands.proofs.Acts.{Consistent, Done, Keeps, does, keeps-unless, leaves-apart}
-use Rattle.demands.proofs.Files.{IsOf, of-file}
-use Rattle.demands.proofs.NamedEntry.{Renames, attributes-renames}
+use Rattle.demands.proofs.Acts.{Consistent, Keeps, does, keeps-unless, leaves-apart}
+use Rattle.demands.proofs.Files.{of-file}
+use Rattle.demands.proofs.NamedEntry.{attributes-renames}
 use Rattle.demands.proofs.FileEdit.{Edits, edit-size, edit-sound, edit-held, edit-apart}
 
 good-name : (d : Drive) (v f : List ℕ) → isNone (firstMet (attributesLadder d v f)) ≡ true → goodName false (nameOf f) ≡ true

@@ -1,10 +1,10 @@
 -- Every call keeps state and volume consistent, and the geometry, and leaves every file that it does not touch.
-use mathlib.Core.Path.{_≡_, refl, sym, ap, _∙_}
-use mathlib.Core.Bool.{Bool, true, false, not, cond, _&&_, false≢true}
-use mathlib.Core.List.{List, [], _∷_, _++_}
-use Prim.Native.Nat.{ℕ, _≤_, _<_}
+use mathlib.Core.Path.{_≡_, refl}
+use mathlib.Core.Bool.{Bool, true, false, cond}
+use mathlib.Core.List.{List, [], _++_}
+use Prim.Native.Nat.{ℕ}
 use native.Mathlib.Omega.{arith}
-use lib.Dec.{eqb, ltb}
+use lib.Dec.{eqb}
 use lib.ListN.{length}
 use borrow.Author.Tests.{eq-eqb, le-ltb}
 use Rattle.volume.specs.declared.Geometry.{Geometry}
@@ -27,7 +27,7 @@ use Rattle.filecalls.specs.Open.{openTests, openAct, closeTests, closeAct, size
 use Rattle.filecalls.specs.Search.{firstTests, searchFirstAct, shown, nextTests, searchNextAct}
 use Rattle.filecalls.specs.Read.{sequentialTests, randomTests, readDone, readSequentialAct, readRandomAct}
 use Rattle.filecalls.specs.Small.{protectTests, protectAct, userTests, userAct, setRandomTests, setRandomAct}
-use Rattle.filecalls.specs.Outcome.{Change, keeps, protects, becomes, Store, Act, deny, done, unless, changedState, storedAll, Outcome, outcome, left}
+use Rattle.filecalls.specs.Outcome.{keeps, protects, becomes, Store, Act, deny, done, unless, changedState, Outcome, outcome, left}
 use Rattle.bdos.specs.declared.Call.{Call}
 use Rattle.bdos.specs.declared.Call.the-variants.{LogIn, Open, Close, SearchFirst, SearchNext, Delete, ReadSequential, WriteSequential, Make, Rename, Protect, Attributes, User, ReadRandom, WriteRandom, Size, SetRandom, EmptyRecord, Unserved}
 use Rattle.bdos.specs.Step.{keepsBuffer, keepsBlock, keepsVolume}
@@ -35,7 +35,7 @@ use Rattle.bdos.specs.Step as door
 use Rattle.demands.specs.Demand3.{Bytes, names}
 use Rattle.demands.proofs.Sound.{Sound}
 use Rattle.demands.proofs.Inspected.{sound-accepted, held-of}
-use Rattle.demands.proofs.Acts.{Consistent, Done, Keeps, denied, does, keeps-unless, still, still-search, StepKeeps, outcome-keeps, leaves-all}
+use Rattle.demands.proofs.Acts.{Consistent, Keeps, denied, does, keeps-unless, still, still-search, StepKeeps, outcome-keeps, leaves-all}
 use Rattle.demands.proofs.MakeKeeps.{make-keeps}
 use Rattle.demands.proofs.WritesKeep.{write-sequential-keeps, write-random-keeps, empty-record-keeps}
 use Rattle.demands.proofs.DeleteKeeps.{delete-keeps}

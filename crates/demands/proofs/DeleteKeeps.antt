@@ -1,8 +1,8 @@
 -- Delete keeps state and volume consistent and leaves every file that its pattern does not match.
 use mathlib.Core.Path.{_≡_, refl, sym, ap, _∙_}
 use mathlib.Core.Logic.{_≢_}
-use mathlib.Core.Bool.{Bool, true, false, not, cond, _&&_, true≢false, false≢true}
-use mathlib.Core.List.{List, [], _∷_}
+use mathlib.Core.Bool.{Bool, true, false, not, _&&_, true≢false}
+use mathlib.Core.List.{List, []}
 use Prim.Native.Nat.{ℕ, _≤_, _<_}
 use native.Mathlib.Omega.{arith}
 use lib.Dec.{eqb}
@@ -14,11 +14,10 @@ use Rattle.lists.specs.Search.{anyFrom}
 use Rattle.lists.proofs.BoolLaws.{and-parts}
 use Rattle.lists.proofs.SearchLaws.{any-true, any-intro, any-false, any-none}
 use Rattle.volume.specs.declared.Geometry.{Geometry}
-use Rattle.volume.specs.Geometry.{lawful, bytes, slots, inside}
+use Rattle.volume.specs.Geometry.{lawful, bytes, slots}
 use Rattle.volume.specs.Name.{nameOf, like}
-use Rattle.volume.specs.Entry.{Entry, isEmpty, places, blockIn, ofFile, matches}
+use Rattle.volume.specs.Entry.{Entry, isEmpty, places, blockIn, matches}
 use Rattle.volume.specs.Directory.{slotAt, mapSlots}
-use Rattle.volume.specs.Record.{recordAt}
 use Rattle.volume.proofs.GeometryLaws.{bounds}
 use Rattle.volume.proofs.DirectoryLaws.{slot-length}
 use Rattle.volume.proofs.SweepLaws.{mapSlots-length, mapSlots-slot, mapSlots-record}
@@ -33,13 +32,13 @@ use Rattle.naming.specs.Delete.{freeMatches}
 use Rattle.writing.proofs.WriteLaws.{is-inside}
 use Rattle.filecalls.specs.declared.Drive.{Drive}
 use Rattle.filecalls.specs.State.{isOpen}
-use Rattle.filecalls.specs.Outcome.{stored, storedAll, changedState, withHeld}
+use Rattle.filecalls.specs.Outcome.{stored, storedAll, changedState}
 use Rattle.filecalls.specs.Names.{deleteLadder, deleteAct}
 use Rattle.filecalls.proofs.StateLaws.{is-open}
 use Rattle.demands.proofs.Sound.{Live, Sound, HeldBy, Held, sound-less}
 use Rattle.demands.proofs.Frame.{Touch, unchanged, foreign, Apart}
-use Rattle.demands.proofs.Acts.{Consistent, Done, Keeps, does, keeps-unless, leaves-apart}
-use Rattle.demands.proofs.Files.{Matched, matched, other-match, user-live, file-block, empty-foreign}
+use Rattle.demands.proofs.Acts.{Consistent, Keeps, does, keeps-unless, leaves-apart}
+use Rattle.demands.proofs.Files.{matched, other-match, user-live, file-block, empty-foreign}
 use Rattle.demands.proofs.FreeMatches.{frees, freed, freed-four}
 
 -- ---- an entry afterwards

@@ -1,14 +1,13 @@
 -- Demand 3 holds: after log-in the state is consistent with the volume, every call keeps it so (`does-keeps`), and a state
 -- that is consistent answers as one whose held blocks were worked out from the directory (`does-alike`).
 use mathlib.Core.Path.{_≡_, refl, sym, ap, ap₂, _∙_, subst}
-use mathlib.Core.Bool.{Bool, true, false, _&&_, _||_}
+use mathlib.Core.Bool.{true, false, _&&_, _||_}
 use mathlib.Core.List.{List, [], _∷_}
-use Prim.Native.Nat.{ℕ, _≤_, _<_}
+use Prim.Native.Nat.{ℕ, _≤_}
 use lib.ListN.{length}
 use Rattle.volume.specs.declared.Geometry.{Geometry}
 use Rattle.volume.specs.Geometry.{lawful, bytes, slots}
 use Rattle.volume.specs.Directory.{slotAt}
-use Rattle.volume.specs.Record.{present}
 use Rattle.blocks.specs.Held.{freeCount}
 use Rattle.answers.specs.declared.Answer.the-variants.{Ready}
 use Rattle.answers.specs.Answer.{succeeded}
@@ -18,13 +17,12 @@ use Rattle.inspection.proofs.AcceptedLaws.{one-place}
 use Rattle.naming.proofs.EditLaws.{or-false}
 use Rattle.filecalls.specs.declared.Drive.{Drive}
 use Rattle.filecalls.specs.State.{loggedIn}
-use Rattle.filecalls.specs.LogIn.{logIn}
-use Rattle.filecalls.specs.Outcome.{Outcome, withHeld, left}
+use Rattle.filecalls.specs.Outcome.{Outcome, withHeld}
 use Rattle.bdos.specs.declared.Call.the-variants.{LogIn}
 use Rattle.bdos.specs.Step.{Asked, callOf, does, step}
 use Rattle.demands.specs.Run.{Seen, seen, answers, final, plainStep}
-use Rattle.demands.specs.Demand3.{Bytes, BytesLent, touches, touched, Kept, Demand3, OneOwner, NoBlockTwice}
-use Rattle.demands.proofs.Sound.{Sound, held-agree}
+use Rattle.demands.specs.Demand3.{Bytes, BytesLent, touches, touched, Kept, Demand3, NoBlockTwice}
+use Rattle.demands.proofs.Sound.{held-agree}
 use Rattle.demands.proofs.Inspected.{accepted-sound, sound-accepted, held-of}
 use Rattle.demands.proofs.Acts.{Consistent, Leaves, StepKeeps}
 use Rattle.demands.proofs.Agree.{Alike, does-alike}
@@ -97,7 +95,7 @@ module _ (g : Geometry) (law : lawful g ≡ true) (v : List ℕ) (size : length 
   unfolding plainStep
   starts-plain e = starts (withHeld e (heldOf (e .geometry) v))
 
--- "any list of calls that begins with log-in"
+-- any list of calls that begins with log-in
 pub demand3 : Demand3
 unfolding answers final touched
 demand3 g law v size ok login first cs small d e =
@@ -117,7 +115,7 @@ demand3 g law v size ok login first cs small d e =
       others-bytes = λ u name u15 h n there. rw a (r .others-bytes u name u15 (rest u name h) n there);
     }
 
--- "no block belongs to two entries at any moment": the list is any, so this is so after each of its calls
+-- no block belongs to two entries: the list is any, so this is so after each of its calls
 pub no-block-twice : NoBlockTwice
 no-block-twice g law v size ok login first cs small d = record {
   one-place = λ i j p q i< j< li lj p< q< nz same.

@@ -1,10 +1,9 @@
 -- All entries of a file take a name that no other entry of the user has: the directory stays sound, each block stays where
 -- it is, and every file of another name stays as it is. Rename gives a new name, attributes give the file's own.
 use mathlib.Core.Path.{_≡_, refl, sym, ap, _∙_}
-use mathlib.Core.Logic.{_≢_}
-use mathlib.Core.Bool.{Bool, true, false, _&&_, true≢false, false≢true}
+use mathlib.Core.Bool.{Bool, true, false, _&&_, true≢false}
 use mathlib.Core.List.{List}
-use Prim.Native.Nat.{ℕ, _+_, _*_, _≤_, _<_}
+use Prim.Native.Nat.{ℕ, _+_, _≤_, _<_}
 use native.Mathlib.Omega.{arith}
 use lib.Dec.{eqb}
 use lib.ListN.{length}
@@ -12,13 +11,12 @@ use Rattle.lists.specs.Bytes.{byte}
 use Rattle.volume.specs.declared.Geometry.{Geometry}
 use Rattle.volume.specs.Geometry.{lawful, bytes, slots, groupOf}
 use Rattle.volume.specs.Name.{nameOf, goodName, same}
-use Rattle.volume.specs.Entry.{Entry, isEmpty, extent, places, blockIn, ofFile}
+use Rattle.volume.specs.Entry.{Entry, extent, blockIn, ofFile}
 use Rattle.volume.specs.Directory.{slotAt, mapSlots}
 use Rattle.volume.proofs.DirectoryLaws.{slot-length}
 use Rattle.volume.proofs.SweepLaws.{mapSlots-length, mapSlots-slot, mapSlots-record}
-use Rattle.inspection.proofs.GoodLaws.{Fields}
 use Rattle.inspection.proofs.TwinLaws.{Twins}
-use Rattle.demands.proofs.Sound.{Live, InOrder, Sound, Changed, Held, sound-changed, held-changed}
+use Rattle.demands.proofs.Sound.{InOrder, Sound, Changed, Held, sound-changed, held-changed}
 use Rattle.demands.proofs.Frame.{Touch, unchanged, foreign, Apart}
 use Rattle.demands.proofs.Files.{IsOf, is-of, of-file, other-file, file-block}
 use Rattle.demands.proofs.NamedEntry.{Renames}

@@ -1,9 +1,9 @@
 -- A file none of whose entries and none of whose blocks a change touched has the same records present with the same bytes.
 use mathlib.Core.Path.{_≡_, refl, sym, ap, _∙_}
 use mathlib.Core.Logic.{_≢_}
-use mathlib.Core.Bool.{Bool, true, false, not, _&&_, true≢false, false≢true}
+use mathlib.Core.Bool.{Bool, true, false, not, _&&_, false≢true}
 use mathlib.Core.List.{List}
-use Prim.Native.Nat.{ℕ, _/_, _%_, _≤_, _<_}
+use Prim.Native.Nat.{ℕ, _/_, _%_, _<_}
 use native.Mathlib.Omega.{arith}
 use lib.Dec.{ltb, eqb}
 use borrow.Author.Tests.{ltb-true, not-true, eqb-false}
@@ -12,7 +12,7 @@ use Rattle.lists.proofs.SearchLaws.{low-ext}
 use Rattle.volume.specs.declared.Geometry.{Geometry}
 use Rattle.volume.specs.declared.Wanted.the-variants.{Group}
 use Rattle.volume.specs.Geometry.{lawful, slots, groupOf, placeOf}
-use Rattle.volume.specs.Entry.{Entry, extent, places, blockIn, countOf, ofFile, ofGroup}
+use Rattle.volume.specs.Entry.{Entry, places, blockIn, countOf, ofFile, ofGroup}
 use Rattle.volume.specs.Directory.{slotAt, findSlot, slotFits}
 use Rattle.volume.specs.Record.{recordSlot, recordBlock, recordAt, counted, present}
 use Rattle.volume.proofs.FindLaws.{found-fits}

@@ -1,24 +1,22 @@
 -- A volume passes inspection exactly when its directory is sound; the blocks that log-in works out are those of the entries.
 use mathlib.Core.Path.{_≡_, refl, sym, ap, _∙_}
-use mathlib.Core.Logic.{⊎-elim, inl, inr, _⊎_, _≢_}
-use mathlib.Core.Bool.{Bool, true, false, true≢false, false≢true}
+use mathlib.Core.Logic.{⊎-elim, inl, inr, _⊎_}
+use mathlib.Core.Bool.{Bool, true, false}
 use mathlib.Core.List.{List}
-use Prim.Native.Nat.{ℕ, _≤_, _<_}
+use Prim.Native.Nat.{ℕ, _<_}
 use native.Mathlib.Omega.{arith}
 use native.Mathlib.Decide.{ℕ-discrete}
 use lib.Dec.{eqb}
-use Rattle.lists.specs.Bytes.{byte}
 use Rattle.lists.proofs.BoolLaws.{and-right}
 use Rattle.volume.specs.declared.Geometry.{Geometry}
 use Rattle.volume.specs.Geometry.{lawful, slots, inside}
 use Rattle.volume.specs.Entry.{isEmpty, places, blockIn}
 use Rattle.volume.specs.Directory.{slotAt}
 use Rattle.volume.proofs.GeometryLaws.{bounds}
-use Rattle.blocks.specs.Held.{holds}
 use Rattle.inspection.specs.GoodSlot.{namedBelow, goodSlot, lowestBad}
 use Rattle.inspection.specs.Named.{named, heldOf}
 use Rattle.inspection.proofs.GoodLaws.{Good, is-good, fields-good, good-fields}
-use Rattle.inspection.proofs.TwinLaws.{Twins, twin, twin-true, twins}
+use Rattle.inspection.proofs.TwinLaws.{twin, twin-true, twins}
 use Rattle.inspection.proofs.AcceptedLaws.{accepts, good-entry, one-place, one-entry}
 use Rattle.inspection.proofs.NamedLaws.{named-at, at-named, holds-held, words-held}
 use Rattle.writing.proofs.WriteLaws.{is-inside}

@@ -1,17 +1,17 @@
 -- Make keeps state and volume consistent and leaves every file but the one that it names.
 use mathlib.Core.Path.{_≡_, refl, sym, ap, _∙_}
-use mathlib.Core.Logic.{_⊎_, inl, inr, _≢_}
-use mathlib.Core.Bool.{Bool, true, false, not, _&&_, true≢false, false≢true}
-use mathlib.Core.List.{List, [], _∷_}
-use Prim.Native.Nat.{ℕ, _%_, _≤_, _<_}
+use mathlib.Core.Logic.{inl, _≢_}
+use mathlib.Core.Bool.{true, false, _&&_, true≢false}
+use mathlib.Core.List.{List}
+use Prim.Native.Nat.{ℕ, _≤_, _<_}
 use native.Mathlib.Omega.{arith}
 use native.Mathlib.Decide.{ℕ-discrete}
-use lib.Dec.{leb, ltb, eqb}
+use lib.Dec.{eqb}
 use lib.ListN.{length}
 use borrow.Author.Tests.{not-false, eqb-true, ltb-false, leb-false}
 use Rattle.volume.specs.declared.Geometry.{Geometry}
 use Rattle.volume.specs.declared.Wanted.the-variants.{Empty, File}
-use Rattle.volume.specs.Geometry.{lawful, bytes, slots, inside}
+use Rattle.volume.specs.Geometry.{bytes, slots}
 use Rattle.volume.specs.Name.{nameOf, goodName, same}
 use Rattle.volume.specs.Entry.{Entry, isEmpty, places, blockIn, ofFile}
 use Rattle.volume.specs.Directory.{slotAt, putSlot, findSlot}
@@ -25,14 +25,13 @@ use Rattle.answers.proofs.Ladder.{unmet}
 use Rattle.naming.specs.Make.{makeTests, freshEntry}
 use Rattle.filecalls.specs.declared.Drive.{Drive}
 use Rattle.filecalls.specs.State.{isOpen}
-use Rattle.filecalls.specs.Ready.{Open}
-use Rattle.filecalls.specs.Outcome.{keeps, entryTo, stored, storedAll, changedState}
+use Rattle.filecalls.specs.Outcome.{keeps, stored, storedAll, changedState}
 use Rattle.filecalls.specs.Names.{makeLadder, makeAct}
 use Rattle.filecalls.proofs.StateLaws.{is-open}
-use Rattle.demands.proofs.Sound.{Live, Sound, Laid, Fresh, Held, InMap, HeldAnew, sound-laid, held-laid}
+use Rattle.demands.proofs.Sound.{Live, Laid, Fresh, HeldAnew, sound-laid, held-laid}
 use Rattle.demands.proofs.Frame.{Touch, unchanged, foreign, Apart}
-use Rattle.demands.proofs.Acts.{Consistent, Done, Keeps, does, keeps-unless, leaves-apart}
-use Rattle.demands.proofs.Files.{IsOf, of-file, other-file, user-live, file-block, empty-foreign}
+use Rattle.demands.proofs.Acts.{Consistent, Keeps, does, keeps-unless, leaves-apart}
+use Rattle.demands.proofs.Files.{of-file, other-file, user-live, file-block, empty-foreign}
 use Rattle.demands.proofs.NewEntry.{fresh-32, fresh-user, fresh-name, fresh-block, fresh-in-order}
 
 -- what is known once no test of make is met

@@ -1,7 +1,7 @@
 -- Rename keeps state and volume consistent and leaves every file but the two that it names.
-use mathlib.Core.Path.{_≡_, refl, sym, ap, _∙_}
-use mathlib.Core.Bool.{Bool, true, false, not, _&&_, _||_}
-use mathlib.Core.List.{List, [], _∷_}
+use mathlib.Core.Path.{_≡_, refl}
+use mathlib.Core.Bool.{Bool, true, false, _&&_, _||_}
+use mathlib.Core.List.{List}
 use Prim.Native.Nat.{ℕ, _≤_, _<_}
 use native.Mathlib.Omega.{arith}
 use lib.Dec.{eqb}
@@ -9,10 +9,9 @@ use lib.ListN.{length}
 use borrow.Author.Tests.{not-false, eqb-true, ltb-false}
 use Rattle.lists.specs.Bytes.{part}
 use Rattle.lists.proofs.PartLaws.{length-part}
-use Rattle.volume.specs.declared.Geometry.{Geometry}
 use Rattle.volume.specs.declared.Wanted.the-variants.{File}
 use Rattle.volume.specs.Geometry.{slots}
-use Rattle.volume.specs.Name.{strip, nameAt, nameOf, goodName, same}
+use Rattle.volume.specs.Name.{nameAt, nameOf, goodName, same}
 use Rattle.volume.specs.Entry.{Entry, ofFile}
 use Rattle.volume.specs.Directory.{slotAt, findSlot}
 use Rattle.volume.proofs.FindLaws.{not-found}
@@ -26,9 +25,9 @@ use Rattle.naming.specs.Rename.{renameTests}
 use Rattle.filecalls.specs.declared.Drive.{Drive}
 use Rattle.filecalls.specs.Outcome.{stored, storedAll, changedState}
 use Rattle.filecalls.specs.Names.{renameLadder, renameAct}
-use Rattle.demands.proofs.Acts.{Consistent, Done, Keeps, does, keeps-unless, leaves-apart}
-use Rattle.demands.proofs.Files.{IsOf, of-file}
-use Rattle.demands.proofs.NamedEntry.{Renames, rename-renames}
+use Rattle.demands.proofs.Acts.{Consistent, Keeps, does, keeps-unless, leaves-apart}
+use Rattle.demands.proofs.Files.{of-file}
+use Rattle.demands.proofs.NamedEntry.{rename-renames}
 use Rattle.demands.proofs.FileEdit.{Edits, edit-size, edit-sound, edit-held, edit-apart}
 
 -- what is known once no test of rename is met

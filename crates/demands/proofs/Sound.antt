@@ -4,17 +4,15 @@
 -- attributes). And the held blocks: exactly those that entries name.
 use mathlib.Core.Path.{_≡_, refl, sym, ap, _∙_}
 use mathlib.Core.Logic.{_⊎_, inl, inr, _≢_}
-use mathlib.Core.Bool.{Bool, true, false, not, true≢false, false≢true}
+use mathlib.Core.Bool.{Bool, true, false, false≢true}
 use mathlib.Core.List.{List}
 use Prim.Native.Nat.{ℕ, _≤_, _<_}
-use native.Mathlib.Omega.{arith}
 use native.Mathlib.Decide.{ℕ-discrete}
 use lib.ListN.{length}
-use Rattle.lists.specs.Bytes.{byte}
 use Rattle.volume.specs.declared.Geometry.{Geometry}
-use Rattle.volume.specs.Geometry.{slots, inside, groupOf}
+use Rattle.volume.specs.Geometry.{slots, inside}
 use Rattle.volume.specs.Name.{nameOf, goodName}
-use Rattle.volume.specs.Entry.{Entry, isEmpty, extent, places, blockIn}
+use Rattle.volume.specs.Entry.{Entry, isEmpty, places, blockIn}
 use Rattle.blocks.specs.Held.{holds}
 use Rattle.inspection.specs.GoodSlot.{goodTopBits}
 use Rattle.inspection.proofs.GoodLaws.{Fields}

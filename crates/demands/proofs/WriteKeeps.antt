@@ -2,14 +2,14 @@
 -- names: the block that it stores to is the entry's own, or one that no entry names.
 use mathlib.Core.Path.{_≡_, refl, sym, ap, _∙_}
 use mathlib.Core.Logic.{_⊎_, inl, inr, _≢_}
-use mathlib.Core.Bool.{Bool, true, false, cond, _&&_, true≢false, false≢true}
+use mathlib.Core.Bool.{Bool, true, false, _&&_, true≢false, false≢true}
 use mathlib.Core.List.{List}
 use Prim.Native.Nat.{ℕ, _/_, _≤_, _<_}
 use native.Mathlib.Omega.{arith}
 use native.Mathlib.Decide.{ℕ-discrete}
-use lib.Dec.{ltb, eqb}
+use lib.Dec.{eqb}
 use lib.ListN.{length}
-use borrow.Author.Tests.{ltb-true, ltb-false, eqb-true, eqb-false, eq-eqb}
+use borrow.Author.Tests.{ltb-true, ltb-false, eqb-true, eq-eqb}
 use Rattle.lists.specs.Bytes.{byte}
 use Rattle.lists.proofs.BoolLaws.{and-left, and-right}
 use Rattle.volume.specs.declared.Geometry.{Geometry}
@@ -26,13 +26,13 @@ use Rattle.blocks.specs.Held.{holds, hold}
 use Rattle.blocks.proofs.HoldLaws.{length-hold, holds-hold-same, holds-hold-other}
 use Rattle.answers.specs.Refusal.{isNone, firstMet}
 use Rattle.inspection.proofs.TwinLaws.{Twins}
-use Rattle.writing.specs.Write.{alloc, likeEntry, hasGroup, writeSlot, baseEntry, needsBlock, writeBlock, writtenEntry, writeTests}
+use Rattle.writing.specs.Write.{alloc, likeEntry, hasGroup, writeSlot, baseEntry, needsBlock, writeBlock, writeTests}
 use Rattle.writing.specs.WritePlan.{entryAfter, volumeAfter, heldAfter}
 use Rattle.writing.proofs.AllocLaws.{alloc-given}
 use Rattle.writing.proofs.GrowLaws.{written-block, written-other}
 use Rattle.writing.proofs.WriteLaws.{is-inside, length-base, write-passed}
 use Rattle.writing.proofs.AfterLaws.{after-file, after-group, after-size, after-slot, after-slot-other, after-record-other}
-use Rattle.demands.proofs.Sound.{Live, InOrder, Sound, Laid, Fresh, HeldBy, Held, InMap, HeldAnew, sound-laid, held-laid}
+use Rattle.demands.proofs.Sound.{Live, InOrder, Sound, Laid, Fresh, Held, InMap, HeldAnew, sound-laid, held-laid}
 use Rattle.demands.proofs.Frame.{Touch, unchanged, foreign, Apart}
 use Rattle.demands.proofs.Files.{IsOf, is-of, of-file, other-file, user-live, file-live, file-block, empty-foreign}
 use Rattle.demands.proofs.NewEntry.{like-block, like-in-order}

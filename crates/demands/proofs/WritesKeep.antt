@@ -1,24 +1,21 @@
 -- The three writes keep state and volume consistent and leave every file but the one that they name.
 use mathlib.Core.Path.{_≡_, refl, sym, ap, _∙_}
 use mathlib.Core.Bool.{Bool, true, false, not, cond, _&&_}
-use mathlib.Core.List.{List, [], _∷_, _++_}
-use Prim.Native.Nat.{ℕ, _+_, _*_, _%_, _≤_, _<_}
+use mathlib.Core.List.{List, [], _++_}
+use Prim.Native.Nat.{ℕ, _+_, _%_, _<_}
 use native.Mathlib.Omega.{arith}
 use lib.Dec.{eqb}
 use lib.ListN.{length, replicate}
-use Rattle.lists.specs.Bytes.{byte}
 use Rattle.volume.specs.Name.{nameOf, same}
-use Rattle.volume.specs.Directory.{slotAt}
 use Rattle.blocks.specs.Held.{hold}
 use Rattle.control.specs.Block.{position, random}
 use Rattle.answers.specs.declared.Refusal.the-variants.{Protected}
 use Rattle.answers.specs.Refusal.{isNone, firstMet}
 use Rattle.answers.proofs.Ladder.{unmet}
 use Rattle.writing.specs.Write.{needsBlock, writeBlock, writeTests}
-use Rattle.writing.specs.WritePlan.{volumeAfter, heldAfter}
+use Rattle.writing.specs.WritePlan.{volumeAfter}
 use Rattle.filecalls.specs.declared.Drive.{Drive}
 use Rattle.filecalls.specs.Ready.{Open}
-use Rattle.filecalls.specs.Lent.{sequentialLent, randomLent}
 use Rattle.filecalls.specs.Outcome.{keeps, takes, stored, storedAll, changedState, withHeld}
 use Rattle.filecalls.specs.Read.{sequentialTests, randomTests}
 use Rattle.filecalls.specs.Write.{writeEntry, writeChange, writeDone, directoryTests, writeSequentialAct, writeRandomAct, emptyTests, emptyRecordAct}
@@ -26,7 +23,7 @@ use Rattle.filecalls.proofs.LentLaws.{sequential-lent, random-lent, sequential-
 use Rattle.filecalls.proofs.StateLaws.{both-clear}
 use Rattle.filecalls.proofs.WriteLaws.{empty-lent}
 use Rattle.demands.specs.Demand3.{Bytes}
-use Rattle.demands.proofs.Acts.{Consistent, Done, Keeps, does, keeps-unless, leaves-apart}
+use Rattle.demands.proofs.Acts.{Consistent, Keeps, does, keeps-unless, leaves-apart}
 use Rattle.demands.proofs.WriteKeeps.{write-size, write-sound, write-held, write-apart}
 
 -- the state where block x is taken if t

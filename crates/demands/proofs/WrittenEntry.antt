@@ -1,9 +1,7 @@
 -- The entry that a write leaves keeps what inspection asks of its fields, its name and its top bits.
-use mathlib.Core.Path.{_≡_, refl, sym, ap, _∙_}
-use mathlib.Core.Logic.{_≢_}
-use mathlib.Core.Bool.{true, false}
-use mathlib.Core.List.{List}
-use Prim.Native.Nat.{ℕ, _+_, _/_, _%_, _≤_, _<_, max}
+use mathlib.Core.Path.{_≡_, ap, _∙_}
+use mathlib.Core.Bool.{true}
+use Prim.Native.Nat.{ℕ, _+_, _/_, _%_, _<_, max}
 use native.Mathlib.Omega.{arith}
 use native.Mathlib.Decide.{decLt}
 use lib.ListN.{length, set, length-set}
@@ -11,7 +9,7 @@ use lib.Seq.{getD-set-same, getD-set-other}
 use Rattle.lists.specs.Bytes.{byte}
 use Rattle.volume.specs.declared.Geometry.{Geometry}
 use Rattle.volume.specs.Geometry.{placeOf}
-use Rattle.volume.specs.Name.{nameOf, goodName}
+use Rattle.volume.specs.Name.{nameOf}
 use Rattle.volume.specs.Entry.{Entry, extent, withBlock}
 use Rattle.inspection.specs.GoodSlot.{goodTopBits}
 use Rattle.inspection.proofs.GoodLaws.{Fields, top-bits-good, good-top-bits}

@@ -1,11 +1,13 @@
--- Demand 3: "for any geometry within the rules, any volume of its length that passes inspection, any list of calls that
--- begins with log-in, refused ones among them, with any lent lengths and bytes: answers (with control blocks and buffers)
--- and volume equal those of the plain way; the volume passes inspection at the end; each file, that is user and name,
--- that no successful call named or matched has the same records present with the same bytes."
+-- Demand 3. For any geometry within the rules, any volume of its length that passes inspection, and any list of calls of
+-- all kinds that begins with log-in, refused ones and numbers that are not served among them, with any lent lengths:
+-- answers, control blocks, buffers and volume equal those of the plain way, which works out the held blocks from the
+-- directory before every call; the volume passes inspection at the end; each file, that is user and name, that no
+-- successful call named or matched has the same records present with the same bytes.
 --
 -- Of what is lent only this is asked: the bytes of control blocks are below 256. The list may be any, so each of its
 -- beginnings has all this too: the volume passes inspection after every call. Calls that only read name a file and are not
--- counted as touching it, which makes the last sentence say more than was asked.
+-- counted as touching it, which makes the last sentence say more than was asked. The states at the start may be any, the
+-- plain way's another than the kept way's: log-in looks at neither.
 use mathlib.Core.Path.{_≡_}
 use mathlib.Core.Bool.{Bool, true, false, _&&_, _||_}
 use mathlib.Core.Logic.{_≢_}
@@ -80,13 +82,14 @@ pub record Kept (g : Geometry) (v : List ℕ) (cs : List Asked) (d e : Drive) : 
   pub others-bytes : (u : ℕ) (name : List ℕ) → u ≤ 15 → touched g cs d v u name ≡ false
       → (n : ℕ) → present g v u name n ≡ true → readBytes g (final (step g) cs d v) u name n ≡ readBytes g v u name n
 
+-- the demand
 abbrev pub Demand3 : Type 0
 Demand3 =
     (g : Geometry) → lawful g ≡ true → (v : List ℕ) → length v ≡ bytes g → lowestBad g v ≡ slots g
     → (login : Asked) → callOf (login .function) ≡ LogIn → (cs : List Asked) → BytesLent cs
     → (d e : Drive) → Kept g v (login ∷ cs) d e
 
--- "No block belongs to two entries at any moment."
+-- And so no block belongs to two entries at any moment: it stands in one place of one entry
 pub record OneOwner (g : Geometry) (v : List ℕ) : Type 0 where
   pub one-place : (i j p q : ℕ) → i < slots g → j < slots g → isEmpty (slotAt g v i) ≡ false → isEmpty (slotAt g v j) ≡ false
       → p < places g → q < places g → blockIn g (slotAt g v i) p ≢ 0 → blockIn g (slotAt g v i) p ≡ blockIn g (slotAt g v j) q → (i ≡ j) × (p ≡ q)
