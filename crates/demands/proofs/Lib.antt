@@ -25,3 +25,4 @@ pub mod AttributesKeep
 pub mod CallsKeep
 pub mod Agree
 pub mod Demand3Holds
+pub mod TieHolds
