@@ -2,3 +2,4 @@
 pub mod Order
 pub mod Demand1
 pub mod Demand2
+pub mod WrongWays
