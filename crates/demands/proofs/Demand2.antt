@@ -1,17 +1,17 @@
 -- Demand 2 holds but for what is written: a definition has one value, the last test of a write asks for a free block, and
 -- log-in's words are those of the blocks that entries name.
 use mathlib.Core.Path.{_≡_, refl, sym, ap, _∙_}
-use mathlib.Core.Bool.{Bool, true, false, not, cond, _&&_, true≢false, false≢true}
+use mathlib.Core.Bool.{Bool, true, false, not, _&&_, false≢true}
 use mathlib.Core.Logic.{_≢_}
 use mathlib.Core.List.{List, [], _∷_, _++_}
-use Prim.Native.Nat.{ℕ, _-_, _/_, _%_, _^_, _≤_, _<_}
+use Prim.Native.Nat.{ℕ, _-_, _/_, _%_, _≤_, _<_}
 use native.Mathlib.Decide.{decLt}
 use native.Mathlib.Nat.{div-eq-of-lt}
 use native.Mathlib.Omega.{arith}
 use lib.Dec.{leb, ltb, eqb}
-use lib.ListN.{length, getD, List·getD-eq-default}
+use lib.ListN.{length, List·getD-eq-default}
 use lib.Pow.{pow-pos}
-use borrow.Author.Tests.{not-true, not-false, eqb-true, eq-eqb, leb-true, leb-false, le-leb, le-ltb, ltb-true, ltb-false, lt-ltb}
+use borrow.Author.Tests.{not-false, eqb-true, eq-eqb, leb-true, le-leb, le-ltb, ltb-true, ltb-false, lt-ltb}
 use Rattle.lists.specs.Search.{countFrom}
 use Rattle.lists.proofs.BoolLaws.{and-parts}
 use Rattle.lists.proofs.SearchLaws.{count-ext}
@@ -19,12 +19,10 @@ use Rattle.volume.specs.declared.Geometry.{Geometry}
 use Rattle.volume.specs.Geometry.{lawful, bytes, slots, inside, placeOf}
 use Rattle.volume.specs.Name.{nameOf}
 use Rattle.volume.proofs.GeometryLaws.{bounds}
-use Rattle.control.specs.Block.{position, random}
 use Rattle.blocks.specs.Held.{digit, holds, isFree, freeCount}
 use Rattle.blocks.proofs.WordsLaws.{length-words}
-use Rattle.answers.specs.declared.Refusal.{Refusal}
 use Rattle.answers.specs.declared.Refusal.the-variants.{Closed, VolumeLength, BadSlot, NoBlock}
-use Rattle.answers.specs.Refusal.{Test, test, refusalNumber, isNone, firstMet}
+use Rattle.answers.specs.Refusal.{test, refusalNumber, isNone, firstMet}
 use Rattle.answers.specs.Answer.{numberOf, valueOf, succeeded}
 use Rattle.answers.proofs.Ladder.{unmet, ladder-pass}
 use Rattle.inspection.specs.GoodSlot.{namedBelow, goodSlot, lowestBad}
@@ -43,7 +41,7 @@ use Rattle.filecalls.specs.Read.{sequentialTests, randomTests}
 use Rattle.filecalls.specs.Write.{emptyTests}
 use Rattle.filecalls.proofs.StateLaws.{is-open}
 use Rattle.bdos.specs.declared.Call.{Call}
-use Rattle.bdos.specs.declared.Call.the-variants.{LogIn, WriteSequential, WriteRandom, EmptyRecord}
+use Rattle.bdos.specs.declared.Call.the-variants.{LogIn}
 use Rattle.bdos.specs.Step.{Asked, does, step}
 use Rattle.demands.specs.Order.{testsOf, codesOf}
 use Rattle.demands.specs.Demand1.{call, tests, answer}

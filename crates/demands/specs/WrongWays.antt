@@ -6,8 +6,8 @@ use mathlib.Core.Bool.{Bool, true, false, not, cond, _&&_, _||_}
 use mathlib.Core.List.{List, [], _∷_, _++_}
 use Prim.Native.Nat.{ℕ, _+_}
 use lib.Dec.{eqb}
-use lib.ListN.{length, replicate, set}
-use Rattle.lists.specs.Search.{lowFrom, anyFrom, everyFrom, countFrom, fold, lowest, every}
+use lib.ListN.{replicate, set}
+use Rattle.lists.specs.Search.{lowFrom, anyFrom, everyFrom, countFrom, fold, every}
 use Rattle.lists.specs.Bytes.{byte, part, put, all}
 use Rattle.volume.specs.declared.Geometry.{Geometry}
 use Rattle.volume.specs.Geometry.{lawful, start, slots, slotStart, recordStart, groupOf, placeOf, inside}
