@@ -22,7 +22,7 @@ use Rattle.volume.proofs.GeometryLaws.{bounds}
 use Rattle.blocks.specs.Held.{digit, holds, isFree, freeCount}
 use Rattle.blocks.proofs.WordsLaws.{length-words}
 use Rattle.answers.specs.declared.Refusal.the-variants.{Closed, VolumeLength, BadSlot, NoBlock}
-use Rattle.answers.specs.Refusal.{test, refusalNumber, isNone, firstMet}
+use Rattle.answers.specs.Refusal.{Test, test, refusalNumber, isNone, firstMet}
 use Rattle.answers.specs.Answer.{numberOf, valueOf, succeeded}
 use Rattle.answers.proofs.Ladder.{unmet, ladder-pass}
 use Rattle.inspection.specs.GoodSlot.{namedBelow, goodSlot, lowestBad}
@@ -45,10 +45,11 @@ use Rattle.bdos.specs.declared.Call.the-variants.{LogIn}
 use Rattle.bdos.specs.Step.{Asked, does, step}
 use Rattle.demands.specs.Order.{testsOf, codesOf}
 use Rattle.demands.specs.Demand1.{call, tests, answer}
-use Rattle.demands.specs.Demand2.{Writes, sequential, direct, empty, earlier, NoneFree, Sound, Present, Same, Demand2}
+use Rattle.demands.specs.Demand2.{Writes, sequential, direct, empty, Reads, earlier, NoneFree, Sound, Present, Same, Demand2}
 use Rattle.demands.proofs.Demand1.{log-in-says, step-says, was-none}
 use Rattle.demands.proofs.Demand2Apart.{Apart, inspected}
 use Rattle.demands.proofs.Demand2Writes.{stores, others}
+use Rattle.demands.proofs.Demand2Reads.{shows, reads-present}
 use Rattle.demands.proofs.Demand2Sequence.{sequence}
 
 -- ---- one outcome: the general lemma, for any outcome at all
@@ -264,6 +265,15 @@ module _ (g : Geometry) (c : Asked) (d : Drive) (v : List ℕ) (n : ℕ) (r : Li
       let k = others g (c .parameter) d v (c .block) (c .buffer) w (was-none (step-says g c d v) h) (apart d v sound) m ne (p .is-present) in
       record { is-present = k .still-present; has-bytes = k .same-bytes ∙ p .has-bytes }
 
+-- ---- the reads
+module _ (g : Geometry) (c : Asked) (d : Drive) (v : List ℕ) (n : ℕ) (ts : List Test) (w : Reads d v (c .block) (c .buffer) (call c) n ts) where
+  read-shows : succeeded (answer g c d v) ≡ true → Present d (c .block) v n (step g c d v .buffer)
+  unfolding step
+  read-shows h = shows g (c .parameter) d v (c .block) (c .buffer) w (was-none (step-says g c d v) h)
+
+  present-read : isNone (firstMet ts) ≡ true → Sound d v → (r : List ℕ) → Present d (c .block) v n r → succeeded (answer g c d v) ≡ true
+  present-read e s r h = step-says g c d v .none (reads-present g (c .parameter) d v (c .block) (c .buffer) w e (apart d v s) (h .is-present)) .0
+
 -- ---- all together
 pub demand2 : Demand2
 demand2 = record {
@@ -272,6 +282,8 @@ demand2 = record {
   none-free-refused = none-two;
   write-stores = write-stores;
   write-keeps-others = write-keeps;
+  read-shows = read-shows;
+  present-is-read = present-read;
   sequential-writes = λ g p rs d v f s. sequence g p rs d v f (apart d v s);
   accepts-good = log-in-accepts;
   accepted-is-good = log-in-good;

@@ -5,4 +5,5 @@ pub mod Demand2Apart
 pub mod Demand2Others
 pub mod Demand2Writes
 pub mod Demand2Sequence
+pub mod Demand2Reads
 pub mod Demand2
