@@ -1,6 +1,6 @@
 -- Demand 1 holds: a refusal is the first clause of `outcome`, every call's act stands under `unless` and its own tests,
 -- and what the tests refuse for does not depend on what is given.
-use mathlib.Core.Path.{_≡_, refl, sym, ap, _∙_}
+use mathlib.Core.Path.{_≡_, refl, sym, _∙_}
 use mathlib.Core.Bool.{Bool, true, false, cond, _||_, or-true, true≢false, false≢true}
 use mathlib.Core.Logic.{_≢_}
 use mathlib.Core.List.{List, [], _∷_}

@@ -1,17 +1,17 @@
 -- Demand 2 holds but for what is written: a definition has one value, the last test of a write asks for a free block, and
 -- log-in's words are those of the blocks that entries name.
 use mathlib.Core.Path.{_≡_, refl, sym, ap, _∙_}
-use mathlib.Core.Bool.{Bool, true, false, not, cond, _&&_, true≢false, false≢true}
+use mathlib.Core.Bool.{Bool, true, false, not, _&&_, false≢true}
 use mathlib.Core.Logic.{_≢_}
 use mathlib.Core.List.{List, [], _∷_, _++_}
-use Prim.Native.Nat.{ℕ, _-_, _/_, _%_, _^_, _≤_, _<_}
+use Prim.Native.Nat.{ℕ, _-_, _/_, _%_, _≤_, _<_}
 use native.Mathlib.Decide.{decLt}
 use native.Mathlib.Nat.{div-eq-of-lt}
 use native.Mathlib.Omega.{arith}
 use lib.Dec.{leb, ltb, eqb}
-use lib.ListN.{length, getD, List·getD-eq-default}
+use lib.ListN.{length, List·getD-eq-default}
 use lib.Pow.{pow-pos}
-use borrow.Author.Tests.{not-true, not-false, eqb-true, eq-eqb, leb-true, leb-false, le-leb, le-ltb, ltb-true, ltb-false, lt-ltb}
+use borrow.Author.Tests.{not-false, eqb-true, eq-eqb, leb-true, le-leb, le-ltb, ltb-true, ltb-false, lt-ltb}
 use Rattle.lists.specs.Search.{countFrom}
 use Rattle.lists.proofs.BoolLaws.{and-parts}
 use Rattle.lists.proofs.SearchLaws.{count-ext}
@@ -19,10 +19,8 @@ use Rattle.volume.specs.declared.Geometry.{Geometry}
 use Rattle.volume.specs.Geometry.{lawful, bytes, slots, inside, placeOf}
 use Rattle.volume.specs.Name.{nameOf}
 use Rattle.volume.proofs.GeometryLaws.{bounds}
-use Rattle.control.specs.Block.{position, random}
 use Rattle.blocks.specs.Held.{digit, holds, isFree, freeCount}
 use Rattle.blocks.proofs.WordsLaws.{length-words}
-use Rattle.answers.specs.declared.Refusal.{Refusal}
 use Rattle.answers.specs.declared.Refusal.the-variants.{Closed, VolumeLength, BadSlot, NoBlock}
 use Rattle.answers.specs.Refusal.{Test, test, refusalNumber, isNone, firstMet}
 use Rattle.answers.specs.Answer.{numberOf, valueOf, succeeded}
@@ -43,14 +41,15 @@ use Rattle.filecalls.specs.Read.{sequentialTests, randomTests}
 use Rattle.filecalls.specs.Write.{emptyTests}
 use Rattle.filecalls.proofs.StateLaws.{is-open}
 use Rattle.bdos.specs.declared.Call.{Call}
-use Rattle.bdos.specs.declared.Call.the-variants.{LogIn, WriteSequential, WriteRandom, EmptyRecord}
+use Rattle.bdos.specs.declared.Call.the-variants.{LogIn}
 use Rattle.bdos.specs.Step.{Asked, does, step}
 use Rattle.demands.specs.Order.{testsOf, codesOf}
 use Rattle.demands.specs.Demand1.{call, tests, answer}
-use Rattle.demands.specs.Demand2.{Writes, sequential, direct, empty, earlier, NoneFree, Sound, Present, Same, Demand2}
+use Rattle.demands.specs.Demand2.{Writes, sequential, direct, empty, Reads, earlier, NoneFree, Sound, Present, Same, Demand2}
 use Rattle.demands.proofs.Demand1.{log-in-says, step-says, was-none}
 use Rattle.demands.proofs.Demand2Apart.{Apart, inspected}
 use Rattle.demands.proofs.Demand2Writes.{stores, others}
+use Rattle.demands.proofs.Demand2Reads.{shows, reads-present}
 use Rattle.demands.proofs.Demand2Sequence.{sequence}
 
 -- ---- one outcome: the general lemma, for any outcome at all
@@ -266,6 +265,15 @@ module _ (g : Geometry) (c : Asked) (d : Drive) (v : List ℕ) (n : ℕ) (r : Li
       let k = others g (c .parameter) d v (c .block) (c .buffer) w (was-none (step-says g c d v) h) (apart d v sound) m ne (p .is-present) in
       record { is-present = k .still-present; has-bytes = k .same-bytes ∙ p .has-bytes }
 
+-- ---- the reads
+module _ (g : Geometry) (c : Asked) (d : Drive) (v : List ℕ) (n : ℕ) (ts : List Test) (w : Reads d v (c .block) (c .buffer) (call c) n ts) where
+  read-shows : succeeded (answer g c d v) ≡ true → Present d (c .block) v n (step g c d v .buffer)
+  unfolding step
+  read-shows h = shows g (c .parameter) d v (c .block) (c .buffer) w (was-none (step-says g c d v) h)
+
+  present-read : isNone (firstMet ts) ≡ true → Sound d v → (r : List ℕ) → Present d (c .block) v n r → succeeded (answer g c d v) ≡ true
+  present-read e s r h = step-says g c d v .none (reads-present g (c .parameter) d v (c .block) (c .buffer) w e (apart d v s) (h .is-present)) .0
+
 -- ---- all together
 pub demand2 : Demand2
 demand2 = record {
@@ -274,6 +282,8 @@ demand2 = record {
   none-free-refused = none-two;
   write-stores = write-stores;
   write-keeps-others = write-keeps;
+  read-shows = read-shows;
+  present-is-read = present-read;
   sequential-writes = λ g p rs d v f s. sequence g p rs d v f (apart d v s);
   accepts-good = log-in-accepts;
   accepted-is-good = log-in-good;

@@ -1,7 +1,7 @@
 -- Blocks stand apart: in the directory each block stands in one place, within D to T-1, and the state holds it. An
 -- inspected directory is so, a write finds its block apart from all others, and it leaves the directory so.
 use mathlib.Core.Path.{_≡_, refl, sym, ap, _∙_}
-use mathlib.Core.Bool.{Bool, true, false, cond, true≢false, false≢true}
+use mathlib.Core.Bool.{Bool, true, false, cond, true≢false}
 use mathlib.Core.Logic.{_⊎_, inl, inr, ⊎-elim, _≢_}
 use mathlib.Core.List.{List}
 use Prim.Native.Nat.{ℕ, _/_, _≤_, _<_}
@@ -9,11 +9,11 @@ use native.Mathlib.Decide.{ℕ-discrete}
 use native.Mathlib.Omega.{arith}
 use lib.Dec.{eqb}
 use lib.ListN.{length}
-use borrow.Author.Tests.{ltb-true, eqb-true, eqb-false, eq-eqb}
+use borrow.Author.Tests.{ltb-true, eq-eqb}
 use Rattle.lists.proofs.BoolLaws.{and-left}
 use Rattle.volume.specs.declared.Geometry.{Geometry}
-use Rattle.volume.specs.declared.Wanted.the-variants.{Empty, File, Group}
-use Rattle.volume.specs.Geometry.{lawful, bytes, slots, inside, groupOf, placeOf}
+use Rattle.volume.specs.declared.Wanted.the-variants.{File, Group}
+use Rattle.volume.specs.Geometry.{lawful, bytes, slots, groupOf, placeOf}
 use Rattle.volume.specs.Entry.{Entry, isEmpty, extent, places, blockIn, ofFile, ofGroup}
 use Rattle.volume.specs.Directory.{slotAt, findSlot}
 use Rattle.volume.specs.Record.{recordSlot, recordBlock}
@@ -27,7 +27,7 @@ use Rattle.inspection.specs.GoodSlot.{lowestBad}
 use Rattle.inspection.specs.Named.{named}
 use Rattle.inspection.proofs.AcceptedLaws.{good-entry, place-named, one-place}
 use Rattle.writing.specs.Write.{alloc, likeEntry, hasGroup, writeSlot, baseEntry, needsBlock, writeBlock, writeTests}
-use Rattle.writing.specs.WritePlan.{entryAfter, volumeAfter, heldAfter}
+use Rattle.writing.specs.WritePlan.{volumeAfter, heldAfter}
 use Rattle.writing.proofs.AllocLaws.{alloc-given}
 use Rattle.writing.proofs.AfterLaws.{after-block, after-slot, after-slot-other}
 use Rattle.writing.proofs.GrowLaws.{written-other}

@@ -1,7 +1,7 @@
 -- Facts of single entries and records that the laws of a write's neighbours use.
-use mathlib.Core.Path.{_≡_, refl, sym, ap, _∙_}
+use mathlib.Core.Path.{_≡_, sym, ap, _∙_}
 use mathlib.Core.Bool.{Bool, true, false, cond}
-use mathlib.Core.Logic.{_⊎_, inl, inr, _≢_}
+use mathlib.Core.Logic.{_⊎_, inl, inr}
 use mathlib.Core.List.{List, _++_}
 use Prim.Native.Nat.{ℕ, _+_, _*_, _/_, _%_, _≤_, _<_, min, max}
 use native.Mathlib.Decide.{ℕ-discrete, decLt}
@@ -14,13 +14,13 @@ use Rattle.lists.specs.Bytes.{byte, part}
 use Rattle.lists.proofs.BoolLaws.{and-left}
 use Rattle.lists.proofs.PartLaws.{length-part}
 use Rattle.volume.specs.declared.Geometry.{Geometry}
-use Rattle.volume.specs.Geometry.{lawful, records, extents, groupOf, placeOf}
+use Rattle.volume.specs.Geometry.{lawful, records, groupOf, placeOf}
 use Rattle.volume.specs.Name.{nameOf, same}
 use Rattle.volume.specs.Entry.{Entry, isEmpty, extent, places, blockIn, countOf, ofFile}
-use Rattle.volume.proofs.EntryLaws.{count-below, count-above, count-own}
+use Rattle.volume.proofs.EntryLaws.{count-above, count-own}
 use Rattle.volume.proofs.GeometryLaws.{bounds}
 use Rattle.writing.specs.Write.{likeEntry, grown}
-use Rattle.writing.proofs.GrowLaws.{grown-extent, grown-own, grown-earlier, grown-full, grown-other}
+use Rattle.writing.proofs.GrowLaws.{grown-own, grown-earlier, grown-full, grown-other}
 
 -- an entry of a user 0..15 is not an empty slot
 pub file-used : (u : ℕ) (name : List ℕ) (e : Entry) → u ≤ 15 → ofFile u name e ≡ true → isEmpty e ≡ false

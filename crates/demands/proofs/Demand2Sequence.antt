@@ -1,7 +1,7 @@
 -- Sequential writes one after another: each leaves the next position of the same file, what is written below the position
 -- stays, and so all records stand at the end.
-use mathlib.Core.Path.{_≡_, refl, sym, ap, _∙_}
-use mathlib.Core.Bool.{true, _&&_}
+use mathlib.Core.Path.{_≡_, refl, ap, _∙_}
+use mathlib.Core.Bool.{true}
 use mathlib.Core.Logic.{_≢_}
 use mathlib.Core.List.{List, [], _∷_}
 use Prim.Native.Nat.{ℕ, zero, suc, _+_, _%_, _<_}
@@ -14,7 +14,6 @@ use Rattle.volume.specs.Record.{present}
 use Rattle.control.specs.Block.{position, setTo}
 use Rattle.answers.specs.Refusal.{isNone, firstMet}
 use Rattle.answers.specs.Answer.{succeeded}
-use Rattle.reading.specs.Read.{readBytes}
 use Rattle.writing.specs.WritePlan.{entryAfter}
 use Rattle.writing.proofs.WriteLaws.{length-entryAfter}
 use Rattle.filecalls.specs.declared.Drive.{Drive}

@@ -1,54 +1,45 @@
 -- What a successful write leaves, by its call: the volume, the held blocks and the control block after the write of its
 -- record; and what follows for one write and for many.
 use mathlib.Core.Path.{_≡_, refl, sym, ap, _∙_}
-use mathlib.Core.Bool.{Bool, true, false, cond, _&&_}
+use mathlib.Core.Bool.{Bool, true, false, cond}
 use mathlib.Core.Logic.{_⊎_, inl, inr, _≢_}
-use mathlib.Core.List.{List, [], _∷_, _++_}
-use Prim.Native.Nat.{ℕ, zero, suc, _+_, _*_, _/_, _%_, _≤_, _<_}
+use mathlib.Core.List.{List, [], _++_}
+use Prim.Native.Nat.{ℕ, _+_, _/_, _%_, _≤_}
 use native.Mathlib.Omega.{arith}
-use lib.Dec.{eqb}
-use lib.ListN.{length, getD, set, replicate, length-set, length-replicate}
+use lib.ListN.{length, set, replicate, length-set, length-replicate}
 use lib.Seq.{getD-set-same, getD-set-other}
-use borrow.Author.Tests.{not-false, eqb-true}
 use Rattle.lists.specs.Bytes.{byte, part, put}
-use Rattle.lists.proofs.BoolLaws.{and-parts}
 use Rattle.lists.proofs.PartLaws.{length-part, byte-part, part-apart, part-part}
 use Rattle.volume.specs.declared.Geometry.{Geometry}
-use Rattle.volume.specs.Geometry.{lawful, bytes, slots}
+use Rattle.volume.specs.Geometry.{bytes}
 use Rattle.volume.specs.Name.{strip, nameAt, nameOf}
-use Rattle.volume.specs.Entry.{Entry, extent, countOf}
+use Rattle.volume.specs.Entry.{Entry, countOf}
 use Rattle.volume.specs.Record.{present}
 use Rattle.control.specs.Block.{position, random, setTo}
 use Rattle.blocks.specs.Held.{hold}
-use Rattle.answers.specs.declared.Refusal.the-variants.{Closed, VolumeLength, BlockLength, Protected}
+use Rattle.answers.specs.declared.Refusal.the-variants.{Protected}
 use Rattle.answers.specs.Refusal.{Test, isNone, firstMet}
-use Rattle.answers.specs.Answer.{succeeded}
 use Rattle.answers.proofs.Ladder.{unmet}
-use Rattle.reading.specs.Read.{readBytes}
 use Rattle.writing.specs.Write.{needsBlock, writeBlock, writeTests}
 use Rattle.writing.specs.WritePlan.{entryAfter, volumeAfter, heldAfter}
 use Rattle.writing.proofs.AfterLaws.{after-present}
 use Rattle.writing.proofs.HeadLaws.{head, head-set}
-use Rattle.writing.proofs.WriteLaws.{length-entryAfter}
 use Rattle.filecalls.specs.declared.Drive.{Drive}
-use Rattle.filecalls.specs.Outcome.{Change, keeps, takes, Act, unless, Outcome, outcome, withHeld, changedState, stored, storedAll}
+use Rattle.filecalls.specs.Outcome.{keeps, takes, unless, Outcome, outcome, withHeld, changedState, stored, storedAll}
 use Rattle.filecalls.specs.Ready.{Open, Lent}
-use Rattle.filecalls.specs.State.{isOpen}
-use Rattle.filecalls.specs.Tests.{protectedDrive}
 use Rattle.filecalls.specs.Lent.{namedTests, sequentialLent, randomLent}
 use Rattle.filecalls.specs.Read.{sequentialTests, randomTests}
 use Rattle.filecalls.specs.Write.{writeEntry, writeChange, writeDone, directoryTests, emptyTests, writeSequentialAct, writeRandomAct, emptyRecordAct}
 use Rattle.filecalls.proofs.LentLaws.{sequential-lent, random-lent}
 use Rattle.filecalls.proofs.OutcomeLaws as laws
-use Rattle.filecalls.proofs.StateLaws.{is-open, both-clear, named-clear}
+use Rattle.filecalls.proofs.StateLaws.{both-clear, named-clear}
 use Rattle.filecalls.proofs.WriteLaws.{empty-lent}
 use Rattle.bdos.specs.declared.Call.{Call}
 use Rattle.bdos.specs.declared.Call.the-variants.{WriteSequential, WriteRandom, EmptyRecord}
-use Rattle.bdos.specs.Step.{Asked, asked, callOf, does, step}
+use Rattle.bdos.specs.Step.{does}
 use Rattle.demands.specs.Order.{testsOf}
-use Rattle.demands.specs.Demand1.{call, answer}
-use Rattle.demands.specs.Demand2.{Writes, sequential, direct, empty, Present, allWritten, volumeAtEnd}
-use Rattle.demands.proofs.Demand1.{call-says, was-none}
+use Rattle.demands.specs.Demand1.{answer}
+use Rattle.demands.specs.Demand2.{Writes, sequential, direct, empty, Present}
 use Rattle.demands.proofs.Demand2Apart.{Apart, apart-after}
 use Rattle.demands.proofs.Demand2Others.{is-present, Stays, bytes-after, others-stay}
 

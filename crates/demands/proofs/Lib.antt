@@ -5,6 +5,7 @@ pub mod Demand2Apart
 pub mod Demand2Others
 pub mod Demand2Writes
 pub mod Demand2Sequence
+pub mod Demand2Reads
 pub mod Demand2
 pub mod Sound
 pub mod Inspected

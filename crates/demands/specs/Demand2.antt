@@ -5,7 +5,7 @@
 -- blocks are exactly those named by entries."
 -- Each sentence is a field of `Demand2`; that it holds is `demand2` in the proofs.
 use mathlib.Core.Path.{_≡_}
-use mathlib.Core.Bool.{Bool, true, false, not, _&&_}
+use mathlib.Core.Bool.{Bool, true, not, _&&_}
 use mathlib.Core.Logic.{_≢_}
 use mathlib.Core.List.{List, [], _∷_}
 use Prim.Native.Nat.{ℕ, _+_, _-_, _≤_, _<_}
@@ -26,8 +26,9 @@ use Rattle.writing.specs.Write.{needsBlock}
 use Rattle.filecalls.specs.declared.Drive.{Drive}
 use Rattle.filecalls.specs.declared.Reply.{Reply}
 use Rattle.filecalls.specs.Outcome.{left}
+use Rattle.filecalls.specs.Read.{sequentialTests, randomTests}
 use Rattle.bdos.specs.declared.Call.{Call}
-use Rattle.bdos.specs.declared.Call.the-variants.{LogIn, WriteSequential, WriteRandom, EmptyRecord}
+use Rattle.bdos.specs.declared.Call.the-variants.{LogIn, ReadSequential, WriteSequential, ReadRandom, WriteRandom, EmptyRecord}
 use Rattle.bdos.specs.Step.{Asked, asked, step}
 use Rattle.demands.specs.Demand1.{call, tests, answer}
 
@@ -37,6 +38,11 @@ pub data Writes (f b : List ℕ) : Call → ℕ → List ℕ → Type 0 where
   sequential : Writes f b WriteSequential (position f) b
   direct : Writes f b WriteRandom (random f) b
   empty : Writes f b EmptyRecord (random f) (replicate 128 0)
+
+-- one of the reads: the record that it means, and its tests of what is lent
+pub data Reads (d : Drive) (v f b : List ℕ) : Call → ℕ → List Test → Type 0 where
+  in-sequence : Reads d v f b ReadSequential (position f) (sequentialTests d v f b)
+  at-random : Reads d v f b ReadRandom (random f) (randomTests d v f b)
 
 -- all tests but the last
 abbrev pub earlier : List Test → List Test
@@ -103,6 +109,12 @@ pub record Demand2 : Type 0 where
   pub write-keeps-others : (g : Geometry) (c : Asked) (d : Drive) (v : List ℕ) (n : ℕ) (r : List ℕ) → Writes (c .block) (c .buffer) (call c) n r
       → succeeded (answer g c d v) ≡ true → Sound d v
       → (m : ℕ) → m ≢ n → (s : List ℕ) → Present d (c .block) v m s → Present d (c .block) (step g c d v .volume) m s
+  -- a read that succeeds shows the record's bytes; and one that is lent what it should be succeeds wherever the record is
+  -- present
+  pub read-shows : (g : Geometry) (c : Asked) (d : Drive) (v : List ℕ) (n : ℕ) (ts : List Test) → Reads d v (c .block) (c .buffer) (call c) n ts
+      → succeeded (answer g c d v) ≡ true → Present d (c .block) v n (step g c d v .buffer)
+  pub present-is-read : (g : Geometry) (c : Asked) (d : Drive) (v : List ℕ) (n : ℕ) (ts : List Test) → Reads d v (c .block) (c .buffer) (call c) n ts
+      → isNone (firstMet ts) ≡ true → Sound d v → (r : List ℕ) → Present d (c .block) v n r → succeeded (answer g c d v) ≡ true
   -- "k sequential writes that all succeed leave k records with their own bytes"
   pub sequential-writes : (g : Geometry) (p : ℕ) (rs : List (List ℕ)) (d : Drive) (v f : List ℕ) → Sound d v → allWritten g p rs d v f ≡ true
       → (j : ℕ) → j < length rs → Present d f (volumeAtEnd g p rs d v f) (position f + j) (getD rs j [])

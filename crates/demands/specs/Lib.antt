@@ -5,3 +5,4 @@ pub mod Demand2
 pub mod Run
 pub mod Demand3
 pub mod Tie
+pub mod WrongWays
