@@ -29,7 +29,7 @@ use Rattle.demands.proofs.Agree.{Alike, does-alike}
 use Rattle.demands.proofs.CallsKeep.{log-in-is, logged-in, does-keeps}
 
 -- ---- one call
-step-keeps : (g : Geometry) (c : Asked) (d : Drive) (v : List ℕ) → d .geometry ≡ g → Consistent d v → Bytes (c .block)
+pub step-keeps : (g : Geometry) (c : Asked) (d : Drive) (v : List ℕ) → d .geometry ≡ g → Consistent d v → Bytes (c .block)
     → StepKeeps (λ u name. touches c d u name) d v (step g c d v)
 unfolding step touches
 step-keeps g c d v same k small = does-keeps g (c .parameter) d v (c .block) (c .buffer) same k small (callOf (c .function))
@@ -78,7 +78,7 @@ runs g (c ∷ cs) d k v same s small =
 module _ (g : Geometry) (law : lawful g ≡ true) (v : List ℕ) (size : length v ≡ bytes g) (ok : lowestBad g v ≡ slots g)
     (login : Asked) (first : callOf (login .function) ≡ LogIn) where
   -- what it leaves, by either way and from any state
-  abbrev ready : Outcome
+  abbrev pub ready : Outcome
   ready = record {
     answer = Ready (freeCount (heldOf g v) (g .directory) (g .total));
     drive = loggedIn g (heldOf g v);
@@ -87,7 +87,7 @@ module _ (g : Geometry) (law : lawful g ≡ true) (v : List ℕ) (size : length 
     buffer = login .buffer;
   }
 
-  starts : (d : Drive) → step g login d v ≡ ready
+  pub starts : (d : Drive) → step g login d v ≡ ready
   unfolding step does
   starts d = rw (first, log-in-is g law v size (accepted-sound g v ok))
 

@@ -74,7 +74,7 @@ module _ (g : Geometry) (v : List ℕ) where
       go i i< true e = empty-good i e
       go i i< false e = is-good g v i (good i i< e (sound .order i i< e))
 
-  held-sound : (b : ℕ) → named g v b ≡ true → HeldBy g (slotAt g v) b
+  pub held-sound : (b : ℕ) → named g v b ≡ true → HeldBy g (slotAt g v) b
   unfolding named
   held-sound b e =
       let w = named-at g v (slots g) b (and-right (inside g b) (namedBelow g v (slots g) b) e) in

@@ -26,4 +26,5 @@ pub mod AttributesKeep
 pub mod CallsKeep
 pub mod Agree
 pub mod Demand3Holds
+pub mod AlwaysHolds
 pub mod TieHolds

@@ -4,5 +4,6 @@ pub mod Demand1
 pub mod Demand2
 pub mod Run
 pub mod Demand3
+pub mod Always
 pub mod Tie
 pub mod WrongWays

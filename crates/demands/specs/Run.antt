@@ -32,6 +32,11 @@ unfoldable pub final : Way → List Asked → Drive → List ℕ → List ℕ
 final way [] d v = v
 final way (c ∷ cs) d v = final way cs (way c d v .drive) (way c d v .volume)
 
+-- the state at its end
+unfoldable pub finalState : Way → List Asked → Drive → List ℕ → Drive
+finalState way [] d v = d
+finalState way (c ∷ cs) d v = finalState way cs (way c d v .drive) (way c d v .volume)
+
 -- the plain way
 unfoldable pub plainStep : Geometry → Way
 plainStep g c d v = step g c (withHeld d (heldOf (d .geometry) v)) v
