@@ -33,7 +33,7 @@ use Rattle.filecalls.specs.Write.{writeEntry, writeChange, writeDone, directory
 use Rattle.filecalls.proofs.LentLaws.{sequential-lent, random-lent}
 use Rattle.filecalls.proofs.OutcomeLaws as laws
 use Rattle.filecalls.proofs.StateLaws.{both-clear, named-clear}
-use Rattle.filecalls.proofs.WriteLaws.{empty-lent}
+use Rattle.filecalls.proofs.WriteLaws.{empty-lent, leaves}
 use Rattle.bdos.specs.declared.Call.{Call}
 use Rattle.bdos.specs.declared.Call.the-variants.{WriteSequential, WriteRandom, EmptyRecord}
 use Rattle.bdos.specs.Step.{does}
@@ -88,28 +88,10 @@ pub record Wrote (d : Drive) (v f : List ℕ) (n : ℕ) (r : List ℕ) (o : Outc
   pub held-is : o .drive .held ≡ heldAfter (d .geometry) (d .held) v (d .user) (nameOf f) n
   pub volume-is : o .volume ≡ volumeAfter (d .geometry) (d .held) v (d .user) (nameOf f) n r
 
--- the state where block x is taken if t
-module _ (d : Drive) (v : List ℕ) (x : ℕ) where
-  taken : (t : Bool) → changedState d v (cond t (takes x) keeps) ≡ withHeld d (cond t (hold (d .held) x) (d .held))
-  unfolding changedState
-  taken true = refl
-  taken false = refl
-
 module _ (d : Drive) (v f b : List ℕ) (n cr : ℕ) (r c : List ℕ) where
-  leaves : outcome d v f b (writeDone d v f n cr r c)
-      ≡ record {
-        answer = outcome d v f b (writeDone d v f n cr r c) .answer;
-        drive = withHeld d (heldAfter (d .geometry) (d .held) v (d .user) (nameOf f) n);
-        volume = volumeAfter (d .geometry) (d .held) v (d .user) (nameOf f) n r;
-        block = setTo f (entryAfter (d .geometry) (d .held) v (d .user) (nameOf f) n) n cr;
-        buffer = c;
-      }
-  unfolding outcome writeDone writeEntry writeChange stored storedAll
-  leaves = rw (taken d v (writeBlock (d .geometry) (d .held) v (d .user) (nameOf f) n) (needsBlock (d .geometry) v (d .user) (nameOf f) n))
-
   wrote : (ts : List Test) → isNone (firstMet ts) ≡ true → Wrote d v f n r (outcome d v f b (unless ts (writeDone d v f n cr r c)))
   wrote ts e =
-      let z = ap (outcome d v f b) (laws.does ts (writeDone d v f n cr r c) e) ∙ leaves in
+      let z = ap (outcome d v f b) (laws.does ts (writeDone d v f n cr r c) e) ∙ leaves d v f b n cr r c in
       record {
         geometry-is = ap (λ (o : Outcome). o .drive .geometry) z;
         user-is = ap (λ (o : Outcome). o .drive .user) z;
@@ -119,7 +101,7 @@ module _ (d : Drive) (v f b : List ℕ) (n cr : ℕ) (r c : List ℕ) where
 
   pub block-left : (ts : List Test) → isNone (firstMet ts) ≡ true
       → outcome d v f b (unless ts (writeDone d v f n cr r c)) .block ≡ setTo f (entryAfter (d .geometry) (d .held) v (d .user) (nameOf f) n) n cr
-  block-left ts e = ap (λ (o : Outcome). o .block) (ap (outcome d v f b) (laws.does ts (writeDone d v f n cr r c) e) ∙ leaves)
+  block-left ts e = ap (λ (o : Outcome). o .block) (ap (outcome d v f b) (laws.does ts (writeDone d v f n cr r c) e) ∙ leaves d v f b n cr r c)
 
 -- ---- the three writes
 module _ (g : Geometry) (p : ℕ) (d : Drive) (v f b : List ℕ) where

@@ -32,6 +32,19 @@ unfolding changedState
 taken d v true x = refl
 taken d v false x = refl
 
+-- what the write of record n leaves, whatever buffer c it is to leave
+pub leaves : (d : Drive) (v f b : List ℕ) (n cr : ℕ) (r c : List ℕ) → outcome d v f b (writeDone d v f n cr r c)
+    ≡ record {
+      answer = Done 0;
+      drive = withHeld d (heldAfter (d .geometry) (d .held) v (d .user) (nameOf f) n);
+      volume = volumeAfter (d .geometry) (d .held) v (d .user) (nameOf f) n r;
+      block = setTo f (entryAfter (d .geometry) (d .held) v (d .user) (nameOf f) n) n cr;
+      buffer = c;
+    }
+unfolding outcome writeDone writeEntry writeChange stored storedAll
+leaves d v f b n cr r c =
+    rw (taken d v (needsBlock (d .geometry) v (d .user) (nameOf f) n) (writeBlock (d .geometry) (d .held) v (d .user) (nameOf f) n))
+
 module _ (d : Drive) (v f : List ℕ) (n cr : ℕ) (r b : List ℕ) where
   abbrev tests : List Test
   tests = writeTests (d .geometry) (d .held) v (d .user) (nameOf f) n
@@ -44,12 +57,6 @@ module _ (d : Drive) (v f : List ℕ) (n cr : ℕ) (r b : List ℕ) where
 
   abbrev held : List ℕ
   held = heldAfter (d .geometry) (d .held) v (d .user) (nameOf f) n
-
-  leaves : outcome d v f b (writeDone d v f n cr r b)
-      ≡ record { answer = Done 0; drive = withHeld d held; volume = volume; block = block; buffer = b }
-  unfolding outcome writeDone writeEntry writeChange stored storedAll
-  leaves =
-      rw (taken d v (needsBlock (d .geometry) v (d .user) (nameOf f) n) (writeBlock (d .geometry) (d .held) v (d .user) (nameOf f) n))
 
   -- the write of the record is refused, and is not
   module _ {why : Refusal} {s : Reply} {v′ f′ : List ℕ}
@@ -67,4 +74,4 @@ module _ (d : Drive) (v f : List ℕ) (n cr : ℕ) (r b : List ℕ) where
     write-done eh i q =
         let u = goes-by Protected (d .protected) tests (writeDone d v f n cr r b) p
         ∙ does tests (writeDone d v f n cr r b) (ap isNone (sym e) ∙ i) in
-        rw (q, ev, ef, eh, i) (sym leaves ∙ ap (outcome d v f b) (sym u))
+        rw (q, ev, ef, eh, i) (sym (leaves d v f b n cr r b) ∙ ap (outcome d v f b) (sym u))
