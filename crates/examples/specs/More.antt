@@ -11,8 +11,8 @@ use Rattle.volume.specs.Name.{strip, nameAt, goodName}
 use Rattle.lists.specs.Bytes.{part, all}
 use Rattle.blocks.specs.Held.{hold, release, wordsOf, noneHeld, lowestFree, freeCount}
 use Rattle.naming.specs.Delete.{freeMatches}
-use Rattle.reading.specs.declared.Kept.{Kept}
-use Rattle.reading.specs.declared.Kept.the-variants.{Nothing, Pattern, Everything}
+use Rattle.finding.specs.declared.Kept.{Kept}
+use Rattle.finding.specs.declared.Kept.the-variants.{Nothing, Pattern, Everything}
 use Rattle.filecalls.specs.declared.Drive.{Drive}
 use Rattle.filecalls.specs.State.{isOpen}
 use Rattle.examples.specs.Script.{logIn, openFile, closeFile, searchFirst, searchNext, delete, readNext, writeNext, make, rename, protect, attributes, user, read, write, size, setRandom, emptyRecord, done, free, refused, badSlot, Line, call, altered, slotsAre, heldAre, volumeAt, blockAt, blockIs, bufferIs, Script, script, seen, told}

@@ -22,9 +22,9 @@ use Rattle.answers.specs.Refusal.{firstMet}
 use Rattle.answers.specs.Answer.{numberOf, valueOf, succeeded}
 use Rattle.inspection.specs.GoodSlot.{goodFields, goodTopBits, inPlaces, names, namedBelow, goodPlace, seenBelow, goodSlot, lowestBad}
 use Rattle.inspection.specs.Named.{named, heldOf}
-use Rattle.reading.specs.Open.{openSlot, closeSlot}
-use Rattle.reading.specs.Search.{patternOf, hitFrom}
-use Rattle.reading.specs.Size.{entryEnd, larger, sizeOf}
+use Rattle.finding.specs.Open.{openSlot, closeSlot}
+use Rattle.finding.specs.Search.{patternOf, hitFrom}
+use Rattle.finding.specs.Size.{entryEnd, larger, sizeOf}
 use Rattle.reading.specs.Read.{readBlock, readTests, readBytes}
 use Rattle.naming.specs.Sweep.{renamed, attributed, changed}
 use Rattle.naming.specs.Delete.{deleteTests, freePlace, freeEntry, freeSlot, freeMatches}

@@ -5,4 +5,3 @@ pub mod LentLaws
 pub mod WriteLaws
 pub mod SearchLaws
 pub mod NamingLaws
-pub mod FoundLaws

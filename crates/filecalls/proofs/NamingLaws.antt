@@ -1,45 +1,47 @@
--- The calls on names: what their first and their last group of tests decide, and what an act of one store leaves.
-use mathlib.Core.Path.{_≡_, refl, sym, ap, _∙_}
-use mathlib.Core.Bool.{Bool, true, false, not}
-use mathlib.Core.List.{List, [], _∷_}
+-- The calls that name a file and are lent no buffer: what is lent refuses, or the tests that follow decide all that is left.
+use mathlib.Core.Path.{_≡_, sym, ap, _∙_}
+use mathlib.Core.Bool.{Bool, true, false, not, cond}
+use mathlib.Core.List.{List, [], _∷_, _++_}
 use Prim.Native.Nat.{ℕ}
-use Rattle.volume.specs.Entry.{Entry}
-use Rattle.volume.specs.Directory.{putSlot, mapSlots}
 use Rattle.answers.specs.declared.Refusal.{Refusal}
 use Rattle.answers.specs.declared.Answer.the-variants.{Done, Refused}
-use Rattle.answers.specs.Refusal.{Test, isNone, firstMet}
-use Rattle.naming.specs.declared.Edit.the-variants.{Erase}
-use Rattle.naming.specs.Sweep.{changed}
+use Rattle.answers.specs.Refusal.{Test, test, isNone, refusing, first, firstMet}
+use Rattle.answers.proofs.Ladder.{ladder-append, ladder-two}
 use Rattle.filecalls.specs.declared.Drive.{Drive}
 use Rattle.filecalls.specs.declared.Reply.{Reply}
-use Rattle.filecalls.specs.Outcome.{Change, entryTo, eachEntry, Act, deny, done, unless, outcome, left, changedState, stored, storedAll}
-use Rattle.filecalls.proofs.OutcomeLaws.{denies, does, refuses, clears, says-no}
+use Rattle.filecalls.specs.Outcome.{Change, Store, Act, done, unless, outcome, left, withHeld, changedState, storedAll}
+use Rattle.filecalls.specs.Lent.{namedTests, plainTests}
+use Rattle.filecalls.proofs.OutcomeLaws.{passes, either, refused-at, decided}
+use Rattle.filecalls.proofs.StateLaws.{Named, no-buffer}
 
--- the last group of tests passes, as code learns it
-pub last-clear : {why : Refusal} {t : Bool} (xs : List Test) (act : Act) → why ≡ firstMet xs → t ≡ isNone why → not t ≡ false → unless xs act ≡ act
-last-clear xs act e i h = does xs act (clears xs e i h)
+-- one test and two tests of the state or the control block, asked before a group
+pub after-one : {why b : Refusal} (w : Refusal) (m : Bool) (ts : List Test) → b ≡ refusing w m → why ≡ first b (firstMet ts) → why ≡ firstMet (test w m ∷ ts)
+unfolding firstMet
+after-one w m ts e p = rw e at p
 
--- what is erased has no use for a new name
-pub erases : (u : ℕ) (name new : List ℕ) → changed Erase u name new ≡ changed Erase u name []
-unfolding changed
-erases u name new = refl
+pub after-two : {why b x y : Refusal} (w z : Refusal) (m n : Bool) (ts : List Test) → isNone z ≡ false
+    → x ≡ refusing w m → y ≡ refusing z n → b ≡ first x y → why ≡ first b (firstMet ts) → why ≡ firstMet (test w m ∷ test z n ∷ ts)
+after-two {y = y} w z m n ts h ex ey eb p =
+    let two = eb ∙ ap (λ (u : Refusal). first u y) ex ∙ ap (first (refusing w m)) ey ∙ ladder-two w z m n h in
+    p ∙ ap (λ (u : Refusal). first u (firstMet ts)) two ∙ sym (ladder-append (test w m ∷ test z n ∷ []) ts)
 
-module _ (d : Drive) (v f b : List ℕ) where
-  -- the last group of tests refuses, as code learns it
-  pub refused-last : {why : Refusal} {r : Reply} {t : Bool} {u : Act} (xs : List Test) (act : Act)
-      → u ≡ unless xs act → why ≡ firstMet xs → t ≡ isNone why → not t ≡ true → r ≡ record { answer = Refused why; drive = d }
-      → left r v f b ≡ outcome d v f b u
-  refused-last xs act q e i h p = says-no d v f b (q ∙ denies xs act (refuses xs e i h) ∙ ap deny (sym e)) p
+-- the state with other held blocks, or as it was
+pub held-or : (d : Drive) (t : Bool) {h : List ℕ} (k : List ℕ) → h ≡ cond t k (d .held) → withHeld d h ≡ cond t (withHeld d k) d
+held-or d true k e = rw e
+held-or d false k e = rw e
 
-  -- the reply to an act that changes every entry, and to one that lays an entry
-  pub says-changed : {r : Reply} {k : ℕ} {u : Act} {w : List ℕ} (c : Change) (e : Entry → Entry) (f′ b′ : List ℕ)
-      → u ≡ done k c (eachEntry e ∷ []) f′ b′ → w ≡ mapSlots (d .geometry) e v → r ≡ record { answer = Done k; drive = changedState d v c }
-      → left r w f′ b′ ≡ outcome d v f b u
-  unfolding outcome stored storedAll
-  says-changed c e f′ b′ q s p = rw (p, s, q)
+module _ (d : Drive) (v f : List ℕ) where
+  -- what is lent refuses, as code learns it
+  pub named-no : {why : Refusal} {r : Reply} {t : Bool} (p : Bool) (ys : List Test) (act : Act)
+      → why ≡ firstMet (namedTests d v f 128 p) → t ≡ isNone why → not t ≡ true → r ≡ record { answer = Refused why; drive = d }
+      → left r v f [] ≡ outcome d v f [] (unless (plainTests d v f p ++ ys) act)
+  named-no p ys act e i h w = refused-at d v f [] (plainTests d v f p) ys act (e ∙ no-buffer d v f p) i h w
 
-  pub says-laid : {r : Reply} {k : ℕ} {u : Act} {w : List ℕ} (c : Change) (i : ℕ) (e : Entry) (f′ b′ : List ℕ)
-      → u ≡ done k c (entryTo i e ∷ []) f′ b′ → w ≡ putSlot (d .geometry) v i e → r ≡ record { answer = Done k; drive = changedState d v c }
-      → left r w f′ b′ ≡ outcome d v f b u
-  unfolding outcome stored storedAll
-  says-laid c i e f′ b′ q s p = rw (p, s, q)
+  -- what is lent passes, and the tests that follow decide
+  pub named-decided : {p : Bool} {why : Refusal} {r : Reply} {d′ : Drive} {v′ f′ : List ℕ} → Named d v f p
+      → (k : ℕ) (c : Change) (ss : List Store) (f₂ : List ℕ) (ys : List Test)
+      → why ≡ firstMet ys → d′ ≡ cond (isNone why) (changedState d v c) d → v′ ≡ cond (isNone why) (storedAll (d .geometry) v ss) v
+      → f′ ≡ cond (isNone why) f₂ f → r ≡ record { answer = cond (isNone why) (Done k) (Refused why); drive = d′ }
+      → left r v′ f′ [] ≡ outcome d v f [] (unless (plainTests d v f p ++ ys) (done k c ss f₂ []))
+  named-decided {p} {why} lent k c ss f₂ ys e ed ev ef q =
+      decided d v f [] k c ss f₂ [] ys e ed ev ef (either {A = List ℕ} (isNone why) []) q ∙ ap (outcome d v f []) (sym (passes (plainTests d v f p) ys _ (lent .none)))

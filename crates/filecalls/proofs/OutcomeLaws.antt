@@ -1,6 +1,6 @@
 -- What a call leaves, read down its ladder: a group of tests refuses, or it passes and the rest decides.
 use mathlib.Core.Path.{_≡_, refl, sym, ap, _∙_}
-use mathlib.Core.Bool.{Bool, true, false, not}
+use mathlib.Core.Bool.{Bool, true, false, not, cond}
 use mathlib.Core.List.{List, [], _∷_, _++_}
 use Prim.Native.Nat.{ℕ}
 use borrow.Author.Tests.{not-true, not-false}
@@ -10,7 +10,7 @@ use Rattle.answers.specs.Refusal.{Test, test, isNone, first, firstMet}
 use Rattle.answers.proofs.Ladder.{ladder-stop, ladder-pass}
 use Rattle.filecalls.specs.declared.Drive.{Drive}
 use Rattle.filecalls.specs.declared.Reply.{Reply}
-use Rattle.filecalls.specs.Outcome.{keeps, Act, deny, done, unless, outcome, left, changedState, storedAll}
+use Rattle.filecalls.specs.Outcome.{Change, keeps, Store, Act, deny, done, unless, outcome, left, changedState, storedAll}
 
 -- a first group of tests refuses
 pub stops : (xs ys : List Test) (act : Act) → isNone (firstMet xs) ≡ false → unless (xs ++ ys) act ≡ deny (firstMet xs)
@@ -67,6 +67,11 @@ stops-here why m ys act e w = rw e (met why ys act w)
 pub goes-by : (why : Refusal) (m : Bool) (ys : List Test) (act : Act) → m ≡ false → unless (test why m ∷ ys) act ≡ unless ys act
 goes-by why m ys act e = rw e (not-met why ys act)
 
+-- what stays, stays whether or not the call is refused
+pub either : {A : Type 0} (t : Bool) (x : A) → x ≡ cond t x x
+either true x = refl
+either false x = refl
+
 -- the reply to a refusal, and the reply to an act that leaves state and volume as they are
 module _ (d : Drive) (v f b : List ℕ) where
   pub says-no : {r : Reply} {why : Refusal} {u : Act} → u ≡ deny why → r ≡ record { answer = Refused why; drive = d } → left r v f b ≡ outcome d v f b u
@@ -84,3 +89,15 @@ module _ (d : Drive) (v f b : List ℕ) where
       → left r v f b ≡ outcome d v f b (unless (xs ++ ys) act)
   unfolding outcome
   refused-at {why} {r} {t} xs ys act e i h p = rw (p, stops xs ys act (refuses xs e i h), e)
+
+  -- the last group of tests decides, and all that is left was changed only where it does not refuse
+  pub decided : {why : Refusal} {r : Reply} {d′ : Drive} {v′ f′ b′ : List ℕ} (k : ℕ) (c : Change) (ss : List Store) (f₂ b₂ : List ℕ) (ys : List Test)
+      → why ≡ firstMet ys → d′ ≡ cond (isNone why) (changedState d v c) d → v′ ≡ cond (isNone why) (storedAll (d .geometry) v ss) v
+      → f′ ≡ cond (isNone why) f₂ f → b′ ≡ cond (isNone why) b₂ b → r ≡ record { answer = cond (isNone why) (Done k) (Refused why); drive = d′ }
+      → left r v′ f′ b′ ≡ outcome d v f b (unless ys (done k c ss f₂ b₂))
+  unfolding unless outcome
+  decided {why} {r} {d′} {v′} {f′} {b′} k c ss f₂ b₂ ys e ed ev ef eb p = go (isNone why) refl
+    where
+      go : (t : Bool) → isNone why ≡ t → left r v′ f′ b′ ≡ outcome d v f b (unless ys (done k c ss f₂ b₂))
+      go true h = rw (p, ed, ev, ef, eb, ← e, h)
+      go false h = rw (p, ed, ev, ef, eb, ← e, h)

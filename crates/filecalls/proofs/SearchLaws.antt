@@ -13,8 +13,8 @@ use Rattle.answers.specs.declared.Refusal.{Refusal}
 use Rattle.answers.specs.declared.Refusal.the-variants.{NoMatch}
 use Rattle.answers.specs.declared.Answer.the-variants.{Done, Refused}
 use Rattle.answers.specs.Refusal.{Test, test, isNone, firstMet}
-use Rattle.reading.specs.declared.Kept.{Kept}
-use Rattle.reading.specs.declared.Kept.the-variants.{Nothing, Pattern, Everything}
+use Rattle.finding.specs.declared.Kept.{Kept}
+use Rattle.finding.specs.declared.Kept.the-variants.{Nothing, Pattern, Everything}
 use Rattle.filecalls.specs.declared.Search.{Search}
 use Rattle.filecalls.specs.declared.Drive.{Drive}
 use Rattle.filecalls.specs.declared.Reply.{Reply}

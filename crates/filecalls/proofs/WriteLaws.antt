@@ -17,8 +17,7 @@ use Rattle.filecalls.specs.declared.Reply.{Reply}
 use Rattle.filecalls.specs.Outcome.{keeps, takes, deny, unless, outcome, left, withHeld, changedState, stored, storedAll}
 use Rattle.filecalls.specs.Write.{writeEntry, writeChange, writeDone, directoryTests, emptyTests}
 use Rattle.filecalls.specs.Lent.{namedTests, randomLent}
-use Rattle.filecalls.proofs.OutcomeLaws.{goes-by, says-no}
-use Rattle.filecalls.proofs.OutcomeLaws.{denies, does}
+use Rattle.filecalls.proofs.OutcomeLaws.{goes-by, says-no, denies, does}
 
 -- a random call that is lent no buffer passes the right length for one
 pub empty-lent : (d : Drive) (v f : List ℕ) → firstMet (randomLent d v f 128) ≡ firstMet (emptyTests d v f)
@@ -61,17 +60,26 @@ module _ (d : Drive) (v f : List ℕ) (n cr : ℕ) (r b : List ℕ) where
   -- the write of the record is refused, and is not
   module _ {why : Refusal} {s : Reply} {v′ f′ : List ℕ}
       (p : d .protected ≡ false) (e : why ≡ firstMet tests) (ev : v′ ≡ cond (isNone why) volume v) (ef : f′ ≡ cond (isNone why) block f) where
-    pub write-refused : isNone why ≡ false → s ≡ record { answer = Refused why; drive = d }
+    write-refused : isNone why ≡ false → s ≡ record { answer = Refused why; drive = d }
         → left s v′ f′ b ≡ outcome d v f b (unless (directoryTests d v f n) (writeDone d v f n cr r b))
     write-refused i q =
         let u = goes-by Protected (d .protected) tests (writeDone d v f n cr r b) p
         ∙ denies tests (writeDone d v f n cr r b) (ap isNone (sym e) ∙ i) ∙ ap deny (sym e) in
         rw (ev, ef, i) (says-no d v f b u q)
 
-    pub write-done : {h′ : List ℕ} → h′ ≡ cond (isNone why) held (d .held) → isNone why ≡ true
+    write-done : {h′ : List ℕ} → h′ ≡ cond (isNone why) held (d .held) → isNone why ≡ true
         → s ≡ record { answer = Done 0; drive = withHeld d h′ }
         → left s v′ f′ b ≡ outcome d v f b (unless (directoryTests d v f n) (writeDone d v f n cr r b))
     write-done eh i q =
         let u = goes-by Protected (d .protected) tests (writeDone d v f n cr r b) p
         ∙ does tests (writeDone d v f n cr r b) (ap isNone (sym e) ∙ i) in
         rw (q, ev, ef, eh, i) (sym (leaves d v f b n cr r b) ∙ ap (outcome d v f b) (sym u))
+
+    pub write-decided : {h′ : List ℕ} → h′ ≡ cond (isNone why) held (d .held)
+        → s ≡ record { answer = cond (isNone why) (Done 0) (Refused why); drive = withHeld d h′ }
+        → left s v′ f′ b ≡ outcome d v f b (unless (directoryTests d v f n) (writeDone d v f n cr r b))
+    write-decided {h′} eh q = go (isNone why) refl
+      where
+        go : (t : Bool) → isNone why ≡ t → left s v′ f′ b ≡ outcome d v f b (unless (directoryTests d v f n) (writeDone d v f n cr r b))
+        go true h = write-done eh h (q ∙ rw h)
+        go false h = write-refused h (q ∙ rw (eh, h))

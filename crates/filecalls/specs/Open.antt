@@ -10,8 +10,8 @@ use Rattle.volume.specs.Directory.{slotAt, findSlot}
 use Rattle.control.specs.Block.{exFits, extentFits, opened, withRandom}
 use Rattle.answers.specs.declared.Refusal.the-variants.{NoMatch}
 use Rattle.answers.specs.Refusal.{Test, test}
-use Rattle.reading.specs.Open.{openSlot, closeSlot}
-use Rattle.reading.specs.Size.{sizeOf}
+use Rattle.finding.specs.Open.{openSlot, closeSlot}
+use Rattle.finding.specs.Size.{sizeOf}
 use Rattle.filecalls.specs.declared.Drive.{Drive}
 use Rattle.filecalls.specs.Tests.{closedState, volumeLength, blockLength, driveCode, badName, tooLarge}
 use Rattle.filecalls.specs.Outcome.{keeps, Act, done, unless, Outcome, outcome}

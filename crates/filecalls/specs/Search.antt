@@ -11,9 +11,9 @@ use Rattle.volume.specs.Name.{nameOf, goodName}
 use Rattle.volume.specs.Record.{slotRecord}
 use Rattle.answers.specs.declared.Refusal.the-variants.{DriveCode, Name, Position, NoMatch}
 use Rattle.answers.specs.Refusal.{Test, test}
-use Rattle.reading.specs.declared.Kept.{Kept}
-use Rattle.reading.specs.declared.Kept.the-variants.{Nothing, Pattern, Everything}
-use Rattle.reading.specs.Search.{kindOf, patternOf, hitFrom}
+use Rattle.finding.specs.declared.Kept.{Kept}
+use Rattle.finding.specs.declared.Kept.the-variants.{Nothing, Pattern, Everything}
+use Rattle.finding.specs.Search.{kindOf, patternOf, hitFrom}
 use Rattle.filecalls.specs.declared.Search.{Search}
 use Rattle.filecalls.specs.declared.Drive.{Drive}
 use Rattle.filecalls.specs.Tests.{closedState, volumeLength, blockLength, bufferLength}

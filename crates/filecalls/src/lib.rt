@@ -1,6 +1,6 @@
 // The file calls: every call is a method of the drive state that takes the state and hands it back.
 use answers::Answer;
-use reading::Kept;
+use finding::Kept;
 use volume::Geometry;
 
 mod login;

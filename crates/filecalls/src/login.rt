@@ -45,10 +45,9 @@ impl Drive {
             return closed_reply(Answer::BadSlot(found.slot));
         }
         let held = found.held;
-        let free = blocks::free_count(held, g.directory, g.total);
         let drive = logged_in(g, held);
         Reply {
-            answer: Answer::Ready(free),
+            answer: Answer::Ready(found.free),
             drive,
         }
     }

@@ -6,8 +6,6 @@ ghost use Rattle.filecalls.specs.Names.{deleteAct, makeAct, renameAct, a
 use crate::Drive;
 use crate::Reply;
 use answers::Refusal;
-use naming::Edit;
-use volume::Wanted;
 
 impl Drive {
     // Function 19: every matching entry is gone, and its blocks are free.
@@ -18,21 +16,15 @@ impl Drive {
         if !answers::is_none(why) {
             return self.refused(why);
         }
-        if self.protected {
-            return self.refused(Refusal::Protected);
-        }
+        let before = answers::refuse(Refusal::Protected, self.protected);
         let g = self.geometry;
-        let user = self.user;
-        let why = naming::delete::delete_why(g, volume, user, &f[1..12]);
-        if !answers::is_none(why) {
-            return self.refused(why);
-        }
         let held = self.held;
-        let left = naming::delete::free_matches(g, volume, user, &f[1..12], held);
-        naming::sweep::change_all(g, volume, user, &f[1..12], &f[1..12], Edit::Erase);
+        let gone = naming::delete::delete_matches(g, volume, self.user, &f[1..12], held, before);
+        let why = gone.why;
+        let rest = gone.held;
         let mut drive = self;
-        drive.held = left;
-        drive.done(0)
+        drive.held = rest;
+        drive.answered(why, 0)
     }
 
     // Function 22: the lowest empty slot gets the file's first entry.
@@ -43,20 +35,13 @@ impl Drive {
         if !answers::is_none(why) {
             return self.refused(why);
         }
-        let first = f[12] == 0;
-        if !first {
-            return self.refused(Refusal::Position);
-        }
-        if self.protected {
-            return self.refused(Refusal::Protected);
-        }
+        let position = answers::refuse(Refusal::Position, f[12] != 0);
+        let protected = answers::refuse(Refusal::Protected, self.protected);
+        let before = answers::first_of(position, protected);
         let g = self.geometry;
-        let made = naming::make::make_file(g, volume, f, self.user);
+        let made = naming::make::make_file(g, volume, f, self.user, before);
         let why = made.why;
-        if !answers::is_none(why) {
-            return self.refused(why);
-        }
-        self.done((made.slot % 4) as u8)
+        self.answered(why, (made.slot % 4) as u8)
     }
 
     // Function 23: all entries of the file take the new name.
@@ -67,20 +52,13 @@ impl Drive {
         if !answers::is_none(why) {
             return self.refused(why);
         }
-        if !volume::names::good_name(false, &f[17..28]) {
-            return self.refused(Refusal::Name);
-        }
-        if self.protected {
-            return self.refused(Refusal::Protected);
-        }
+        let good = volume::names::good_name(false, &f[17..28]);
+        let name = answers::refuse(Refusal::Name, !good);
+        let protected = answers::refuse(Refusal::Protected, self.protected);
+        let before = answers::first_of(name, protected);
         let g = self.geometry;
-        let user = self.user;
-        let why = naming::rename::rename_why(g, volume, user, &f[1..12], &f[17..28]);
-        if !answers::is_none(why) {
-            return self.refused(why);
-        }
-        naming::sweep::change_all(g, volume, user, &f[1..12], &f[17..28], Edit::Rename);
-        self.done(0)
+        let why = naming::rename::rename_file(g, volume, self.user, &f[1..12], &f[17..28], before);
+        self.answered(why, 0)
     }
 
     // Function 30: all entries of the file take the control block's attribute bits.
@@ -91,16 +69,9 @@ impl Drive {
         if !answers::is_none(why) {
             return self.refused(why);
         }
-        if self.protected {
-            return self.refused(Refusal::Protected);
-        }
+        let before = answers::refuse(Refusal::Protected, self.protected);
         let g = self.geometry;
-        let user = self.user;
-        let slot = volume::directory::find(g, volume, user, &f[1..12], Wanted::File);
-        if slot < g.slots() {
-            naming::sweep::change_all(g, volume, user, &f[1..12], &f[1..12], Edit::Attributes);
-            return self.done(0);
-        }
-        self.refused(Refusal::NoMatch)
+        let why = naming::rename::mark_file(g, volume, self.user, &f[1..12], before);
+        self.answered(why, 0)
     }
 }

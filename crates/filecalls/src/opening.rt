@@ -5,8 +5,6 @@ ghost use Rattle.filecalls.specs.Outcome.{outcome, left};
 ghost use Rattle.filecalls.specs.Open.{openAct, closeAct, sizeAct};
 use crate::Drive;
 use crate::Reply;
-use answers::Refusal;
-use volume::Wanted;
 
 impl Drive {
     // Function 15: shows the entry that the control block means.
@@ -17,16 +15,10 @@ impl Drive {
         if !answers::is_none(why) {
             return self.refused(why);
         }
-        let fits = f[12] <= 31;
-        if !fits {
-            return self.refused(Refusal::Position);
-        }
         let g = self.geometry;
-        let slot = reading::open::open_file(g, volume, f, self.user);
-        if slot < g.slots() {
-            return self.done((slot % 4) as u8);
-        }
-        self.refused(Refusal::NoMatch)
+        let found = finding::open::open_file(g, volume, f, self.user);
+        let why = found.why;
+        self.answered(why, (found.slot % 4) as u8)
     }
 
     // Function 16: the group has an entry; nothing is changed.
@@ -37,16 +29,10 @@ impl Drive {
         if !answers::is_none(why) {
             return self.refused(why);
         }
-        let fits = (f[12] <= 31) & (f[14] <= 15);
-        if !fits {
-            return self.refused(Refusal::Position);
-        }
         let g = self.geometry;
-        let slot = reading::open::slot_to_close(g, volume, f, self.user);
-        if slot < g.slots() {
-            return self.done((slot % 4) as u8);
-        }
-        self.refused(Refusal::NoMatch)
+        let found = finding::open::close_file(g, volume, f, self.user);
+        let why = found.why;
+        self.answered(why, (found.slot % 4) as u8)
     }
 
     // Function 35: the file's size in r0 r1 r2.
@@ -58,12 +44,7 @@ impl Drive {
             return self.refused(why);
         }
         let g = self.geometry;
-        let slot = volume::directory::find(g, volume, self.user, &f[1..12], Wanted::File);
-        if slot < g.slots() {
-            let size = reading::size::size_of(g, volume, self.user, &f[1..12]);
-            control::set_random(f, size);
-            return self.done(0);
-        }
-        self.refused(Refusal::NoMatch)
+        let why = finding::size::measure(g, volume, f, self.user);
+        self.answered(why, 0)
     }
 }

@@ -30,10 +30,7 @@ impl Drive {
     {
         let g = self.geometry;
         let why = reading::read::read_record(g, volume, f, buffer, self.user, n, cr, missing);
-        if !answers::is_none(why) {
-            return self.refused(why);
-        }
-        self.done(0)
+        self.answered(why, 0)
     }
 
     // Function 20: reads at the sequential position, and moves it on.

@@ -15,7 +15,7 @@ use crate::Drive;
 use crate::Reply;
 use crate::Search;
 use answers::Refusal;
-use reading::Kept;
+use finding::Kept;
 
 // Is a search open?
 fn is_open_search(kind: Kept) -> bool
@@ -63,7 +63,7 @@ impl Drive {
         let g = self.geometry;
         let kind = search.kind;
         let pattern = search.pattern;
-        let slot = reading::search::search_from(
+        let slot = finding::search::search_from(
             g,
             volume,
             buffer,
@@ -89,8 +89,8 @@ impl Drive {
         if !answers::is_none(why) {
             return self.refused(why);
         }
-        let kind = reading::search::kind_of(f[0]);
-        let pattern = reading::search::pattern_of(f);
+        let kind = finding::search::kind_of(f[0]);
+        let pattern = finding::search::pattern_of(f);
         let search = Search {
             kind,
             user: self.user,

@@ -1,8 +1,9 @@
 // The state: whether it counts as closed, the closed value, and the replies that leave it as it is.
 ghost use mathlib.Core.Path.{_≡_};
-ghost use mathlib.Core.Bool.{Bool, true, false};
+ghost use mathlib.Core.Bool.{Bool, true, false, cond};
 ghost use Prim.Native.Nat.{ℕ};
 ghost use lib.ListN.{length};
+ghost use Rattle.answers.specs.Refusal.{isNone};
 ghost use Rattle.answers.specs.declared.Answer.the-variants.{Done, Refused};
 ghost use Rattle.filecalls.specs.declared.Reply.{Reply};
 ghost use Rattle.filecalls.specs.State.{goodPattern, goodKept, isOpen, closed};
@@ -11,7 +12,7 @@ use crate::Reply;
 use crate::Search;
 use answers::Answer;
 use answers::Refusal;
-use reading::Kept;
+use finding::Kept;
 use volume::Geometry;
 
 // Did the pattern pass 39 and 40?
@@ -95,5 +96,15 @@ impl Drive {
             answer: Answer::Done(code),
             drive: self,
         }
+    }
+
+    // Refused, or done with this code: the state as given.
+    pub(crate) fn answered(self, why: Refusal, code: u8) -> Reply
+        ensures { λ r. ⌜ r ≡ record { answer = cond (isNone why) (Done code) (Refused why); drive = self } ⌝ }
+    {
+        if answers::is_none(why) {
+            return self.done(code);
+        }
+        self.refused(why)
     }
 }

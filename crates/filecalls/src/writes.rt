@@ -24,13 +24,10 @@ impl Drive {
         let held = self.held;
         let written = writing::write::write_record(g, volume, f, bytes, self.user, held, n, cr);
         let why = written.why;
-        if !answers::is_none(why) {
-            return self.refused(why);
-        }
         let next = written.held;
         let mut drive = self;
         drive.held = next;
-        drive.done(0)
+        drive.answered(why, 0)
     }
 
     // Function 21: writes at the sequential position, and moves it on.

@@ -7,7 +7,7 @@ ghost use Rattle.lists.specs.Search.{every};
 ghost use Rattle.volume.specs.Geometry.{lawful, bytes, slots};
 ghost use Rattle.volume.specs.Name.{nameOf, goodName};
 ghost use Rattle.volume.specs.Entry.{places};
-ghost use Rattle.blocks.specs.Held.{wordsOf};
+ghost use Rattle.blocks.specs.Held.{wordsOf, freeCount};
 ghost use Rattle.inspection.specs.GoodSlot.{goodFields, goodTopBits, goodPlace, goodSlot, lowestBad};
 ghost use Rattle.inspection.specs.Named.{heldOf};
 ghost use Rattle.inspection.specs.HeldBelow.{heldBelow, heldUpTo};
@@ -18,10 +18,17 @@ use volume::names;
 
 mod seen;
 
-// The lowest bad slot, the number of slots where none is bad; then the held blocks too.
+// The lowest bad slot, the number of slots where none is bad; then the held blocks and the number of free ones too.
 pub struct Inspected {
     pub slot: usize,
     pub held: [u64; 4],
+    pub free: usize,
+}
+
+// The lowest bad slot, and the blocks held below it.
+struct Looked {
+    slot: usize,
+    held: [u64; 4],
 }
 
 // Is what was looked at good? If so, the blocks held with it.
@@ -120,8 +127,8 @@ fn take_slot(g: Geometry, volume: &[u8], i: usize, held: [u64; 4], marks: &mut [
     }
 }
 
-// The lowest bad slot, and the blocks that the entries name.
-pub fn inspect(g: Geometry, volume: &[u8]) -> Inspected
+// The lowest bad slot, and the blocks that the entries below it name.
+fn look(g: Geometry, volume: &[u8]) -> Looked
     requires { ⌜ (lawful g ≡ true) × (length (now volume) ≡ bytes g) ⌝ }
     ensures { λ r. ⌜ (r .slot ≡ lowestBad g (now (volume .entry))) × (r .slot ≤ slots g) ⌝ }
     ensures { λ r. ⌜ (r .slot ≡ slots g → r .held ≡ heldOf g (now (volume .entry))) ⌝ }
@@ -133,11 +140,27 @@ pub fn inspect(g: Geometry, volume: &[u8]) -> Inspected
     while i < n {
         let taken = take_slot(g, volume, i, held, &mut marks);
         if !taken.good {
-            return Inspected { slot: i, held };
+            return Looked { slot: i, held };
         }
         let next = taken.held;
         held = next;
         i += 1;
     }
-    Inspected { slot: i, held }
+    Looked { slot: i, held }
+}
+
+// The lowest bad slot, the blocks that the entries name, and how many are free.
+pub fn inspect(g: Geometry, volume: &[u8]) -> Inspected
+    requires { ⌜ (lawful g ≡ true) × (length (now volume) ≡ bytes g) ⌝ }
+    ensures { λ r. ⌜ (r .slot ≡ lowestBad g (now (volume .entry))) × (r .slot ≤ slots g) ⌝ }
+    ensures { λ r. ⌜ (r .slot ≡ slots g → (r .held ≡ heldOf g (now (volume .entry))) × (r .free ≡ freeCount (heldOf g (now (volume .entry))) (g .directory) (g .total))) ⌝ }
+{
+    let seen = look(g, volume);
+    let held = seen.held;
+    let free = blocks::free_count(held, g.directory, g.total);
+    Inspected {
+        slot: seen.slot,
+        held,
+        free,
+    }
 }

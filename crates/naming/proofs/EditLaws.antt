@@ -114,3 +114,8 @@ lent-same l x a n e = rw (e, take-append-drop n (drop a l), take-append-drop a l
 pub or-false : (a b : Bool) → (a || b) ≡ false → (a ≡ false) × (b ≡ false)
 or-false false b e = (refl, e)
 or-false true b e = absurd (true≢false e)
+
+-- what is erased has no use for a new name
+pub erases : (u : ℕ) (name new : List ℕ) → changed Erase u name new ≡ changed Erase u name []
+unfolding changed
+erases u name new = refl

@@ -1,21 +1,33 @@
 // Delete: the tests that look at the directory, and the blocks of the entries that match.
 ghost use mathlib.Core.Path.{_≡_};
-ghost use mathlib.Core.Bool.{true};
+ghost use mathlib.Core.Bool.{true, cond};
+ghost use mathlib.Core.List.{[]};
 ghost use Prim.Native.Nat.{_<_};
 ghost use lib.ListN.{length};
 ghost use Rattle.volume.specs.Geometry.{lawful, bytes, slots};
 ghost use Rattle.volume.specs.Name.{strip};
 ghost use Rattle.volume.specs.Entry.{places};
-ghost use Rattle.answers.specs.Refusal.{firstMet};
+ghost use Rattle.volume.specs.Directory.{mapSlots};
+ghost use Rattle.answers.specs.Refusal.{isNone, first, firstMet};
+ghost use Rattle.naming.specs.declared.Edit.the-variants.{Erase};
+ghost use Rattle.naming.specs.Sweep.{changed};
 ghost use Rattle.naming.specs.Delete.{deleteTests, freePlace, freeEntry, freeSlot, freeMatches};
+use crate::Edit;
+use crate::sweep;
 use answers::Refusal;
 use volume::Geometry;
 use volume::Wanted;
 use volume::directory;
 use volume::entry;
 
+// What delete hands back: why it is refused, and the blocks that are still held.
+pub struct Deleted {
+    pub why: Refusal,
+    pub held: [u64; 4],
+}
+
 // Why the entries that match can't be deleted. A read-only match is sought from the first match on.
-pub fn delete_why(g: Geometry, volume: &[u8], user: u8, pattern: &[u8]) -> Refusal
+fn delete_why(g: Geometry, volume: &[u8], user: u8, pattern: &[u8]) -> Refusal
     requires { ⌜ (lawful g ≡ true) × ((length (now volume) ≡ bytes g) × (length (now pattern) ≡ 11)) ⌝ }
     ensures { λ r. ⌜ r ≡ firstMet (deleteTests g (now (volume .entry)) user (strip (now (pattern .entry)))) ⌝ }
 {
@@ -76,13 +88,7 @@ fn free_slot(
 }
 
 // The held blocks without those of the entries that match.
-pub fn free_matches(
-    g: Geometry,
-    volume: &[u8],
-    user: u8,
-    pattern: &[u8],
-    held: [u64; 4],
-) -> [u64; 4]
+fn free_matches(g: Geometry, volume: &[u8], user: u8, pattern: &[u8], held: [u64; 4]) -> [u64; 4]
     requires { ⌜ (lawful g ≡ true) × ((length (now volume) ≡ bytes g) × (length (now pattern) ≡ 11)) ⌝ }
     ensures { λ r. ⌜ r ≡ freeMatches g (now (volume .entry)) user (strip (now (pattern .entry))) held ⌝ }
 {
@@ -95,4 +101,27 @@ pub fn free_matches(
         i += 1;
     }
     rest
+}
+
+// Deletes the entries that match and frees their blocks; or refuses, by an earlier refusal first, and alters nothing.
+pub fn delete_matches(
+    g: Geometry,
+    volume: &mut [u8],
+    user: u8,
+    pattern: &[u8],
+    held: [u64; 4],
+    before: Refusal,
+) -> Deleted
+    requires { ⌜ (lawful g ≡ true) × ((length (now volume) ≡ bytes g) × (length (now pattern) ≡ 11)) ⌝ }
+    ensures { λ r. ⌜ r .why ≡ first before (firstMet (deleteTests g (now (volume .entry)) user (strip (now (pattern .entry))))) ⌝ }
+    ensures { λ r. ⌜ r .held ≡ cond (isNone (r .why)) (freeMatches g (now (volume .entry)) user (strip (now (pattern .entry))) held) held ⌝ }
+    ensures { λ r. ⌜ now (volume .exit) ≡ cond (isNone (r .why)) (mapSlots g (changed Erase user (strip (now (pattern .entry))) []) (now (volume .entry))) (now (volume .entry)) ⌝ }
+{
+    let why = answers::first_of(before, delete_why(g, volume, user, pattern));
+    if !answers::is_none(why) {
+        return Deleted { why, held };
+    }
+    let rest = free_matches(g, volume, user, pattern, held);
+    sweep::change_all(g, volume, user, pattern, pattern, Edit::Erase);
+    Deleted { why, held: rest }
 }

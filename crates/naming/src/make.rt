@@ -8,7 +8,7 @@ ghost use Rattle.volume.specs.Geometry.{lawful, bytes, slots};
 ghost use Rattle.volume.specs.Name.{strip, nameOf};
 ghost use Rattle.volume.specs.Directory.{findSlot, putSlot};
 ghost use Rattle.control.specs.Block.{made};
-ghost use Rattle.answers.specs.Refusal.{isNone, firstMet};
+ghost use Rattle.answers.specs.Refusal.{isNone, first, firstMet};
 ghost use Rattle.naming.specs.Make.{makeTests, freshEntry};
 use crate::names;
 use answers::Refusal;
@@ -22,10 +22,10 @@ pub struct Made {
     pub slot: usize,
 }
 
-// Why the file can't be made, and the slot that it goes to.
-fn make_why(g: Geometry, volume: &[u8], user: u8, name: &[u8]) -> Made
+// Why the file can't be made, by an earlier refusal first, and the slot that it goes to.
+fn make_why(g: Geometry, volume: &[u8], user: u8, name: &[u8], before: Refusal) -> Made
     requires { ⌜ (lawful g ≡ true) × ((length (now volume) ≡ bytes g) × (length (now name) ≡ 11)) ⌝ }
-    ensures { λ r. ⌜ r .why ≡ firstMet (makeTests g (now (volume .entry)) user (strip (now (name .entry)))) ⌝ }
+    ensures { λ r. ⌜ r .why ≡ first before (firstMet (makeTests g (now (volume .entry)) user (strip (now (name .entry))))) ⌝ }
     ensures { λ r. ⌜ r .slot ≡ findSlot g (now (volume .entry)) user (strip (now (name .entry))) Empty ⌝ }
     ensures { λ r. ⌜ (isNone (r .why) ≡ true → r .slot < slots g) ⌝ }
 {
@@ -34,7 +34,7 @@ fn make_why(g: Geometry, volume: &[u8], user: u8, name: &[u8]) -> Made
     let slot = directory::find(g, volume, user, name, Wanted::Empty);
     let exists = answers::refuse(Refusal::Exists, taken < slots);
     let no_room = answers::refuse(Refusal::NoRoom, slots <= slot);
-    let why = answers::first_of(exists, no_room);
+    let why = answers::first_of(before, answers::first_of(exists, no_room));
     Made { why, slot }
 }
 
@@ -49,17 +49,18 @@ pub fn fresh_entry(user: u8, name: &[u8]) -> [u8; 32]
     e
 }
 
-// Makes the file of the control block's name: its entry in the lowest empty slot, and the control block.
-pub fn make_file(g: Geometry, volume: &mut [u8], f: &mut [u8], user: u8) -> Made
+// Makes the file of the control block's name: its entry in the lowest empty slot, and the control block; or refuses, by
+// an earlier refusal first, and alters nothing.
+pub fn make_file(g: Geometry, volume: &mut [u8], f: &mut [u8], user: u8, before: Refusal) -> Made
     requires { ⌜ (lawful g ≡ true) × ((length (now volume) ≡ bytes g) × (length (now f) ≡ 36)) ⌝ }
-    ensures { λ r. ⌜ r .why ≡ firstMet (makeTests g (now (volume .entry)) user (nameOf (now (f .entry)))) ⌝ }
+    ensures { λ r. ⌜ r .why ≡ first before (firstMet (makeTests g (now (volume .entry)) user (nameOf (now (f .entry))))) ⌝ }
     ensures { λ r. ⌜ r .slot ≡ findSlot g (now (volume .entry)) user (nameOf (now (f .entry))) Empty ⌝ }
     ensures { λ r. ⌜ now (volume .exit) ≡ cond (isNone (r .why)) (putSlot g (now (volume .entry)) (r .slot) (freshEntry user (nameOf (now (f .entry))))) (now (volume .entry)) ⌝ }
     ensures { λ r. ⌜ now (f .exit) ≡ cond (isNone (r .why)) (made (now (f .entry)) (nameOf (now (f .entry)))) (now (f .entry)) ⌝ }
 {
     let mut name = [0u8; 11];
     names::lay_name(&mut name, &f[1..12]);
-    let plan = make_why(g, volume, user, &name);
+    let plan = make_why(g, volume, user, &name, before);
     let why = plan.why;
     if answers::is_none(why) {
         let e = fresh_entry(user, &name);

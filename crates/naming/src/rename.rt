@@ -1,18 +1,27 @@
-// Rename: the tests that look at the directory.
+// Rename and attributes: the tests that look at the directory, and the changes in the file's entries.
 ghost use mathlib.Core.Path.{_≡_};
-ghost use mathlib.Core.Bool.{true};
+ghost use mathlib.Core.Bool.{true, cond};
+ghost use mathlib.Core.List.{List, [], _∷_};
+ghost use lib.Dec.{leb};
 ghost use lib.ListN.{length};
-ghost use Rattle.volume.specs.Geometry.{lawful, bytes};
+ghost use Rattle.volume.specs.declared.Wanted.the-variants.{File};
+ghost use Rattle.volume.specs.Geometry.{lawful, bytes, slots};
 ghost use Rattle.volume.specs.Name.{strip};
-ghost use Rattle.answers.specs.Refusal.{firstMet};
+ghost use Rattle.volume.specs.Directory.{findSlot, mapSlots};
+ghost use Rattle.answers.specs.declared.Refusal.the-variants.{NoMatch};
+ghost use Rattle.answers.specs.Refusal.{test, isNone, first, firstMet};
+ghost use Rattle.naming.specs.declared.Edit.the-variants.{Rename, Attributes};
+ghost use Rattle.naming.specs.Sweep.{changed};
 ghost use Rattle.naming.specs.Rename.{renameTests};
+use crate::Edit;
+use crate::sweep;
 use answers::Refusal;
 use volume::Geometry;
 use volume::Wanted;
 use volume::directory;
 
 // Why the file can't be renamed. A read-only entry is sought from the file's first on.
-pub fn rename_why(g: Geometry, volume: &[u8], user: u8, name: &[u8], new: &[u8]) -> Refusal
+fn rename_why(g: Geometry, volume: &[u8], user: u8, name: &[u8], new: &[u8]) -> Refusal
     requires { ⌜ (lawful g ≡ true) × (length (now volume) ≡ bytes g) ⌝ }
     requires { ⌜ (length (now name) ≡ 11) × (length (now new) ≡ 11) ⌝ }
     ensures { λ r. ⌜ r ≡ firstMet (renameTests g (now (volume .entry)) user (strip (now (name .entry))) (strip (now (new .entry)))) ⌝ }
@@ -25,4 +34,41 @@ pub fn rename_why(g: Geometry, volume: &[u8], user: u8, name: &[u8], new: &[u8])
     let read_only = answers::refuse(Refusal::ReadOnly, marked < slots);
     let exists = answers::refuse(Refusal::Exists, taken < slots);
     answers::first_of(no_match, answers::first_of(read_only, exists))
+}
+
+// Gives all entries of the file the new name; or refuses, by an earlier refusal first, and alters nothing.
+pub fn rename_file(
+    g: Geometry,
+    volume: &mut [u8],
+    user: u8,
+    name: &[u8],
+    new: &[u8],
+    before: Refusal,
+) -> Refusal
+    requires { ⌜ (lawful g ≡ true) × (length (now volume) ≡ bytes g) ⌝ }
+    requires { ⌜ (length (now name) ≡ 11) × (length (now new) ≡ 11) ⌝ }
+    ensures { λ r. ⌜ r ≡ first before (firstMet (renameTests g (now (volume .entry)) user (strip (now (name .entry))) (strip (now (new .entry))))) ⌝ }
+    ensures { λ r. ⌜ now (volume .exit) ≡ cond (isNone r) (mapSlots g (changed Rename user (strip (now (name .entry))) (now (new .entry))) (now (volume .entry))) (now (volume .entry)) ⌝ }
+{
+    let why = answers::first_of(before, rename_why(g, volume, user, name, new));
+    if answers::is_none(why) {
+        sweep::change_all(g, volume, user, name, new, Edit::Rename);
+    }
+    why
+}
+
+// Gives all entries of the file the attribute bits of the name's bytes; or refuses, by an earlier refusal first, and
+// alters nothing.
+pub fn mark_file(g: Geometry, volume: &mut [u8], user: u8, name: &[u8], before: Refusal) -> Refusal
+    requires { ⌜ (lawful g ≡ true) × ((length (now volume) ≡ bytes g) × (length (now name) ≡ 11)) ⌝ }
+    ensures { λ r. ⌜ r ≡ first before (firstMet (test NoMatch (leb (slots g) (findSlot g (now (volume .entry)) user (strip (now (name .entry))) File)) ∷ [])) ⌝ }
+    ensures { λ r. ⌜ now (volume .exit) ≡ cond (isNone r) (mapSlots g (changed Attributes user (strip (now (name .entry))) (now (name .entry))) (now (volume .entry))) (now (volume .entry)) ⌝ }
+{
+    let slot = directory::find(g, volume, user, name, Wanted::File);
+    let no_match = answers::refuse(Refusal::NoMatch, g.slots() <= slot);
+    let why = answers::first_of(before, no_match);
+    if answers::is_none(why) {
+        sweep::change_all(g, volume, user, name, name, Edit::Attributes);
+    }
+    why
 }

@@ -1,2 +1,2 @@
--- Laws of the calls that read: what the plan of a read is.
+-- Laws of the reads: what the plan of one is.
 pub mod ReadLaws

@@ -1,6 +1,3 @@
--- The calls that read: open, close, search, size, and the reads.
-pub mod Open
-pub mod Search
-pub mod Size
+-- The reads: their tests and bytes, and the plan of one.
 pub mod Read
 pub mod Plan

@@ -2,7 +2,6 @@
 use Rattle.filecalls.specs.LogIn.{logInTests, refusedLogIn, logIn}
 use Rattle.answers.specs.Refusal.{firstMet}
 use Rattle.inspection.specs.GoodSlot.{lowestBad}
-use Rattle.volume.proofs.GeometryLaws.{bounds}
 use Rattle.volume.specs.Geometry.{lawful, bytes, slots}
 use borrow.Author.Tests.{not-false, eqb-true, lt-ltb, le-ltb}
 use lib.ListN.{length}
@@ -58,21 +57,18 @@ returns-3 c =
     let h : lowestBad (a .g) (now (a .volume)) < slots (a .g) = omega (arith, c .before .if3 .taken, s, c .before .before .before .slots .ensures .0) in
     c .closed-reply3 .ensures ∙ rw (law (c .before .before .before .before .before .before .before), ← c .before .before .before .before .before .before .bytes .ensures, c .before .before .before .before .before .if2 .left, lt-ltb _ _ h, s)
 
-free-count-requires : tie.Need-free-count-requires
-free-count-requires c κs = omega (arith, bounds _ (law (c .before .before .before .before .before .before .before)))
-
 logged-in-requires : tie.Need-logged-in-requires
 logged-in-requires c κs = search needs
 
 returns-4 : tie.Need-returns-4
 unfolding logIn logInTests firstMet refusedLogIn
 returns-4 c =
-    let a = c .before .before .before .before .before .before .before .before .before .before .before .before .args in
-    let i = c .before .before .before .before .before .before .inspect .ensures in
-    let n = c .before .before .before .before .before .slots .ensures .0 in
-    let h : slots (a .g) ≤ lowestBad (a .g) (now (a .volume)) = omega (arith, c .before .before .before .if3 .left, i .0 .0, n) in
-    let held = i .1 (omega (arith, c .before .before .before .if3 .left, i .0 .1, n)) in
-    rw (law (c .before .before .before .before .before .before .before .before .before), ← c .before .before .before .before .before .before .before .before .bytes .ensures, c .before .before .before .before .before .before .before .if2 .left, le-ltb _ _ h, c .logged-in .ensures, c .before .free-count .ensures .0, held)
+    let a = c .before .before .before .before .before .before .before .before .before .before .before .args in
+    let i = c .before .before .before .before .before .inspect .ensures in
+    let n = c .before .before .before .before .slots .ensures .0 in
+    let h : slots (a .g) ≤ lowestBad (a .g) (now (a .volume)) = omega (arith, c .before .before .if3 .left, i .0 .0, n) in
+    let found = i .1 (omega (arith, c .before .before .if3 .left, i .0 .1, n)) in
+    rw (law (c .before .before .before .before .before .before .before .before), ← c .before .before .before .before .before .before .before .bytes .ensures, c .before .before .before .before .before .before .if2 .left, le-ltb _ _ h, c .logged-in .ensures, found .0, found .1)
 
 pub log-in-spec : {M : Type 1} → statement M
 log-in-spec =
@@ -88,6 +84,5 @@ log-in-spec =
     slots-requires
     closed-reply-requires-3
     returns-3
-    free-count-requires
     logged-in-requires
     returns-4)

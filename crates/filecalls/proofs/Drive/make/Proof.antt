@@ -1,25 +1,24 @@
--- The tests in order, then what the crate below lays into the volume and the control block.
-use mathlib.Core.Path.{_≡_, refl, sym, _∙_}
-use Rattle.filecalls.specs.Outcome.{Act, unless, keeps, changedState}
-use Rattle.filecalls.proofs.FoundLaws.{named-no}
-use Rattle.filecalls.proofs.NamingLaws.{last-clear, refused-last, says-laid}
-use mathlib.Core.Bool.{false, not}
-use mathlib.Core.List.{[]}
-use native.Mathlib.Omega.{arith}
-use denote.Ref.{now}
-use lib.Dec.{eqb}
-use borrow.Author.Tests.{not-true, not-false}
-use Rattle.lists.specs.Bytes.{byte}
-use Rattle.volume.specs.Directory.{findSlot}
-use Rattle.volume.specs.Name.{nameOf}
-use Rattle.volume.specs.declared.Wanted.the-variants.{Empty}
-use Rattle.control.specs.Block.{made}
-use Rattle.naming.specs.Make.{makeTests, freshEntry}
-use Rattle.answers.specs.declared.Refusal.the-variants.{Position, Protected}
-use Rattle.filecalls.specs.Lent.{plainTests}
+-- What is lent refuses, or the making of the file decides, after the position and the protection.
+use Rattle.filecalls.proofs.NamingLaws.{after-two, named-no, named-decided}
 use Rattle.filecalls.specs.Names.{makeAct, makeLadder}
+use Rattle.filecalls.specs.Outcome.{entryTo, keeps, changedState, stored, storedAll}
+use Rattle.answers.specs.Refusal.{isNone}
+use Rattle.answers.specs.declared.Refusal.the-variants.{Position, Protected}
+use Rattle.naming.specs.Make.{makeTests, freshEntry}
+use Rattle.control.specs.Block.{made}
+use Rattle.volume.specs.Directory.{findSlot}
+use Rattle.volume.specs.declared.Wanted.the-variants.{Empty}
+use Rattle.lists.specs.Bytes.{byte}
+use lib.Dec.{eqb}
+use Prim.Native.Nat.{_%_}
+use mathlib.Core.Bool.{false, not}
+use Rattle.filecalls.proofs.OutcomeLaws.{either}
 use Rattle.filecalls.proofs.StateLaws.{Named, named}
-use Rattle.filecalls.proofs.OutcomeLaws.{stops-then, goes-on, stops-here, goes-by, says-no}
+use Rattle.volume.specs.Name.{nameOf}
+use denote.Ref.{now}
+use native.Mathlib.Omega.{arith}
+use mathlib.Core.List.{[], _∷_}
+use mathlib.Core.Path.{_≡_, refl, _∙_}
 use borrow.Author.Needs.{needs}
 use Rattle.filecalls.proofs.Drive.make.Statement.{statement}
 use Rattle.filecalls.proofs.Drive.make.Tie as tie
@@ -27,15 +26,6 @@ use Rattle.filecalls.proofs.Drive.make.Tie as tie
 -- the tests of what is lent have passed
 clear : (c : tie.Else1) → Named (c .before .before .before .before .before .before .before .args .self) (now (c .before .before .before .before .before .before .before .args .volume)) (now (c .before .before .before .before .before .before .before .args .f)) false
 clear c = named _ _ _ false (c .before .before .named-why .ensures) (c .before .is-none .ensures) (c .if1 .left)
-
--- what is left to decide once the drive is known to be writable
-past : (c : tie.Else3) (act : Act) → let a = c .before .before .before .before .before .before .before .before .before .before .args in
-    unless (makeLadder (a .self) (now (a .volume)) (now (a .f))) act
-    ≡ unless (makeTests (a .self .geometry) (now (a .volume)) (a .self .user) (nameOf (now (a .f)))) act
-unfolding makeLadder
-past c act = let a = c .before .before .before .before .before .before .before .before .before .before .args in
-    goes-on (plainTests (a .self) (now (a .volume)) (now (a .f)) false) Position (not (eqb (byte (now (a .f)) 12) 0)) _ act (clear (c .before .before .before) .none) (c .before .if2 .left)
-    ∙ goes-by Protected (a .self .protected) _ act (c .if3 .left)
 
 named-why-requires : tie.Need-named-why-requires
 named-why-requires c κs = search needs
@@ -58,11 +48,26 @@ returns c =
     let a = c .before .before .before .before .before .before .before .before .args in
     named-no (a .self) (now (a .volume)) (now (a .f)) false _ _ (c .before .before .before .named-why .ensures) (c .before .before .is-none .ensures) (c .before .if1 .taken) (c .refused .ensures)
 
-slice-read-first : tie.Need-slice-read-first
-slice-read-first c = omega (arith, clear (c .before) .lent .block)
+slice-read-refuse : tie.Need-slice-read-refuse
+slice-read-refuse c = omega (arith, clear (c .before) .lent .block)
 
-refused-requires-2 : tie.Need-refused-requires-2
-refused-requires-2 c κs = search needs
+refuse-requires : tie.Need-refuse-requires
+refuse-requires c κs = search needs
+
+refuse-requires-2 : tie.Need-refuse-requires-2
+refuse-requires-2 c κs = search needs
+
+first-of-requires : tie.Need-first-of-requires
+first-of-requires c κs = search needs
+
+make-file-requires : tie.Need-make-file-requires
+make-file-requires c κs = let l = clear (c .before .before .before .before .before .before .before) .lent in (l .state .law, (l .volume, l .block))
+
+cast-answered : tie.Need-cast-answered
+cast-answered c = search needs
+
+answered-requires : tie.Need-answered-requires
+answered-requires c κs = search needs
 
 same-length-3 : tie.Need-same-length-3
 same-length-3 c = search needs
@@ -71,80 +76,19 @@ same-length-4 : tie.Need-same-length-4
 same-length-4 c = search needs
 
 returns-2 : tie.Need-returns-2
-unfolding makeAct makeLadder
+unfolding makeAct makeLadder changedState stored storedAll
 returns-2 c =
-    let a = c .before .before .before .before .before .before .before .before .before .before .args in
-    says-no (a .self) (now (a .volume)) (now (a .f)) []
-    (stops-then (plainTests (a .self) (now (a .volume)) (now (a .f)) false) Position (not (eqb (byte (now (a .f)) 12) 0)) _ _ (clear (c .before .before .before) .none) (c .before .if2 .taken) refl)
-    (c .refused2 .ensures)
-
-refused-requires-3 : tie.Need-refused-requires-3
-refused-requires-3 c κs = search needs
-
-same-length-5 : tie.Need-same-length-5
-same-length-5 c = search needs
-
-same-length-6 : tie.Need-same-length-6
-same-length-6 c = search needs
-
-returns-3 : tie.Need-returns-3
-unfolding makeAct makeLadder
-returns-3 c =
-    let a = c .before .before .before .before .before .before .before .before .before .before .before .args in
-    says-no (a .self) (now (a .volume)) (now (a .f)) []
-    (goes-on (plainTests (a .self) (now (a .volume)) (now (a .f)) false) Position (not (eqb (byte (now (a .f)) 12) 0)) _ _ (clear (c .before .before .before .before) .none) (c .before .before .if2 .left)
-    ∙ stops-here Protected (a .self .protected) _ _ (c .before .if3 .taken) refl)
-    (c .refused3 .ensures)
-
-make-file-requires : tie.Need-make-file-requires
-make-file-requires c κs = let l = clear (c .before .before .before .before .before .before) .lent in (l .state .law, (l .volume, l .block))
-
-is-none-requires-2 : tie.Need-is-none-requires-2
-is-none-requires-2 c κs = search needs
-
-refused-requires-4 : tie.Need-refused-requires-4
-refused-requires-4 c κs = search needs
-
-same-length-7 : tie.Need-same-length-7
-same-length-7 c = search needs
-
-same-length-8 : tie.Need-same-length-8
-same-length-8 c = search needs
-
-returns-4 : tie.Need-returns-4
-unfolding makeAct
-returns-4 c =
     let a = c .before .before .before .before .before .before .before .before .before .before .before .before .before .before .before .before .before .before .before .before .before .args in
-    let m = c .before .before .before .before .before .before .before .make-file in
-    let n = sym (c .before .before .is-none2 .ensures) ∙ not-true _ (c .before .if4 .taken) in
-    rw (m .ensures .1 .1 .0, m .ensures .1 .1 .1, n)
-    (refused-last (a .self) (now (a .volume)) (now (a .f)) [] (makeTests (a .self .geometry) (now (a .volume)) (a .self .user) (nameOf (now (a .f)))) _
-    (past (c .before .before .before .before .before .before .before .before .before .before .before) _) (m .ensures .0) (c .before .before .is-none2 .ensures) (c .before .if4 .taken) (c .refused4 .ensures))
-
-cast-done : tie.Need-cast-done
-cast-done c = search needs
-
-done-requires : tie.Need-done-requires
-done-requires c κs = search needs
-
-same-length-9 : tie.Need-same-length-9
-same-length-9 c = search needs
-
-same-length-10 : tie.Need-same-length-10
-same-length-10 c = search needs
-
-returns-5 : tie.Need-returns-5
-unfolding makeAct changedState
-returns-5 c =
-    let a = c .before .before .before .before .before .before .before .before .before .before .before .before .before .before .before .before .before .before .before .before .before .before .args in
-    let name = nameOf (now (a .f)) in
-    let m = c .before .before .before .before .before .before .before .before .make-file in
-    let n = sym (c .before .before .before .is-none2 .ensures) ∙ not-false _ (c .before .before .if4 .left) in
-    rw (m .ensures .1 .1 .0, m .ensures .1 .1 .1, n, m .ensures .1 .0)
-    (says-laid (a .self) (now (a .volume)) (now (a .f)) [] keeps (findSlot (a .self .geometry) (now (a .volume)) (a .self .user) name Empty) (freshEntry (a .self .user) name) (made (now (a .f)) name) []
-    (past (c .before .before .before .before .before .before .before .before .before .before .before .before) _
-    ∙ last-clear (makeTests (a .self .geometry) (now (a .volume)) (a .self .user) name) _ (m .ensures .0) (c .before .before .before .is-none2 .ensures) (c .before .before .if4 .left))
-    refl (c .done .ensures ∙ rw (m .ensures .1 .0)))
+    let d = a .self in
+    let v = now (a .volume) in
+    let f = now (a .f) in
+    let m = c .before .before .before .before .before .before .make-file in
+    let t = isNone (m .result .why) in
+    let slot = findSlot (d .geometry) v (d .user) (nameOf f) Empty in
+    let e : m .result .slot ≡ slot = m .ensures .1 .0 in
+    named-decided d v f (clear (c .before .before .before .before .before .before .before .before .before .before .before .before .before .before)) (slot % 4) keeps (entryTo slot (freshEntry (d .user) (nameOf f)) ∷ []) (made f (nameOf f)) _
+    (after-two Position Protected (not (eqb (byte f 12) 0)) (d .protected) (makeTests (d .geometry) v (d .user) (nameOf f)) refl (c .before .before .before .before .before .before .before .before .before .before .before .before .refuse .ensures) (c .before .before .before .before .before .before .before .before .before .before .before .refuse2 .ensures) (c .before .before .before .before .before .before .before .before .before .before .first-of .ensures) (m .ensures .0))
+    (either t d) (rw (← e) (m .ensures .1 .1 .0)) (m .ensures .1 .1 .1) (c .answered .ensures ∙ rw e)
 
 pub make-spec : {M : Type 1} → statement M
 make-spec =
@@ -156,23 +100,13 @@ make-spec =
     same-length
     same-length-2
     returns
-    slice-read-first
-    refused-requires-2
+    slice-read-refuse
+    refuse-requires
+    refuse-requires-2
+    first-of-requires
+    make-file-requires
+    cast-answered
+    answered-requires
     same-length-3
     same-length-4
-    returns-2
-    refused-requires-3
-    same-length-5
-    same-length-6
-    returns-3
-    make-file-requires
-    is-none-requires-2
-    refused-requires-4
-    same-length-7
-    same-length-8
-    returns-4
-    cast-done
-    done-requires
-    same-length-9
-    same-length-10
-    returns-5)
+    returns-2)

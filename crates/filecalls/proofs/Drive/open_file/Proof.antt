@@ -1,16 +1,23 @@
--- Each return stands at its test of the ladder; the last one asks whether the slot was found.
-use Rattle.filecalls.proofs.FoundLaws.{named-no, position-no, position-passed, found, not-found}
-use Rattle.filecalls.proofs.StateLaws.{Named, named}
+-- What is lent refuses, or the slot that open means decides.
 use Rattle.filecalls.specs.Open.{openAct, openTests}
-use borrow.Author.Tests.{lt-ltb, le-ltb}
-use denote.Ref.{now}
-use native.Mathlib.Omega.{arith}
+use Rattle.answers.specs.Refusal.{isNone}
+use Rattle.finding.specs.Open.{openSlot}
+use Rattle.control.specs.Block.{opened}
+use Rattle.volume.specs.Directory.{slotAt}
+use Prim.Native.Nat.{_%_}
 use mathlib.Core.Bool.{true}
-use mathlib.Core.Path.{_∙_}
+use Rattle.filecalls.proofs.NamingLaws.{named-no, named-decided}
+use Rattle.filecalls.proofs.OutcomeLaws.{either}
+use Rattle.filecalls.proofs.StateLaws.{Named, named}
+use Rattle.filecalls.specs.Outcome.{keeps, changedState, storedAll}
+use denote.Ref.{now}
+use mathlib.Core.List.{[]}
+use mathlib.Core.Path.{_≡_, _∙_}
 use borrow.Author.Needs.{needs}
 use Rattle.filecalls.proofs.Drive.open_file.Statement.{statement}
 use Rattle.filecalls.proofs.Drive.open_file.Tie as tie
 
+-- the tests of what is lent have passed
 clear : (c : tie.Else1) → Named (c .before .before .before .before .before .before .args .self) (now (c .before .before .before .before .before .before .args .volume)) (now (c .before .before .before .before .before .before .args .f)) true
 clear c = named _ _ _ true (c .before .before .named-why .ensures) (c .before .is-none .ensures) (c .if1 .left)
 
@@ -28,56 +35,35 @@ same-length c = search needs
 
 returns : tie.Need-returns
 unfolding openAct openTests
-returns c = named-no _ _ _ true _ _ (c .before .before .before .named-why .ensures) (c .before .before .is-none .ensures) (c .before .if1 .taken) (c .refused .ensures)
+returns c =
+    let a = c .before .before .before .before .before .before .before .args in
+    named-no (a .self) (now (a .volume)) (now (a .f)) true _ _ (c .before .before .before .named-why .ensures) (c .before .before .is-none .ensures) (c .before .if1 .taken) (c .refused .ensures)
 
-slice-read-fits : tie.Need-slice-read-fits
-slice-read-fits c = omega (arith, clear (c .before) .lent .block)
+open-file-requires : tie.Need-open-file-requires
+open-file-requires c κs = let l = clear (c .before .before) .lent in (l .state .law, (l .volume, l .block))
 
-refused-requires-2 : tie.Need-refused-requires-2
-refused-requires-2 c κs = search needs
+cast-answered : tie.Need-cast-answered
+cast-answered c = search needs
+
+answered-requires : tie.Need-answered-requires
+answered-requires c κs = search needs
 
 same-length-2 : tie.Need-same-length-2
 same-length-2 c = search needs
 
 returns-2 : tie.Need-returns-2
-unfolding openAct openTests
-returns-2 c = position-no (clear (c .before .before .before)) _ _ (c .before .if2 .taken) (c .refused2 .ensures)
-
-open-file-requires : tie.Need-open-file-requires
-open-file-requires c κs = let l = clear (c .before .before .before .before) .lent in (l .state .law, (l .volume, l .block))
-
-slots-requires : tie.Need-slots-requires
-slots-requires c κs = clear (c .before .before .before .before .before .before .before) .lent .state .law
-
-cast-done : tie.Need-cast-done
-cast-done c = search needs
-
-done-requires : tie.Need-done-requires
-done-requires c κs = search needs
-
-same-length-3 : tie.Need-same-length-3
-same-length-3 c = search needs
-
-returns-3 : tie.Need-returns-3
-unfolding openAct openTests
-returns-3 c =
-    let n = c .before .before .slots .ensures .0 in
-    let e = c .before .before .before .before .before .open-file .ensures in
-    found _ _ _ (position-passed (clear (c .before .before .before .before .before .before .before .before .before .before)) (c .before .before .before .before .before .before .before .before .if2 .left)) n (e .0 .0) (c .before .if3 .taken) (c .done .ensures ∙ rw (e .0 .0))
-    (e .1 ∙ rw (← n, lt-ltb _ _ (c .before .if3 .taken), e .0 .0))
-
-refused-requires-3 : tie.Need-refused-requires-3
-refused-requires-3 c κs = search needs
-
-same-length-4 : tie.Need-same-length-4
-same-length-4 c = search needs
-
-returns-4 : tie.Need-returns-4
-unfolding openAct openTests
-returns-4 c =
-    let n = c .before .before .slots .ensures .0 in
-    let e = c .before .before .before .before .before .open-file .ensures in
-    not-found _ _ _ _ (position-passed (clear (c .before .before .before .before .before .before .before .before .before .before)) (c .before .before .before .before .before .before .before .before .if2 .left)) n (e .0 .0) (c .before .if3 .left) (c .refused3 .ensures) (e .1 ∙ rw (← n, le-ltb _ _ (c .before .if3 .left)))
+unfolding openAct openTests changedState storedAll
+returns-2 c =
+    let a = c .before .before .before .before .before .before .before .before .before .before .before .before .before .args in
+    let d = a .self in
+    let v = now (a .volume) in
+    let f = now (a .f) in
+    let m = c .before .before .before .before .open-file in
+    let t = isNone (m .result .why) in
+    let slot = openSlot (d .geometry) v (d .user) f in
+    let e : m .result .slot ≡ slot = m .ensures .1 .0 in
+    named-decided d v f (clear (c .before .before .before .before .before .before .before)) (slot % 4) keeps [] (opened f (slotAt (d .geometry) v slot)) _
+    (m .ensures .0) (either t d) (either t v) (rw (← e) (m .ensures .1 .1)) (c .answered .ensures ∙ rw e)
 
 pub open-file-spec : {M : Type 1} → statement M
 open-file-spec =
@@ -88,16 +74,8 @@ open-file-spec =
     refused-requires
     same-length
     returns
-    slice-read-fits
-    refused-requires-2
-    same-length-2
-    returns-2
     open-file-requires
-    slots-requires
-    cast-done
-    done-requires
-    same-length-3
-    returns-3
-    refused-requires-3
-    same-length-4
-    returns-4)
+    cast-answered
+    answered-requires
+    same-length-2
+    returns-2)

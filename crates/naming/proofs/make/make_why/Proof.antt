@@ -7,10 +7,10 @@ use Rattle.volume.specs.Directory.{findSlot}
 use Rattle.volume.specs.Name.{strip}
 use Rattle.volume.specs.Geometry.{slots}
 use Rattle.volume.specs.declared.Wanted.the-variants.{Empty, File}
-use Rattle.answers.specs.Refusal.{isNone, firstMet}
+use Rattle.answers.specs.Refusal.{isNone, first, firstMet}
 use Rattle.answers.specs.declared.Refusal.the-variants.{Exists, NoRoom}
 use Rattle.naming.specs.Make.{makeTests}
-use Rattle.naming.proofs.MakeLaws.{empty-slot-below}
+use Rattle.naming.proofs.MakeLaws.{empty-slot-below, later-clear}
 use Rattle.answers.proofs.Ladder.{ladder-two}
 use Rattle.naming.proofs.make.make_why.Statement.{statement}
 use Rattle.naming.proofs.make.make_why.Tie as tie
@@ -41,10 +41,14 @@ refuse-requires-2 c κs = search needs
 first-of-requires : tie.Need-first-of-requires
 first-of-requires c κs = search needs
 
+first-of-requires-2 : tie.Need-first-of-requires-2
+first-of-requires-2 c κs = search needs
+
 returns : tie.Need-returns
 returns c =
-    let a = c .before .before .before .before .before .before .before .before .args in
-    (why c, (c .before .before .before .find2 .ensures .0, λ q. rw (c .before .before .before .find2 .ensures .0) (empty-slot-below (a .g) (now (a .volume)) (a .user) (strip (now (a .name))) (ap isNone (sym (why c)) ∙ q))))
+    let a = c .before .before .before .before .before .before .before .before .before .args in
+    let e = c .first-of2 .ensures ∙ ap (first (a .before)) (why (c .before)) in
+    (e, (c .before .before .before .before .find2 .ensures .0, λ q. rw (c .before .before .before .before .find2 .ensures .0) (empty-slot-below (a .g) (now (a .volume)) (a .user) (strip (now (a .name))) (later-clear (a .before) _ (ap isNone (sym e) ∙ q)))))
 
 pub make-why-spec : {M : Type 1} → statement M
 make-why-spec =
@@ -56,4 +60,5 @@ make-why-spec =
     refuse-requires
     refuse-requires-2
     first-of-requires
+    first-of-requires-2
     returns)
