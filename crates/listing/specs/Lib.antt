@@ -1,0 +1,2 @@
+-- The text that the lister prints for a volume.
+pub mod Listing
