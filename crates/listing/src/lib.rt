@@ -1,6 +1,6 @@
 // The listing of a volume of V's geometry: the text that the lister prints, laid into a lent buffer.
 ghost use mathlib.Core.Path.{_≡_};
-ghost use Rattle.text.specs.Text.{Text, text, puts};
+ghost use Rattle.text.specs.Text.{text, puts};
 ghost use Rattle.listing.specs.Listing.{geometryV, refusedWord, listing};
 ghost use mathlib.Core.List.{_++_};
 ghost use Rattle.text.specs.Decimal.{decimal};

@@ -5,7 +5,7 @@ ghost use Prim.Native.Nat.{_<_};
 ghost use lib.ListN.{length};
 ghost use Rattle.volume.specs.Geometry.{lawful, bytes, slots};
 ghost use Rattle.volume.specs.Name.{strip};
-ghost use Rattle.text.specs.Text.{Text, text, puts};
+ghost use Rattle.text.specs.Text.{text, puts};
 ghost use Rattle.listing.specs.Listing.{isListed, nameText, line, lineAt, linesFrom, accepted};
 use crate::blocks_held;
 use volume::Geometry;

@@ -1,10 +1,9 @@
 -- Log-in's answer says which listing it is.
-use mathlib.Core.Path.{_≡_, sym, ap, _∙_}
+use mathlib.Core.Path.{sym, ap, _∙_}
 use mathlib.Core.List.{_++_}
 use denote.Ref.{now}
 use Rattle.listing.proofs.ListingLaws.{listing-is, may-list}
 use Rattle.listing.specs.Listing.{listingFor, refusedWord}
-use Rattle.answers.specs.declared.Answer.the-variants.{Done, Ready, BadSlot, Refused}
 use Rattle.text.proofs.TextLaws.{wrote, wrote-byte, then}
 use Rattle.text.specs.Decimal.{decimal}
 use Rattle.text.specs.Text.{text, puts}

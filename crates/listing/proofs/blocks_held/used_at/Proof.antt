@@ -1,8 +1,6 @@
 -- The branches are the definition's.
 use native.Mathlib.Omega.{arith}
-use denote.Ref.{now}
 use borrow.Author.Tests.{eq-eqb, ne-eqb}
-use Rattle.volume.specs.Entry.{blockIn}
 use borrow.Author.Needs.{needs}
 use Rattle.listing.proofs.blocks_held.used_at.Statement.{statement}
 use Rattle.listing.proofs.blocks_held.used_at.Tie as tie

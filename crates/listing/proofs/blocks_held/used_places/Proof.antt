@@ -1,6 +1,5 @@
 -- The places seen so far and those still to be seen give the count.
 use Prim.Native.Nat.{_≤_, _-_}
-use native.Mathlib.Omega.{arith}
 use Rattle.listing.proofs.ListingLaws.{Counted, counted-start, counted-next, counted-end}
 use Rattle.listing.specs.Listing.{isUsed, usedPlaces}
 use Rattle.volume.specs.Entry.{places}

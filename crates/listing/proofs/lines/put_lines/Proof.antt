@@ -1,12 +1,12 @@
 -- The lines that are still to be appended from here give the whole.
 use mathlib.Core.Path.{_≡_, refl, sym, _∙_}
-use Prim.Native.Nat.{_≤_, _-_, _+_}
+use Prim.Native.Nat.{_≤_, _-_}
 use native.Mathlib.Omega.{arith}
 use denote.Ref.{now}
 use lib.ListN.{length}
 use Rattle.listing.proofs.ListingLaws.{lines-next, lines-end}
 use Rattle.listing.specs.Listing.{linesFrom}
-use Rattle.text.specs.Text.{Text, text, puts}
+use Rattle.text.specs.Text.{text, puts}
 use Rattle.volume.specs.Geometry.{slots}
 use borrow.Author.Needs.{needs}
 use Rattle.listing.proofs.lines.put_lines.Statement.{statement}

@@ -4,7 +4,7 @@ use mathlib.Core.Path.{_≡_, refl, sym, ap, _∙_}
 use native.Mathlib.Omega.{arith}
 use lib.ListN.{length, drop}
 use Rattle.listing.proofs.ListingLaws.{strip-next, strip-end}
-use Rattle.text.specs.Text.{Text, text, puts, putByte}
+use Rattle.text.specs.Text.{Text, text, puts}
 use Rattle.volume.specs.Name.{strip}
 use borrow.Author.Needs.{needs}
 use Rattle.listing.proofs.lines.put_stripped.Statement.{statement}
