@@ -2,18 +2,15 @@
 use libc::STDIN_FILENO;
 use libc::STDOUT_FILENO;
 
-// Prints the listing; out has room for the header, 32 lines and the free blocks.
 fn print(volume: &[u8], out: &mut [u8]) {
     let n = listing::list(volume, out);
-    if n <= out.len() {
-        io::write_all(STDOUT_FILENO, &out[0..n]);
-    }
+    io::write_all(STDOUT_FILENO, &out[0..n]);
 }
 
 // One byte more than a volume has is room enough to notice a longer input.
 fn main() {
     let mut volume = [0u8; 40961];
     let n = io::read_full(STDIN_FILENO, &mut volume);
-    let mut out = [0u8; 1024];
+    let mut out = [0u8; listing::ROOM];
     print(&volume[..n], &mut out);
 }

@@ -1,2 +1,3 @@
--- Laws of the listing.
+-- Laws of the listing, and that it fits.
 pub mod ListingLaws
+pub mod RoomLaws

@@ -13,9 +13,9 @@ use Rattle.lists.specs.Search.{countFrom}
 use Rattle.volume.specs.declared.Geometry.{Geometry}
 use Rattle.volume.specs.Geometry.{lawful, bytes}
 use Rattle.volume.specs.Name.{strip}
-use Rattle.text.specs.Text.{Text, puts}
+use Rattle.text.specs.Text.{Text, text, puts}
 use Rattle.text.specs.Decimal.{decimal}
-use Rattle.text.proofs.TextLaws.{Wrote, wrote, puts-append}
+use Rattle.text.proofs.TextLaws.{Wrote, wrote, puts-append, puts-within}
 use Rattle.answers.specs.declared.Refusal.the-variants.{VolumeLength}
 use Rattle.answers.specs.declared.Answer.{Answer}
 use Rattle.answers.specs.declared.Answer.the-variants.{Ready, Refused}
@@ -88,9 +88,16 @@ module _ (v : List ℕ) {g : Geometry} {r : Reply} (is-v : g ≡ geometryV) (sai
   answered : (a : Answer) → r .answer ≡ a → logIn geometryV v .answer ≡ a
   answered a e = ap (λ (x : Geometry). logIn x v .answer) (sym is-v) ∙ sym (ap (λ (x : Reply). x .answer) said) ∙ e
 
-  pub listing-is : (a : Answer) → r .answer ≡ a → listing v ≡ listingFor a g v
+  listing-is : (a : Answer) → r .answer ≡ a → listing v ≡ listingFor a g v
   unfolding listing
   listing-is a e = ap (λ (x : Answer). listingFor x geometryV v) (answered a e) ∙ ap (λ (x : Geometry). listingFor a x v) (sym is-v)
+
+  -- what was appended for that answer is the listing, and the place behind it is within the buffer
+  pub listed : {out : List ℕ} {n : ℕ} (s : List ℕ) (a : Answer) → r .answer ≡ a → text out n ≡ puts (text s 0) (listingFor a g v)
+      → (text out n ≡ puts (text s 0) (listing v)) × (n ≤ length out)
+  listed {out} {n} s a e w =
+      let is : text out n ≡ puts (text s 0) (listing v) = w ∙ ap (puts (text s 0)) (sym (listing-is a e)) in
+      (is, rw (← is) at (puts-within (text s 0) (listing v) (omega arith)))
 
   pub may-list : (free : ℕ) → r .answer ≡ Ready free → (lawful g ≡ true) × (length v ≡ bytes g)
   unfolding lawful

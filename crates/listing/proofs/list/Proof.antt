@@ -1,12 +1,12 @@
 -- Log-in's answer says which listing it is.
-use mathlib.Core.Path.{sym, ap, _∙_}
+use mathlib.Core.Path.{refl}
 use mathlib.Core.List.{_++_}
 use denote.Ref.{now}
-use Rattle.listing.proofs.ListingLaws.{listing-is, may-list}
+use Rattle.listing.proofs.ListingLaws.{listed, may-list}
 use Rattle.listing.specs.Listing.{listingFor, refusedWord}
 use Rattle.text.proofs.TextLaws.{wrote, wrote-byte, then}
 use Rattle.text.specs.Decimal.{decimal}
-use Rattle.text.specs.Text.{text, puts}
+use Rattle.text.specs.Text.{puts}
 use borrow.Author.Needs.{needs}
 use Rattle.listing.proofs.list.Statement.{statement}
 use Rattle.listing.proofs.list.Tie as tie
@@ -58,7 +58,9 @@ same-length c = search needs
 
 returns : tie.Need-returns
 unfolding listingFor
-returns c = c .before .before .put-accepted .ensures ∙ ap (puts (text (now (c .before .before .before .before .before .before .before .before .before .before .before .args .out)) 0)) (sym (listing-is (now (c .before .before .before .before .before .before .before .before .before .before .before .args .volume)) (c .before .before .before .before .before .before .before .before .geometry .ensures) (c .before .before .before .before .before .before .before .log-in .ensures) _ (c .before .before .before .before .before .answer .given .1)))
+returns c =
+    listed (now (c .before .before .before .before .before .before .before .before .before .before .before .args .volume)) (c .before .before .before .before .before .before .before .before .geometry .ensures) (c .before .before .before .before .before .before .before .log-in .ensures) (now (c .before .before .before .before .before .before .before .before .before .before .before .args .out)) _ (c .before .before .before .before .before .answer .given .1)
+    (c .before .before .put-accepted .ensures)
 
 same-length-2 : tie.Need-same-length-2
 same-length-2 c = search needs
@@ -66,11 +68,11 @@ same-length-2 c = search needs
 returns-2 : tie.Need-returns-2
 unfolding listingFor
 returns-2 c =
-    then (wrote (refusedWord ++ decimal 36) (c .before .before .before .before .before .before .before .before .before .before .before .before .before .before .put-refused .ensures))
+    listed (now (c .before .before .before .before .before .before .before .before .before .before .before .before .before .before .before .before .before .before .before .before .before .before .before .args .volume)) (c .before .before .before .before .before .before .before .before .before .before .before .before .before .before .before .before .before .before .before .before .geometry .ensures) (c .before .before .before .before .before .before .before .before .before .before .before .before .before .before .before .before .before .before .before .log-in .ensures) (now (c .before .before .before .before .before .before .before .before .before .before .before .before .before .before .before .before .before .before .before .before .before .before .before .args .out)) _ (c .before .before .before .before .before .before .before .before .before .before .before .before .before .before .before .before .before .answer2 .given .1)
+    (then (wrote (refusedWord ++ decimal 36) (c .before .before .before .before .before .before .before .before .before .before .before .before .before .before .put-refused .ensures))
     (then (wrote-byte 32 (c .before .before .before .before .before .before .before .before .before .before .put-byte .ensures))
     (then (wrote _ (c .before .before .before .before .before .before .put-decimal .ensures))
-    (wrote-byte 10 (c .before .before .put-byte2 .ensures)))) .is
-    ∙ ap (puts (text (now (c .before .before .before .before .before .before .before .before .before .before .before .before .before .before .before .before .before .before .before .before .before .before .before .args .out)) 0)) (sym (listing-is (now (c .before .before .before .before .before .before .before .before .before .before .before .before .before .before .before .before .before .before .before .before .before .before .before .args .volume)) (c .before .before .before .before .before .before .before .before .before .before .before .before .before .before .before .before .before .before .before .before .geometry .ensures) (c .before .before .before .before .before .before .before .before .before .before .before .before .before .before .before .before .before .before .before .log-in .ensures) _ (c .before .before .before .before .before .before .before .before .before .before .before .before .before .before .before .before .before .answer2 .given .1)))
+    (wrote-byte 10 (c .before .before .put-byte2 .ensures)))) .is)
 
 same-length-3 : tie.Need-same-length-3
 same-length-3 c = search needs
@@ -78,12 +80,14 @@ same-length-3 c = search needs
 returns-3 : tie.Need-returns-3
 unfolding listingFor
 returns-3 c =
-    then (wrote _ (c .before .before .before .before .before .before .put-refused2 .ensures)) (wrote-byte 10 (c .before .before .put-byte3 .ensures)) .is
-    ∙ rw (c .before .before .before .before .before .before .before .refusal-number .ensures) (ap (puts (text (now (c .before .before .before .before .before .before .before .before .before .before .before .before .before .before .before .before .args .out)) 0)) (sym (listing-is (now (c .before .before .before .before .before .before .before .before .before .before .before .before .before .before .before .before .args .volume)) (c .before .before .before .before .before .before .before .before .before .before .before .before .before .geometry .ensures) (c .before .before .before .before .before .before .before .before .before .before .before .before .log-in .ensures) _ (c .before .before .before .before .before .before .before .before .before .before .answer3 .given .1))))
+    listed (now (c .before .before .before .before .before .before .before .before .before .before .before .before .before .before .before .before .args .volume)) (c .before .before .before .before .before .before .before .before .before .before .before .before .before .geometry .ensures) (c .before .before .before .before .before .before .before .before .before .before .before .before .log-in .ensures) (now (c .before .before .before .before .before .before .before .before .before .before .before .before .before .before .before .before .args .out)) _ (c .before .before .before .before .before .before .before .before .before .before .answer3 .given .1)
+    (rw (← c .before .before .before .before .before .before .before .refusal-number .ensures)
+    (then (wrote _ (c .before .before .before .before .before .before .put-refused2 .ensures)) (wrote-byte 10 (c .before .before .put-byte3 .ensures)) .is))
 
 returns-4 : tie.Need-returns-4
 unfolding listingFor puts
-returns-4 c = rw (listing-is (now (c .before .before .before .before .before .before .args .volume)) (c .before .before .before .geometry .ensures) (c .before .before .log-in .ensures) _ (c .enum-told .given .1))
+returns-4 c =
+    listed (now (c .before .before .before .before .before .before .args .volume)) (c .before .before .before .geometry .ensures) (c .before .before .log-in .ensures) (now (c .before .before .before .before .before .before .args .out)) _ (c .enum-told .given .1) refl
 
 pub list-spec : {M : Type 1} → statement M
 list-spec =
