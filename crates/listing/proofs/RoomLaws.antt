@@ -1,12 +1,13 @@
 -- Every listing fits into its room: on a volume that log-in accepts no number is long.
-use mathlib.Core.Path.{_≡_, refl}
+use mathlib.Core.Path.{_≡_, refl, ap, _∙_}
 use mathlib.Core.Bool.{Bool, true, false, not, cond}
-use mathlib.Core.List.{List, [], _++_}
+use mathlib.Core.List.{List, []}
 use Prim.Native.Nat.{ℕ, zero, suc, _+_, _*_, _/_, _≤_, _<_, max}
 use native.Mathlib.Decide.{decLt}
 use native.Mathlib.Omega.{arith}
 use lib.Dec.{eqb, ltb}
-use lib.ListN.{length, drop, length-append, length-take}
+use lib.ListN.{length, take, drop, length-append, length-take}
+use lib.Seq.{take-at}
 use borrow.Author.Tests.{eqb-true, ne-eqb, not-true, ltb-false}
 use Rattle.lists.specs.Search.{countFrom, fold}
 use Rattle.lists.specs.Bytes.{byte, part}
@@ -23,7 +24,7 @@ use Rattle.inspection.specs.GoodSlot.{goodSlot, lowestBad}
 use Rattle.inspection.specs.Named.{heldOf}
 use Rattle.inspection.proofs.GoodLaws.{Fields, fields-good, good-facts}
 use Rattle.inspection.proofs.AcceptedLaws.{lowest-bad-le, accepted}
-use Rattle.text.specs.Text.{text, puts}
+use Rattle.text.specs.Text.{Text, text, puts}
 use Rattle.text.specs.Decimal.{decimal}
 use Rattle.text.proofs.TextLaws.{puts-room}
 use Rattle.text.proofs.DecimalLaws.{decimal-one, decimal-more}
@@ -198,10 +199,12 @@ module _ (v : List ℕ) where
           rw (answer-is true false e f) (accepted-short ok)
 
 -- ---- the theorem
-listing-whole : (v out : List ℕ) → room ≤ length out → puts (text out 0) (listing v) ≡ text (listing v ++ drop (length (listing v)) out) (length (listing v))
-listing-whole v out h =
-    let z : 0 + length (listing v) ≡ length (listing v) = omega arith in
-    rw z at (puts-room (listing v) out 0 (omega (arith, listing-short v)))
+listing-whole : (v out after : List ℕ) (n : ℕ) → room ≤ length out → text after n ≡ puts (text out 0) (listing v) → take n after ≡ listing v
+listing-whole v out after n h e =
+    let l = listing v in
+    let is = e ∙ puts-room l out 0 (omega (arith, listing-short v)) in
+    let z : n ≡ length l = ap (λ (t : Text). t .at) is ∙ omega arith in
+    rw z (ap (λ (t : Text). take (length l) (t .bytes)) is ∙ take-at l (drop (0 + length l) out) (length l) refl)
 
 pub fits : Fits
 fits = record { short = listing-short; whole = listing-whole }
