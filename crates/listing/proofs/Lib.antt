@@ -1,3 +1,4 @@
--- Laws of the listing, and that it fits.
+-- Laws of the listing, how long its lines can be, and that it fits.
 pub mod ListingLaws
+pub mod LineLaws
 pub mod RoomLaws
