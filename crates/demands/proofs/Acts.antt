@@ -15,14 +15,14 @@ use Rattle.reading.specs.Read.{readBytes}
 use Rattle.filecalls.specs.declared.Drive.{Drive}
 use Rattle.filecalls.specs.declared.Search.{Search}
 use Rattle.filecalls.specs.Outcome.{Change, keeps, takes, frees, protects, becomes, searches, Store, Act, deny, done, unless, storedAll, changedState, Outcome, outcome}
-use Rattle.demands.proofs.Sound.{Sound, Held}
+use Rattle.demands.proofs.Orderly.{Orderly, Held}
 use Rattle.demands.proofs.Frame.{Apart, present-same, bytes-same}
 
 -- the invariant of a run
 pub record Consistent (d : Drive) (v : List ℕ) : Type 0 where
   pub law : lawful (d .geometry) ≡ true
   pub size : length v ≡ bytes (d .geometry)
-  pub sound : Sound (d .geometry) (slotAt (d .geometry) v)
+  pub sound : Orderly (d .geometry) (slotAt (d .geometry) v)
   pub held : Held (d .geometry) (d .held) (slotAt (d .geometry) v)
 
 -- the file has the same records present with the same bytes

@@ -33,7 +33,7 @@ use Rattle.bdos.specs.declared.Call.the-variants.{LogIn, Open, Close, SearchFir
 use Rattle.bdos.specs.Step.{keepsBuffer, keepsBlock, keepsVolume}
 use Rattle.bdos.specs.Step as door
 use Rattle.demands.specs.Demand3.{Bytes, names}
-use Rattle.demands.proofs.Sound.{Sound}
+use Rattle.demands.proofs.Orderly.{Orderly}
 use Rattle.demands.proofs.Inspected.{sound-accepted, held-of}
 use Rattle.demands.proofs.Acts.{Consistent, Keeps, denied, does, keeps-unless, still, still-search, StepKeeps, outcome-keeps, leaves-all}
 use Rattle.demands.proofs.MakeKeeps.{make-keeps}
@@ -43,7 +43,7 @@ use Rattle.demands.proofs.RenameKeeps.{rename-keeps}
 use Rattle.demands.proofs.AttributesKeep.{attributes-keep}
 
 -- ---- log-in of a volume that passes inspection
-module _ (g : Geometry) (law : lawful g ≡ true) (v : List ℕ) (size : length v ≡ bytes g) (sound : Sound g (slotAt g v)) where
+module _ (g : Geometry) (law : lawful g ≡ true) (v : List ℕ) (size : length v ≡ bytes g) (sound : Orderly g (slotAt g v)) where
   no-test : isNone (firstMet (logInTests g v)) ≡ true
   unfolding logInTests firstMet
   no-test = rw (law, eq-eqb (length v) (bytes g) size, le-ltb (lowestBad g v) (slots g) (omega (arith, sound-accepted g v sound)))

@@ -35,7 +35,7 @@ use Rattle.filecalls.specs.State.{isOpen}
 use Rattle.filecalls.specs.Outcome.{stored, storedAll, changedState}
 use Rattle.filecalls.specs.Names.{deleteLadder, deleteAct}
 use Rattle.filecalls.proofs.StateLaws.{is-open}
-use Rattle.demands.proofs.Sound.{Live, Sound, HeldBy, Held, sound-less}
+use Rattle.demands.proofs.Orderly.{Live, Orderly, HeldBy, Held, sound-less}
 use Rattle.demands.proofs.Frame.{Touch, unchanged, foreign, Apart}
 use Rattle.demands.proofs.Acts.{Consistent, Keeps, does, keeps-unless, leaves-apart}
 use Rattle.demands.proofs.Files.{matched, other-match, user-live, file-block, empty-foreign}
@@ -80,7 +80,7 @@ module _ (g : Geometry) (law : lawful g ≡ true) (v : List ℕ) (u : ℕ) (patt
       let p = any-true (λ q. eqb (blockIn g (slotAt g v j) q) b) 0 (places g) (m .1) in
       record { hit = m .0; place = p .place; place< = omega (arith, p .below); is = eqb-true (blockIn g (slotAt g v j) (p .place)) b (p .passes) }
 
-module _ (g : Geometry) (law : lawful g ≡ true) (v : List ℕ) (size : length v ≡ bytes g) (sound : Sound g (slotAt g v)) (h : List ℕ) (held : Held g h (slotAt g v))
+module _ (g : Geometry) (law : lawful g ≡ true) (v : List ℕ) (size : length v ≡ bytes g) (sound : Orderly g (slotAt g v)) (h : List ℕ) (held : Held g h (slotAt g v))
     (u : ℕ) (u15 : u ≤ 15) (pattern : List ℕ) where
   abbrev v′ : List ℕ
   v′ = mapSlots g (changed Erase u pattern []) v
@@ -111,7 +111,7 @@ module _ (g : Geometry) (law : lawful g ≡ true) (v : List ℕ) (size : length 
   pub delete-size : length v′ ≡ bytes g
   delete-size = mapSlots-length g law (changed Erase u pattern []) (erases-length u pattern) v size ∙ size
 
-  pub delete-sound : Sound g (slotAt g v′)
+  pub delete-sound : Orderly g (slotAt g v′)
   delete-sound = sound-less g (slotAt g v) (slotAt g v′) sound (λ j j< l. after-miss j j< (missed j j< l))
 
   pub delete-held : Held g h′ (slotAt g v′)

@@ -22,7 +22,7 @@ use Rattle.bdos.specs.declared.Call.the-variants.{LogIn}
 use Rattle.bdos.specs.Step.{Asked, callOf, does, step}
 use Rattle.demands.specs.Run.{Seen, seen, answers, final, plainStep}
 use Rattle.demands.specs.Demand3.{Bytes, BytesLent, touches, touched, Kept, Demand3, NoBlockTwice}
-use Rattle.demands.proofs.Sound.{held-agree}
+use Rattle.demands.proofs.Orderly.{held-agree}
 use Rattle.demands.proofs.Inspected.{accepted-sound, sound-accepted, held-of}
 use Rattle.demands.proofs.Acts.{Consistent, Leaves, StepKeeps}
 use Rattle.demands.proofs.Agree.{Alike, does-alike}

@@ -16,7 +16,7 @@ use Rattle.volume.specs.Directory.{slotAt, mapSlots}
 use Rattle.volume.proofs.DirectoryLaws.{slot-length}
 use Rattle.volume.proofs.SweepLaws.{mapSlots-length, mapSlots-slot, mapSlots-record}
 use Rattle.inspection.proofs.TwinLaws.{Twins}
-use Rattle.demands.proofs.Sound.{InOrder, Sound, Changed, Held, sound-changed, held-changed}
+use Rattle.demands.proofs.Orderly.{InOrder, Orderly, Changed, Held, sound-changed, held-changed}
 use Rattle.demands.proofs.Frame.{Touch, unchanged, foreign, Apart}
 use Rattle.demands.proofs.Files.{IsOf, is-of, of-file, other-file, file-block}
 use Rattle.demands.proofs.NamedEntry.{Renames}
@@ -26,7 +26,7 @@ pub record Edits (u : ℕ) (name to : List ℕ) (f : Entry → Entry) : Type 0 w
   pub meant : (e : Entry) → length e ≡ 32 → IsOf u name e → Renames to e (f e)
   pub others : (e : Entry) → ofFile u name e ≡ false → f e ≡ e
 
-module _ (g : Geometry) (law : lawful g ≡ true) (v : List ℕ) (size : length v ≡ bytes g) (sound : Sound g (slotAt g v)) (h : List ℕ) (held : Held g h (slotAt g v))
+module _ (g : Geometry) (law : lawful g ≡ true) (v : List ℕ) (size : length v ≡ bytes g) (sound : Orderly g (slotAt g v)) (h : List ℕ) (held : Held g h (slotAt g v))
     (u : ℕ) (name to : List ℕ) (good : goodName false to ≡ true) (f : Entry → Entry) (edits : Edits u name to f)
     (free : (j : ℕ) → j < slots g → ofFile u name (slotAt g v j) ≡ false → ofFile u to (slotAt g v j) ≡ false) where
   abbrev v′ : List ℕ
@@ -117,7 +117,7 @@ module _ (g : Geometry) (law : lawful g ≡ true) (v : List ℕ) (size : length 
   pub edit-size : length v′ ≡ bytes g
   edit-size = mapSlots-length g law f edit-length v size ∙ size
 
-  pub edit-sound : Sound g (slotAt g v′)
+  pub edit-sound : Orderly g (slotAt g v′)
   edit-sound = sound-changed g (slotAt g v) (slotAt g v′) sound changed
 
   pub edit-held : Held g h (slotAt g v′)

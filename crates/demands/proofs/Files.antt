@@ -16,7 +16,7 @@ use Rattle.volume.specs.Entry.{Entry, places, blockIn, ofFile, matches}
 use Rattle.volume.specs.Directory.{slotAt}
 use Rattle.volume.proofs.NameLaws.{same-refl, same-true}
 use Rattle.writing.proofs.WriteLaws.{inside-is}
-use Rattle.demands.proofs.Sound.{Live, Sound}
+use Rattle.demands.proofs.Orderly.{Live, Orderly}
 
 pub record IsOf (u : ℕ) (name : List ℕ) (e : Entry) : Type 0 where
   pub user : byte e 0 ≡ u
@@ -74,7 +74,7 @@ user-live e h = ne-eqb (byte e 0) 229 (omega arith)
 pub file-live : (u : ℕ) (name : List ℕ) (e : Entry) → u ≤ 15 → ofFile u name e ≡ true → Live e
 file-live u name e u15 own = user-live e (omega (arith, is-of u name e own .user))
 
-pub file-block : (g : Geometry) (v : List ℕ) → Sound g (slotAt g v) → (u : ℕ) (name : List ℕ) → u ≤ 15 → (j p : ℕ) → j < slots g → p < places g
+pub file-block : (g : Geometry) (v : List ℕ) → Orderly g (slotAt g v) → (u : ℕ) (name : List ℕ) → u ≤ 15 → (j p : ℕ) → j < slots g → p < places g
     → ofFile u name (slotAt g v j) ≡ true → blockIn g (slotAt g v j) p ≢ 0 → (g .directory ≤ blockIn g (slotAt g v j) p) × (blockIn g (slotAt g v j) p < g .total)
 file-block g v sound u name u15 j p j< p< own nz =
     inside-is g (blockIn g (slotAt g v j) p) (sound .order j j< (file-live u name (slotAt g v j) u15 own) .range p p< nz)

@@ -20,10 +20,10 @@ use Rattle.inspection.proofs.TwinLaws.{twin, twin-true, twins}
 use Rattle.inspection.proofs.AcceptedLaws.{accepts, good-entry, one-place, one-entry}
 use Rattle.inspection.proofs.NamedLaws.{named-at, at-named, holds-held, words-held}
 use Rattle.writing.proofs.WriteLaws.{is-inside}
-use Rattle.demands.proofs.Sound.{Live, InOrder, Sound, HeldBy, Held}
+use Rattle.demands.proofs.Orderly.{Live, InOrder, Orderly, HeldBy, Held}
 
 module _ (g : Geometry) (v : List ℕ) where
-  pub accepted-sound : lowestBad g v ≡ slots g → Sound g (slotAt g v)
+  pub accepted-sound : lowestBad g v ≡ slots g → Orderly g (slotAt g v)
   accepted-sound ok = record {
     order = order;
     alone = λ i j p q i< j< li lj p< q< nz same. one-place g v ok i p j q (record { slot = i<; used = li; place = p< }) (record { slot = j<; used = lj; place = q< }) nz same .0;
@@ -45,7 +45,7 @@ module _ (g : Geometry) (v : List ℕ) where
   unfolding goodSlot
   empty-good i e = rw e
 
-  pub sound-accepted : Sound g (slotAt g v) → lowestBad g v ≡ slots g
+  pub sound-accepted : Orderly g (slotAt g v) → lowestBad g v ≡ slots g
   sound-accepted sound = accepts g v (λ i i<. go i i< (isEmpty (slotAt g v i)) refl)
     where
       unlike : (i j : ℕ) → i < slots g → j < i → Live (slotAt g v i) → (t : Bool) → twin g (slotAt g v i) (slotAt g v j) ≡ t → t ≡ false

@@ -7,7 +7,7 @@ pub mod Demand2Writes
 pub mod Demand2Sequence
 pub mod Demand2Reads
 pub mod Demand2
-pub mod Sound
+pub mod Orderly
 pub mod Inspected
 pub mod Frame
 pub mod Acts

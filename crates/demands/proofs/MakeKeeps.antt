@@ -28,7 +28,7 @@ use Rattle.filecalls.specs.State.{isOpen}
 use Rattle.filecalls.specs.Outcome.{keeps, stored, storedAll, changedState}
 use Rattle.filecalls.specs.Names.{makeLadder, makeAct}
 use Rattle.filecalls.proofs.StateLaws.{is-open}
-use Rattle.demands.proofs.Sound.{Live, Laid, Fresh, HeldAnew, sound-laid, held-laid}
+use Rattle.demands.proofs.Orderly.{Live, Laid, Fresh, HeldAnew, sound-laid, held-laid}
 use Rattle.demands.proofs.Frame.{Touch, unchanged, foreign, Apart}
 use Rattle.demands.proofs.Acts.{Consistent, Keeps, does, keeps-unless, leaves-apart}
 use Rattle.demands.proofs.Files.{of-file, other-file, user-live, file-block, empty-foreign}

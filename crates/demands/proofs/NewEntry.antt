@@ -17,7 +17,7 @@ use Rattle.volume.proofs.NameLaws.{length-strip, byte-strip, strip-strip}
 use Rattle.inspection.proofs.GoodLaws.{top-bits-good, good-top-bits}
 use Rattle.naming.specs.Make.{freshEntry}
 use Rattle.writing.specs.Write.{likeEntry}
-use Rattle.demands.proofs.Sound.{InOrder}
+use Rattle.demands.proofs.Orderly.{InOrder}
 
 byte-zeros : (n k : ℕ) → byte (replicate n 0) k ≡ 0
 byte-zeros zero k = refl

@@ -32,7 +32,7 @@ use Rattle.writing.proofs.AllocLaws.{alloc-given}
 use Rattle.writing.proofs.GrowLaws.{written-block, written-other}
 use Rattle.writing.proofs.WriteLaws.{is-inside, length-base, write-passed}
 use Rattle.writing.proofs.AfterLaws.{after-file, after-group, after-size, after-slot, after-slot-other, after-record-other}
-use Rattle.demands.proofs.Sound.{Live, InOrder, Sound, Laid, Fresh, Held, InMap, HeldAnew, sound-laid, held-laid}
+use Rattle.demands.proofs.Orderly.{Live, InOrder, Orderly, Laid, Fresh, Held, InMap, HeldAnew, sound-laid, held-laid}
 use Rattle.demands.proofs.Frame.{Touch, unchanged, foreign, Apart}
 use Rattle.demands.proofs.Files.{IsOf, is-of, of-file, other-file, user-live, file-live, file-block, empty-foreign}
 use Rattle.demands.proofs.NewEntry.{like-block, like-in-order}
@@ -89,7 +89,7 @@ module _ (g : Geometry) (u : ℕ) (name : List ℕ) (k : ℕ) (e : Entry) where
   unfolding ofGroup
   of-group own z = rw (own, eq-eqb (groupOf g (extent e)) k z)
 
-module _ (g : Geometry) (law : lawful g ≡ true) (v : List ℕ) (size : length v ≡ bytes g) (sound : Sound g (slotAt g v)) (h : List ℕ) (held : Held g h (slotAt g v))
+module _ (g : Geometry) (law : lawful g ≡ true) (v : List ℕ) (size : length v ≡ bytes g) (sound : Orderly g (slotAt g v)) (h : List ℕ) (held : Held g h (slotAt g v))
     (u : ℕ) (u15 : u ≤ 15) (name : List ℕ) (n : ℕ) (n< : n < 65536) (passed : isNone (firstMet (writeTests g h v u name n)) ≡ true) where
   abbrev base : Entry
   base = baseEntry g v u name n
@@ -339,7 +339,7 @@ module _ (g : Geometry) (law : lawful g ≡ true) (v : List ℕ) (size : length 
     pub write-size : length v′ ≡ bytes g
     write-size = after-size g h v u name n law size passed r r128
 
-    pub write-sound : Sound g (slotAt g v′)
+    pub write-sound : Orderly g (slotAt g v′)
     write-sound = sound-laid g (slotAt g v) (slotAt g v′) i e sound laid order fresh
 
     pub write-held : Held g (heldAfter g h v u name n) (slotAt g v′)

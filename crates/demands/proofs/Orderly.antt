@@ -32,7 +32,7 @@ pub record InOrder (g : Geometry) (e : Entry) : Type 0 where
   pub range : (p : ℕ) → p < places g → blockIn g e p ≢ 0 → inside g (blockIn g e p) ≡ true
   pub once : (p q : ℕ) → p < places g → q < places g → blockIn g e p ≢ 0 → blockIn g e p ≡ blockIn g e q → p ≡ q
 
-pub record Sound (g : Geometry) (d : Directory) : Type 0 where
+pub record Orderly (g : Geometry) (d : Directory) : Type 0 where
   pub order : (i : ℕ) → i < slots g → Live (d i) → InOrder g (d i)
   pub alone : (i j p q : ℕ) → i < slots g → j < slots g → Live (d i) → Live (d j) → p < places g → q < places g
       → blockIn g (d i) p ≢ 0 → blockIn g (d i) p ≡ blockIn g (d j) q → i ≡ j
@@ -51,7 +51,7 @@ pub record Fresh (g : Geometry) (d : Directory) (i : ℕ) (e : Entry) : Type 0 w
 flip : {g : Geometry} {e f : Entry} → Twins g e f → Twins g f e
 flip k = record { user = sym (k .user); name = sym (k .name); group = sym (k .group) }
 
-pub sound-laid : (g : Geometry) (d d′ : Directory) (i : ℕ) (e : Entry) → Sound g d → Laid g d d′ i e → InOrder g e → Fresh g d i e → Sound g d′
+pub sound-laid : (g : Geometry) (d d′ : Directory) (i : ℕ) (e : Entry) → Orderly g d → Laid g d d′ i e → InOrder g e → Fresh g d i e → Orderly g d′
 sound-laid g d d′ i e sound laid order fresh = record { order = order′; alone = alone′; unlike = unlike′ }
   where
     order′ : (j : ℕ) → j < slots g → Live (d′ j) → InOrder g (d′ j)
@@ -100,7 +100,7 @@ sound-laid g d d′ i e sound laid order fresh = record { order = order′; alon
             sound .unlike j k j< k< (rw a at lj) (rw b at lk) (rw (a, b) at same)
 
 -- ---- some entries gone, the others as they were
-pub sound-less : (g : Geometry) (d d′ : Directory) → Sound g d → ((j : ℕ) → j < slots g → Live (d′ j) → d′ j ≡ d j) → Sound g d′
+pub sound-less : (g : Geometry) (d d′ : Directory) → Orderly g d → ((j : ℕ) → j < slots g → Live (d′ j) → d′ j ≡ d j) → Orderly g d′
 sound-less g d d′ sound h = record {
   order = λ j j< l. let a : d′ j ≡ d j = h j j< l in rw a (sound .order j j< (rw a at l));
   alone = λ j k p q j< k< lj lk p< q< nz same.
@@ -120,7 +120,7 @@ pub record Changed (g : Geometry) (d d′ : Directory) : Type 0 where
   pub order : (j : ℕ) → j < slots g → Live (d j) → InOrder g (d j) → InOrder g (d′ j)
   pub twins : (i j : ℕ) → i < slots g → j < slots g → Live (d i) → Live (d j) → Twins g (d′ i) (d′ j) → Twins g (d i) (d j)
 
-pub sound-changed : (g : Geometry) (d d′ : Directory) → Sound g d → Changed g d d′ → Sound g d′
+pub sound-changed : (g : Geometry) (d d′ : Directory) → Orderly g d → Changed g d d′ → Orderly g d′
 sound-changed g d d′ sound k = record {
   order = λ j j< l. let l₀ : Live (d j) = sym (k .empty j j<) ∙ l in k .order j j< l₀ (sound .order j j< l₀);
   alone = λ i j p q i< j< li lj p< q< nz s.
