@@ -1,7 +1,7 @@
 -- Laws of bytes laid one by one and part after part.
 use mathlib.Core.Path.{_≡_, refl, sym, ap, _∙_}
 use mathlib.Core.Bool.{Bool, true, false, cond}
-use mathlib.Core.List.{List, [], _∷_, _++_, append-nil}
+use mathlib.Core.List.{List, _∷_, _++_, append-nil}
 use mir.Val.{boolByte}
 use Prim.Native.Nat.{ℕ, _+_, _≤_}
 use native.Mathlib.Omega.{arith}
@@ -15,13 +15,6 @@ use Rattle.reading.specs.declared.Kept.the-variants.{Nothing, Pattern, Everythi
 use Rattle.drivebytes.specs.Numbers.{bytesOf, bytesFrom}
 use Rattle.drivebytes.specs.Layout.{headBytes, keptBytes, searchBytes, heldBytes}
 use Rattle.drivebytes.proofs.NumberLaws.{bytes-from}
-
--- eight stores fill eight bytes
-pub eight-stored : (l : List ℕ) → length l ≡ 8 → (a b c d e f g h : ℕ)
-    → set (set (set (set (set (set (set (set l 0 a) 1 b) 2 c) 3 d) 4 e) 5 f) 6 g) 7 h ≡ a ∷ b ∷ c ∷ d ∷ e ∷ f ∷ g ∷ h ∷ []
-unfolding bytesFrom
-eight-stored l size a b c d e f g h =
-    ap (λ (x : List ℕ). set (set (set (set (set (set (set (set x 0 a) 1 b) 2 c) 3 d) 4 e) 5 f) 6 g) 7 h) (sym (bytes-from l 8 size))
 
 -- four stores and twelve bytes fill sixteen
 pub sixteen-stored : (l : List ℕ) → length l ≡ 16 → (a b c d : ℕ) (p : List ℕ)

@@ -13,14 +13,17 @@ fn put_eight(out: &mut [u8], x: u64)
     requires { ⌜ length (now out) ≡ 8 ⌝ }
     ensures { λ _. ⌜ now (out .exit) ≡ bytesOf 8 x ⌝ }
 {
-    out[0] = (x % 256) as u8;
-    out[1] = (x / 256 % 256) as u8;
-    out[2] = (x / 256 / 256 % 256) as u8;
-    out[3] = (x / 256 / 256 / 256 % 256) as u8;
-    out[4] = (x / 256 / 256 / 256 / 256 % 256) as u8;
-    out[5] = (x / 256 / 256 / 256 / 256 / 256 % 256) as u8;
-    out[6] = (x / 256 / 256 / 256 / 256 / 256 / 256 % 256) as u8;
-    out[7] = (x / 256 / 256 / 256 / 256 / 256 / 256 / 256 % 256) as u8;
+    let bytes = [
+        (x % 256) as u8,
+        (x / 256 % 256) as u8,
+        (x / 256 / 256 % 256) as u8,
+        (x / 256 / 256 / 256 % 256) as u8,
+        (x / 256 / 256 / 256 / 256 % 256) as u8,
+        (x / 256 / 256 / 256 / 256 / 256 % 256) as u8,
+        (x / 256 / 256 / 256 / 256 / 256 / 256 % 256) as u8,
+        (x / 256 / 256 / 256 / 256 / 256 / 256 / 256 % 256) as u8,
+    ];
+    lists::copy(out, &bytes);
 }
 
 // Lays B, T, D, user and protection into bytes 0 to 7.
@@ -28,14 +31,17 @@ fn put_head(out: &mut [u8], g: Geometry, user: u8, protected: bool)
     requires { ⌜ length (now out) ≡ 8 ⌝ }
     ensures { λ _. ⌜ now (out .exit) ≡ headBytes g user protected ⌝ }
 {
-    out[0] = (g.block % 256) as u8;
-    out[1] = (g.block / 256 % 256) as u8;
-    out[2] = (g.total % 256) as u8;
-    out[3] = (g.total / 256 % 256) as u8;
-    out[4] = (g.directory % 256) as u8;
-    out[5] = (g.directory / 256 % 256) as u8;
-    out[6] = user;
-    out[7] = protected as u8;
+    let bytes = [
+        (g.block % 256) as u8,
+        (g.block / 256 % 256) as u8,
+        (g.total % 256) as u8,
+        (g.total / 256 % 256) as u8,
+        (g.directory % 256) as u8,
+        (g.directory / 256 % 256) as u8,
+        user,
+        protected as u8,
+    ];
+    lists::copy(out, &bytes);
 }
 
 // Lays a search that is kept into bytes 8 to 23.

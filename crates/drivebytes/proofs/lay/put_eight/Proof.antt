@@ -1,86 +1,59 @@
--- Eight stores fill the eight bytes.
-use Rattle.drivebytes.proofs.LayLaws.{eight-stored}
+-- The eight bytes are the definition's.
 use Rattle.drivebytes.specs.Numbers.{bytesOf}
-use lib.ListN.{length-set}
-use native.Mathlib.Omega.{arith}
 use borrow.Author.Needs.{needs}
 use Rattle.drivebytes.proofs.lay.put_eight.Statement.{statement}
 use Rattle.drivebytes.proofs.lay.put_eight.Tie as tie
 
-cast-out : tie.Need-cast-out
-cast-out c = search needs
+cast-t5 : tie.Need-cast-t5
+cast-t5 c = search needs
 
-slice-write-out : tie.Need-slice-write-out
-slice-write-out c = search needs
+cast-t8 : tie.Need-cast-t8
+cast-t8 c = search needs
 
-cast-out-2 : tie.Need-cast-out-2
-cast-out-2 c = search needs
+cast-t12 : tie.Need-cast-t12
+cast-t12 c = search needs
 
-slice-write-out-2 : tie.Need-slice-write-out-2
-slice-write-out-2 c = search needs
+cast-t17 : tie.Need-cast-t17
+cast-t17 c = search needs
 
-cast-out-3 : tie.Need-cast-out-3
-cast-out-3 c = search needs
+cast-t23 : tie.Need-cast-t23
+cast-t23 c = search needs
 
-slice-write-out-3 : tie.Need-slice-write-out-3
-slice-write-out-3 c = search needs
+cast-t30 : tie.Need-cast-t30
+cast-t30 c = search needs
 
-cast-out-4 : tie.Need-cast-out-4
-cast-out-4 c = search needs
+cast-t38 : tie.Need-cast-t38
+cast-t38 c = search needs
 
-slice-write-out-4 : tie.Need-slice-write-out-4
-slice-write-out-4 c = search needs
+cast-t47 : tie.Need-cast-t47
+cast-t47 c = search needs
 
-cast-out-5 : tie.Need-cast-out-5
-cast-out-5 c = search needs
+slice-aggregate-copy : tie.Need-slice-aggregate-copy
+slice-aggregate-copy c = search needs
 
-slice-write-out-5 : tie.Need-slice-write-out-5
-slice-write-out-5 c = simp length-set (omega arith)
-
-cast-out-6 : tie.Need-cast-out-6
-cast-out-6 c = search needs
-
-slice-write-out-6 : tie.Need-slice-write-out-6
-slice-write-out-6 c = simp length-set (omega arith)
-
-cast-out-7 : tie.Need-cast-out-7
-cast-out-7 c = search needs
-
-slice-write-out-7 : tie.Need-slice-write-out-7
-slice-write-out-7 c = simp length-set (omega arith)
-
-cast-out-8 : tie.Need-cast-out-8
-cast-out-8 c = search needs
-
-slice-write-out-8 : tie.Need-slice-write-out-8
-slice-write-out-8 c = simp length-set (omega arith)
+copy-requires : tie.Need-copy-requires
+copy-requires c κs = search needs
 
 same-length : tie.Need-same-length
-same-length c = simp length-set
+same-length c = search needs
 
 returns : tie.Need-returns
 unfolding bytesOf
-returns c = eight-stored (c .args .out .now) (c .pre) _ _ _ _ _ _ _ _
+returns c = c .before .before .copy .ensures
 
 pub put-eight-spec : {M : Type 1} → statement M
 put-eight-spec =
     tie.close
     (tie.spec
-    cast-out
-    slice-write-out
-    cast-out-2
-    slice-write-out-2
-    cast-out-3
-    slice-write-out-3
-    cast-out-4
-    slice-write-out-4
-    cast-out-5
-    slice-write-out-5
-    cast-out-6
-    slice-write-out-6
-    cast-out-7
-    slice-write-out-7
-    cast-out-8
-    slice-write-out-8
+    cast-t5
+    cast-t8
+    cast-t12
+    cast-t17
+    cast-t23
+    cast-t30
+    cast-t38
+    cast-t47
+    slice-aggregate-copy
+    copy-requires
     same-length
     returns)

@@ -1,83 +1,57 @@
--- Eight stores fill the eight bytes.
-use Rattle.drivebytes.proofs.LayLaws.{eight-stored, flag-byte}
+-- The eight bytes are the definition's.
+use Rattle.drivebytes.proofs.LayLaws.{flag-byte}
 use Rattle.drivebytes.specs.Layout.{headBytes}
 use Rattle.drivebytes.specs.Numbers.{bytesOf}
-use lib.ListN.{length-set}
-use native.Mathlib.Omega.{arith}
 use borrow.Author.Needs.{needs}
 use Rattle.drivebytes.proofs.lay.put_head.Statement.{statement}
 use Rattle.drivebytes.proofs.lay.put_head.Tie as tie
 
-cast-out : tie.Need-cast-out
-cast-out c = search needs
+cast-t7 : tie.Need-cast-t7
+cast-t7 c = search needs
 
-slice-write-out : tie.Need-slice-write-out
-slice-write-out c = search needs
+cast-t10 : tie.Need-cast-t10
+cast-t10 c = search needs
 
-cast-out-2 : tie.Need-cast-out-2
-cast-out-2 c = search needs
+cast-t12 : tie.Need-cast-t12
+cast-t12 c = search needs
 
-slice-write-out-2 : tie.Need-slice-write-out-2
-slice-write-out-2 c = search needs
+cast-t15 : tie.Need-cast-t15
+cast-t15 c = search needs
 
-cast-out-3 : tie.Need-cast-out-3
-cast-out-3 c = search needs
+cast-t17 : tie.Need-cast-t17
+cast-t17 c = search needs
 
-slice-write-out-3 : tie.Need-slice-write-out-3
-slice-write-out-3 c = search needs
+cast-t20 : tie.Need-cast-t20
+cast-t20 c = search needs
 
-cast-out-4 : tie.Need-cast-out-4
-cast-out-4 c = search needs
+cast-t21 : tie.Need-cast-t21
+cast-t21 c = search needs
 
-slice-write-out-4 : tie.Need-slice-write-out-4
-slice-write-out-4 c = search needs
+slice-aggregate-copy : tie.Need-slice-aggregate-copy
+slice-aggregate-copy c = search needs
 
-cast-out-5 : tie.Need-cast-out-5
-cast-out-5 c = search needs
-
-slice-write-out-5 : tie.Need-slice-write-out-5
-slice-write-out-5 c = simp length-set (omega arith)
-
-cast-out-6 : tie.Need-cast-out-6
-cast-out-6 c = search needs
-
-slice-write-out-6 : tie.Need-slice-write-out-6
-slice-write-out-6 c = simp length-set (omega arith)
-
-slice-write-out-7 : tie.Need-slice-write-out-7
-slice-write-out-7 c = simp length-set (omega arith)
-
-cast-out-7 : tie.Need-cast-out-7
-cast-out-7 c = search needs
-
-slice-write-out-8 : tie.Need-slice-write-out-8
-slice-write-out-8 c = simp length-set (omega arith)
+copy-requires : tie.Need-copy-requires
+copy-requires c κs = search needs
 
 same-length : tie.Need-same-length
 same-length c = search needs
 
 returns : tie.Need-returns
 unfolding headBytes bytesOf
-returns c = let a = c .before .before .before .before .before .before .args in rw (← flag-byte (a .protected)) (eight-stored (a .out .now) (c .before .before .before .before .before .before .pre) _ _ _ _ _ _ _ _)
+returns c = rw (← flag-byte (c .before .before .before .before .before .before .before .before .before .before .before .before .args .protected)) (c .before .before .copy .ensures)
 
 pub put-head-spec : {M : Type 1} → statement M
 put-head-spec =
     tie.close
     (tie.spec
-    cast-out
-    slice-write-out
-    cast-out-2
-    slice-write-out-2
-    cast-out-3
-    slice-write-out-3
-    cast-out-4
-    slice-write-out-4
-    cast-out-5
-    slice-write-out-5
-    cast-out-6
-    slice-write-out-6
-    slice-write-out-7
-    cast-out-7
-    slice-write-out-8
+    cast-t7
+    cast-t10
+    cast-t12
+    cast-t15
+    cast-t17
+    cast-t20
+    cast-t21
+    slice-aggregate-copy
+    copy-requires
     same-length
     returns)
