@@ -1,0 +1,3 @@
+-- What the seam rests on: answers that fit 16 bits, and states that 64 bytes carry.
+pub mod ValueLaws
+pub mod SeamLaws
