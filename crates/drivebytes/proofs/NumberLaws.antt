@@ -31,6 +31,12 @@ bytes-number s h a (suc n) =
     let y : (byte s a + 256 * number (bytesFrom s (suc a) n)) / 256 ≡ number (bytesFrom s (suc a) n) = omega arith in
     rw (x, y, bytes-number s h (suc a) n)
 
+-- n bytes are a number below 256 ^ n
+pub number-low : (s : List ℕ) → Bytes s → (a n : ℕ) → number (bytesFrom s a n) < 256 ^ n
+unfolding number bytesFrom
+number-low s h a zero = omega arith
+number-low s h a (suc n) = omega (arith, h a, number-low s h (suc a) n, pow-suc 256 n)
+
 -- ---- a number is zero where each byte is
 zero-more : (b m : ℕ) → eqb (b + 256 * m) 0 ≡ cond (eqb b 0) (eqb m 0) false
 zero-more b m = elim (ℕ-discrete b 0) [

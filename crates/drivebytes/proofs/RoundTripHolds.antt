@@ -1,8 +1,8 @@
 -- The round trips hold: decoding what was encoded, and encoding what was decoded and not closed.
 use mathlib.Core.Path.{_≡_, refl, sym, ap, ap₂, _∙_}
-use mathlib.Core.Bool.{Bool, true, false, not, cond, _&&_, _||_, false≢true}
+use mathlib.Core.Bool.{Bool, true, false, not, cond, _&&_, _||_, true≢false, false≢true}
 use mathlib.Core.List.{List, _∷_, _++_}
-use Prim.Native.Nat.{ℕ, _+_, _≤_}
+use Prim.Native.Nat.{ℕ, zero, suc, _+_, _^_, _≤_, _<_}
 use native.Mathlib.Decide.{ℕ-discrete}
 use native.Mathlib.Omega.{arith}
 use lib.Dec.{leb, eqb}
@@ -17,10 +17,11 @@ use Rattle.reading.specs.declared.Kept.the-variants.{Nothing, Pattern, Everythi
 use Rattle.filecalls.specs.declared.Drive.{Drive}
 use Rattle.filecalls.specs.State.{isOpen, closed, noSearch}
 use Rattle.filecalls.specs.Outcome.{withSearch}
+use Rattle.filecalls.specs.Search.{isKept}
 use Rattle.drivebytes.specs.Numbers.{bytesOf, number, bytesFrom, zeros}
 use Rattle.drivebytes.specs.Layout.{headBytes, keptBytes, searchBytes, heldBytes, encoded, kindOf, fields, isDrive, decoded}
-use Rattle.drivebytes.specs.RoundTrip.{Bytes, Carried, DecodeEncode, EncodeDecode, ClosedIsZeros}
-use Rattle.drivebytes.proofs.NumberLaws.{number-bytes, bytes-number, part-bytes, bytes-from, zeros-are}
+use Rattle.drivebytes.specs.RoundTrip.{Bytes, Carried, DecodeEncode, EncodeDecode, ReadCarried, ClosedIsZeros}
+use Rattle.drivebytes.proofs.NumberLaws.{number-bytes, bytes-number, number-low, part-bytes, bytes-from, zeros-are}
 use Rattle.drivebytes.proofs.LoadLaws.{drive-whole}
 
 -- ---- a flag as a byte
@@ -120,6 +121,16 @@ open-drive s e = go (isDrive s) refl
         let k : false ≡ isOpen (decoded s) = unfold decoded isOpen lawful in ap (λ (t : Bool). isOpen (cond t (fields s) closed)) (sym h) in
         absurd (false≢true (k ∙ e))
 
+-- byte 8 is zero where it says that no search is kept
+idle-kind : (x : ℕ) → kindOf x ≡ Nothing → x ≡ 0
+unfolding kindOf
+idle-kind x e = go (ℕ-discrete x 0) (ℕ-discrete x 1)
+  where
+    go : Dec (x ≡ 0) → Dec (x ≡ 1) → x ≡ 0
+    go (yes z) o = z
+    go (no z) (yes o) = absurd (true≢false (ap isKept (rw (ne-eqb x 0 z, eq-eqb x 1 o) at e)))
+    go (no z) (no o) = absurd (true≢false (ap isKept (rw (ne-eqb x 0 z, ne-eqb x 1 o) at e)))
+
 module _ (s : List ℕ) (bytes : Bytes s) (drive : isDrive s ≡ true) where
   size : length s ≡ 64
   size = drive-whole s drive
@@ -193,9 +204,46 @@ module _ (s : List ℕ) (bytes : Bytes s) (drive : isDrive s ≡ true) where
   unfolding encoded bytesFrom
   encoded-fields = joined head-back search-fields (zeros-from 24 8 (omega arith) (laid .spare)) held-back ∙ bytes-from s 64 size
 
+  -- ---- what is read can be carried
+  low : (a n : ℕ) → a + n ≤ 64 → number (part s a n) < 256 ^ n
+  low a n h = rw (part-bytes s a n (omega (arith, size))) (number-low s bytes a n)
+
+  words-low : (k : ℕ) → byte (fields s .held) k < 2 ^ 64
+  unfolding fields
+  words-low zero = low 32 8 (omega arith)
+  words-low (suc zero) = low 40 8 (omega arith)
+  words-low (suc (suc zero)) = low 48 8 (omega arith)
+  words-low (suc (suc (suc zero))) = low 56 8 (omega arith)
+  words-low (suc (suc (suc (suc k)))) = omega arith
+
+  idle-search : kindOf (byte s 8) ≡ Nothing → fields s .search ≡ noSearch
+  unfolding fields number bytesFrom part
+  idle-search e =
+      let z : zeros (part s 9 15) ≡ true = rw (eq-eqb (byte s 8) 0 (idle-kind (byte s 8) e)) at (laid .idle) in
+      rw (e, part-bytes s 10 2 (omega (arith, size)), part-bytes s 12 12 (omega (arith, size)))
+      (ap (λ (l : List ℕ). record { kind = Nothing; user = byte l 0; last = number (part l 1 2); pattern = part l 3 12 }) (sym (zeros-from 9 15 (omega arith) z)))
+
+  fields-carried : Carried (fields s)
+  unfolding fields
+  fields-carried =
+      record {
+        block = low 0 2 (omega arith);
+        total = low 2 2 (omega arith);
+        directory = low 4 2 (omega arith);
+        last = low 10 2 (omega arith);
+        pattern = length-part s 12 12 (omega (arith, size));
+        four = refl;
+        words = words-low;
+        idle = idle-search;
+      }
+
 pub encode-decode : EncodeDecode
 encode-decode s bytes e =
     unfold decoded in rw (open-drive s e) (encoded-fields s bytes (open-drive s e))
+
+pub read-carried : ReadCarried
+read-carried s bytes e =
+    unfold decoded in rw (open-drive s e) (fields-carried s bytes (open-drive s e))
 
 -- ---- the closed value
 pub closed-is-zeros : ClosedIsZeros

@@ -33,6 +33,10 @@ DecodeEncode = (d : Drive) → Carried d → decoded (encoded d) ≡ d
 abbrev pub EncodeDecode : Type 0
 EncodeDecode = (s : List ℕ) → Bytes s → isOpen (decoded s) ≡ true → encoded (decoded s) ≡ s
 
+-- what is read from bytes and is not closed can be carried
+abbrev pub ReadCarried : Type 0
+ReadCarried = (s : List ℕ) → Bytes s → isOpen (decoded s) ≡ true → Carried (decoded s)
+
 -- "the closed value is 64 zero bytes"
 abbrev pub ClosedIsZeros : Type 0
 ClosedIsZeros = encoded closed ≡ replicate 64 0

@@ -1,5 +1,5 @@
 -- What code learns on its way through the seam, as the definitions say it.
-use mathlib.Core.Path.{_≡_, refl, sym, ap, _∙_}
+use mathlib.Core.Path.{_≡_, sym, ap, _∙_}
 use mathlib.Core.Bool.{Bool, true, false, not}
 use mathlib.Core.List.{List, []}
 use Prim.Native.Nat.{ℕ, _<_}
@@ -19,7 +19,7 @@ use Rattle.drivebytes.specs.Layout.{decoded, encoded, encodedIn}
 use Rattle.drivebytes.proofs.LoadLaws.{drive-whole}
 use Rattle.drivebytes.proofs.RoundTripHolds.{open-drive}
 use Rattle.emulator.specs.Seam.{answered, sealed, through, atSeam, logInAtSeam}
-use Rattle.emulator.proofs.ValueLaws.{log-in-value, step-value}
+use Rattle.emulator.proofs.ValueLaws.{step-value}
 
 -- 64 bytes take the whole encoding
 pub encoded-whole : (d : Drive) (s : List ℕ) → length s ≡ 64 → encodedIn d s ≡ encoded d

@@ -1,11 +1,10 @@
 -- The value beside an answer fits 16 bits: a count is at most 256, a slot at most 2,048, and every other answer has 0.
-use mathlib.Core.Path.{_≡_, refl, sym, ap, _∙_}
+use mathlib.Core.Path.{_≡_, refl}
 use mathlib.Core.Bool.{Bool, true, false, not, cond}
 use mathlib.Core.List.{List, []}
-use Prim.Native.Nat.{ℕ, _+_, _-_, _≤_, _<_}
+use Prim.Native.Nat.{ℕ, _-_, _≤_, _<_}
 use native.Mathlib.Omega.{arith}
 use lib.Dec.{eqb}
-use Rattle.lists.specs.Search.{countFrom}
 use Rattle.lists.proofs.SearchLaws.{low-le}
 use Rattle.volume.specs.declared.Geometry.{Geometry}
 use Rattle.volume.specs.Geometry.{lawful, slots}
@@ -56,7 +55,7 @@ module _ (g : Geometry) (v : List ℕ) where
     where
       go : (t : Bool)
           → valueOf (cond {A = Reply} t (record { answer = answer.Ready (freeCount (heldOf g v) (g .directory) (g .total)); drive = loggedIn g (heldOf g v) })
-            (record { answer = refusedLogIn (firstMet (logInTests g v)) (lowestBad g v); drive = closed }) .answer) < 65536
+          (record { answer = refusedLogIn (firstMet (logInTests g v)) (lowestBad g v); drive = closed }) .answer) < 65536
       go true = omega (arith, free-le (heldOf g v) (g .directory) (g .total), bounds g e .total-high)
       go false = refused-value (firstMet (logInTests g v)) (lowestBad g v) (omega (arith, bad-le g v, bounds g e .slots-high))
 

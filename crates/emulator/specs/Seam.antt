@@ -1,5 +1,5 @@
 -- What an exported call leaves, for every input: its answer as one number, and every lent byte.
-use mathlib.Core.Bool.{Bool, cond}
+use mathlib.Core.Bool.{cond}
 use mathlib.Core.List.{List, []}
 use Prim.Native.Nat.{ℕ, _+_, _*_}
 use lib.Dec.{eqb}
@@ -9,7 +9,6 @@ use Rattle.answers.specs.declared.Refusal.the-variants.{Closed}
 use Rattle.answers.specs.declared.Answer.{Answer}
 use Rattle.answers.specs.declared.Answer.the-variants.{Refused}
 use Rattle.answers.specs.Answer.{numberOf, valueOf}
-use Rattle.filecalls.specs.declared.Drive.{Drive}
 use Rattle.filecalls.specs.State.{isOpen}
 use Rattle.filecalls.specs.Outcome.{Outcome}
 use Rattle.filecalls.specs.LogIn.{logIn}

@@ -1,6 +1,6 @@
 // The seam to an emulator: log-in and every other call, exported for C, over lent bytes alone.
 ghost use mathlib.Core.Path.{_≡_};
-ghost use mathlib.Core.List.{List, []};
+ghost use mathlib.Core.List.{[]};
 ghost use Prim.Native.Nat.{_<_};
 ghost use Rattle.answers.specs.Answer.{valueOf};
 ghost use Rattle.emulator.specs.Seam.{answered, sealed, geometryOf, atSeam, logInAtSeam};

@@ -1,72 +1,53 @@
+-- A drive that counts as closed is refused; any other goes through the door and is laid back.
 use Rattle.emulator.proofs.SeamLaws.{call-refused, call-done, call-value}
 use borrow.Author.Needs.{needs}
 use Rattle.emulator.proofs.churawel_call.Statement.{statement}
 use Rattle.emulator.proofs.churawel_call.Tie as tie
-use Rattle.emulator.proofs.churawel_call.Reads as reads
-use Rattle.emulator.proofs.churawel_call.Lts as lts
-use Rattle.bdos.proofs.enter.Reads as enter-reads
-use Rattle.drivebytes.proofs.decode.Reads as decode-reads
-use Rattle.drivebytes.proofs.encode.Reads as encode-reads
-use Rattle.emulator.proofs.seal.Reads as seal-reads
-use Rattle.filecalls.proofs.Drive.is_open.Reads as is-open-reads
 
--- src/lib.rt:73:9
 decode-requires : tie.Need-decode-requires
 decode-requires c κs = search needs
 
--- src/lib.rt:74:9
 is-open-requires : tie.Need-is-open-requires
 is-open-requires c κs = search needs
 
--- src/lib.rt:75:9
 seal-requires : tie.Need-seal-requires
 seal-requires c κs = search needs
 
--- src/lib.rt:75:9
 same-length : tie.Need-same-length
 same-length c = search needs
 
--- src/lib.rt:75:9
 returns : tie.Need-returns
 returns c =
-    let a = c  .before .before .before .before .before .before .before .before .before .args in
-    call-refused (a .function) (a .parameter) (a .drive .now) (a .volume .now) (a .fcb .now) (a .buffer .now) (c  .before .before .before .decode .ensures) (c  .before .before .is-open .ensures) (c  .before .if1 .taken) (c .seal .ensures)
+    let a = c .before .before .before .before .before .before .before .before .before .args in
+    call-refused (a .function) (a .parameter) (a .drive .now) (a .volume .now) (a .fcb .now) (a .buffer .now) (c .before .before .before .decode .ensures) (c .before .before .is-open .ensures) (c .before .if1 .taken) (c .seal .ensures)
 
--- src/lib.rt:78:9
 enter-requires : tie.Need-enter-requires
 enter-requires c κs = search needs
 
--- src/lib.rt:80:5
 encode-requires : tie.Need-encode-requires
 encode-requires c κs = search needs
 
--- src/lib.rt:82:5
 seal-requires-2 : tie.Need-seal-requires-2
 seal-requires-2 c κs =
-    let a = c  .before .before .before .before .before .before .before .before .before .before .before .before .before .before .before .before .before .before .before .before .before .before .before .before .args in
-    call-value (a .function) (a .parameter) (a .drive .now) (a .volume .now) (a .fcb .now) (a .buffer .now) (c  .before .before .before .before .before .before .before .before .before .before .before .before .before .before .before .before .before .before .decode .ensures) (c  .before .before .before .before .before .before .before .before .before .before .before .before .before .before .before .before .before .is-open .ensures) (c  .before .before .before .before .before .before .before .before .before .before .before .enter .ensures)
+    let a = c .before .before .before .before .before .before .before .before .before .before .before .before .before .before .before .before .before .before .before .before .before .before .before .before .args in
+    call-value (a .function) (a .parameter) (a .drive .now) (a .volume .now) (a .fcb .now) (a .buffer .now) (c .before .before .before .before .before .before .before .before .before .before .before .before .before .before .before .before .before .before .decode .ensures) (c .before .before .before .before .before .before .before .before .before .before .before .before .before .before .before .before .before .is-open .ensures) (c .before .before .before .before .before .before .before .before .before .before .before .enter .ensures)
 
--- src/lib.rt:62:1
 same-length-2 : tie.Need-same-length-2
 same-length-2 c = search needs
 
--- src/lib.rt:62:1
 same-length-3 : tie.Need-same-length-3
 same-length-3 c = search needs
 
--- src/lib.rt:62:1
 same-length-4 : tie.Need-same-length-4
 same-length-4 c = search needs
 
--- src/lib.rt:62:1
 same-length-5 : tie.Need-same-length-5
 same-length-5 c = search needs
 
--- src/lib.rt:62:1
 returns-2 : tie.Need-returns-2
 returns-2 c =
-    let a = c  .before .before .before .before .before .before .before .before .before .before .before .before .before .before .before .before .before .before .before .before .before .before .before .before .before .args in
-    call-done (a .function) (a .parameter) (a .drive .now) (a .volume .now) (a .fcb .now) (a .buffer .now) (c  .before .before .before .before .before .before .before .before .before .before .before .before .before .before .before .before .before .before .before .decode .ensures) (c  .before .before .before .before .before .before .before .before .before .before .before .before .before .before .before .before .before .before .is-open .ensures) (c  .before .before .before .before .before .before .before .before .before .before .before .before .before .before .before .before .before .if1 .left) (c  .before .before .before .before .before .before .before .before .before .before .before .before .enter .ensures) (c  .before .before .before .encode .ensures) (c .seal2 .ensures)
+    let a = c .before .before .before .before .before .before .before .before .before .before .before .before .before .before .before .before .before .before .before .before .before .before .before .before .before .args in
+    call-done (a .function) (a .parameter) (a .drive .now) (a .volume .now) (a .fcb .now) (a .buffer .now) (c .before .before .before .before .before .before .before .before .before .before .before .before .before .before .before .before .before .before .before .decode .ensures) (c .before .before .before .before .before .before .before .before .before .before .before .before .before .before .before .before .before .before .is-open .ensures) (c .before .before .before .before .before .before .before .before .before .before .before .before .before .before .before .before .before .if1 .left) (c .before .before .before .before .before .before .before .before .before .before .before .before .enter .ensures) (c .before .before .before .encode .ensures) (c .seal2 .ensures)
 
 pub churawel-call-spec : {M : Type 1} → statement M
 churawel-call-spec =
