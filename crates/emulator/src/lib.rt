@@ -28,8 +28,9 @@ fn seal(a: Answer) -> u32
     requires { ⌜ valueOf a < 65536 ⌝ }
     ensures { λ r. ⌜ r ≡ answered a ⌝ }
 {
-    let value = answers::value(a);
-    wide(answers::number(a)) + 65536 * (value as u32)
+    let number = wide(answers::number(a));
+    let value = answers::value(a) as u32;
+    number + 65536 * value
 }
 
 // Logs the volume in: the drive becomes the state that calls take, or 64 zero bytes where the log-in is refused.
