@@ -25,10 +25,6 @@ use Rattle.drivebytes.proofs.NumberLaws.{number-bytes, bytes-number, nu
 use Rattle.drivebytes.proofs.LoadLaws.{drive-whole}
 
 -- ---- a flag as a byte
-flag-low : (p : Bool) → leb (cond p 1 0) 1 ≡ true
-flag-low true = refl
-flag-low false = refl
-
 flag-back : (p : Bool) → eqb (cond p 1 0) 1 ≡ p
 flag-back true = refl
 flag-back false = refl
@@ -41,12 +37,15 @@ flag-is x h = elim (ℕ-discrete x 1) [
 
 -- ---- decoding what was encoded
 drive-encoded : (d : Drive) → isDrive (encoded d) ≡ true
-drive-encoded d = go (d .search .kind) refl
+drive-encoded d = go (d .search .kind) (d .protected) refl refl
   where
-    go : (k : Kept) → d .search .kind ≡ k → isDrive (encoded d) ≡ true
-    go Nothing e = unfold isDrive encoded headBytes searchBytes heldBytes bytesOf part all in rw (e, flag-low (d .protected))
-    go Pattern e = unfold isDrive encoded headBytes searchBytes keptBytes heldBytes bytesOf bytesFrom part all in rw (e, flag-low (d .protected))
-    go Everything e = unfold isDrive encoded headBytes searchBytes keptBytes heldBytes bytesOf bytesFrom part all in rw (e, flag-low (d .protected))
+    go : (k : Kept) (p : Bool) → d .search .kind ≡ k → d .protected ≡ p → isDrive (encoded d) ≡ true
+    go Nothing true e h = unfold isDrive encoded headBytes searchBytes heldBytes bytesOf part all in rw (e, h)
+    go Nothing false e h = unfold isDrive encoded headBytes searchBytes heldBytes bytesOf part all in rw (e, h)
+    go Pattern true e h = unfold isDrive encoded headBytes searchBytes keptBytes heldBytes bytesOf bytesFrom part all in rw (e, h)
+    go Pattern false e h = unfold isDrive encoded headBytes searchBytes keptBytes heldBytes bytesOf bytesFrom part all in rw (e, h)
+    go Everything true e h = unfold isDrive encoded headBytes searchBytes keptBytes heldBytes bytesOf bytesFrom part all in rw (e, h)
+    go Everything false e h = unfold isDrive encoded headBytes searchBytes keptBytes heldBytes bytesOf bytesFrom part all in rw (e, h)
 
 -- the bytes of a search between the rest of a drive's, and the state of a search beside the rest
 abbrev around : Drive → List ℕ → List ℕ
