@@ -7,7 +7,7 @@ mod lay;
 mod load;
 
 // How many bytes a drive has.
-const DRIVE: usize = 64;
+pub const DRIVE_BYTES: usize = 64;
 
 // The state in these bytes: the closed one where their number or their pattern is no drive's.
 pub fn decode(s: &[u8]) -> Drive
@@ -23,7 +23,7 @@ pub fn decode(s: &[u8]) -> Drive
 pub fn encode(d: Drive, out: &mut [u8])
     ensures { λ _. ⌜ now (out .exit) ≡ encodedIn d (now (out .entry)) ⌝ }
 {
-    if out.len() == DRIVE {
+    if out.len() == DRIVE_BYTES {
         lay::put_drive(out, d);
     }
 }

@@ -5,6 +5,7 @@ ghost use lib.ListN.{length};
 ghost use Rattle.filecalls.specs.State.{closed};
 ghost use Rattle.drivebytes.specs.Numbers.{number};
 ghost use Rattle.drivebytes.specs.Layout.{kindOf, fields, isDrive};
+use crate::DRIVE_BYTES;
 use filecalls::Drive;
 use filecalls::Search;
 use reading::Kept;
@@ -46,7 +47,7 @@ fn eight_of(b: &[u8]) -> u64
 pub(crate) fn is_drive(s: &[u8]) -> bool
     ensures { λ r. ⌜ r ≡ isDrive (now (s .entry)) ⌝ }
 {
-    if s.len() != 64 {
+    if s.len() != DRIVE_BYTES {
         return false;
     }
     let spare = eight_of(&s[24..32]);

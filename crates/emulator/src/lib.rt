@@ -6,6 +6,7 @@ ghost use Rattle.answers.specs.Answer.{valueOf};
 ghost use Rattle.emulator.specs.Seam.{answered, sealed, geometryOf, atSeam, logInAtSeam};
 use answers::Answer;
 use answers::Refusal;
+use drivebytes::DRIVE_BYTES;
 use filecalls::Drive;
 use volume::Geometry;
 
@@ -44,7 +45,7 @@ pub extern "C" fn churawel_log_in(
 ) -> u32
     ensures { λ r. ⌜ sealed r (now (drive .exit)) (now (volume .entry)) [] [] ≡ logInAtSeam (geometryOf «block_bytes» blocks «directory_blocks») (now (volume .entry)) (now (drive .entry)) ⌝ }
 {
-    if drive.len() != 64 {
+    if drive.len() != DRIVE_BYTES {
         return seal(Answer::Refused(Refusal::Closed));
     }
     let g = Geometry {
