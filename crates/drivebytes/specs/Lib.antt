@@ -1,0 +1,4 @@
+-- The drive's state as 64 bytes.
+pub mod Numbers
+pub mod Layout
+pub mod RoundTrip

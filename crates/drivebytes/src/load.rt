@@ -1,0 +1,158 @@
+// The state read from bytes: numbers low byte first, and the test that the bytes are laid out as a drive's.
+ghost use mathlib.Core.Path.{_≡_};
+ghost use Prim.Native.Nat.{_+_, _*_, _<_};
+ghost use lib.ListN.{length};
+ghost use Rattle.filecalls.specs.State.{closed};
+ghost use Rattle.drivebytes.specs.Numbers.{number};
+ghost use Rattle.drivebytes.specs.Layout.{kindOf, fields, isDrive};
+use crate::DRIVE_BYTES;
+use filecalls::Drive;
+use filecalls::Search;
+use reading::Kept;
+use volume::Geometry;
+
+// A byte as a word.
+fn wide(b: u8) -> u64
+    ensures { λ r. ⌜ (r ≡ b) × (r < 256) ⌝ }
+{
+    b as u64
+}
+
+// Two bytes as a word.
+fn pair(low: u8, high: u8) -> u64
+    ensures { λ r. ⌜ (r ≡ low + 256 * high) × (r < 65536) ⌝ }
+{
+    wide(low) + 256 * wide(high)
+}
+
+// The number in two bytes.
+fn two_of(b: &[u8]) -> usize
+    requires { ⌜ length (now b) ≡ 2 ⌝ }
+    ensures { λ r. ⌜ r ≡ number (now (b .entry)) ⌝ }
+{
+    lists::wide(b[0]) + 256 * lists::wide(b[1])
+}
+
+// The number in eight bytes.
+fn eight_of(b: &[u8]) -> u64
+    requires { ⌜ length (now b) ≡ 8 ⌝ }
+    ensures { λ r. ⌜ r ≡ number (now (b .entry)) ⌝ }
+{
+    let low = pair(b[0], b[1]) + 65536 * pair(b[2], b[3]);
+    let high = pair(b[4], b[5]) + 65536 * pair(b[6], b[7]);
+    low + 4294967296 * high
+}
+
+// Are the bytes laid out as a drive's? Where no search is kept, bytes 8 to 23 are all zero.
+pub(crate) fn is_drive(s: &[u8]) -> bool
+    ensures { λ r. ⌜ r ≡ isDrive (now (s .entry)) ⌝ }
+{
+    if s.len() != DRIVE_BYTES {
+        return false;
+    }
+    let spare = eight_of(&s[24..32]);
+    let a = eight_of(&s[8..16]);
+    let b = eight_of(&s[16..24]);
+    let kind = s[8];
+    (s[7] <= 1) & (kind <= 2) & (spare == 0) & ((kind != 0) | ((a == 0) & (b == 0)))
+}
+
+// The closed state.
+pub(crate) fn closed_drive() -> Drive
+    ensures { λ r. ⌜ r ≡ closed ⌝ }
+{
+    let geometry = Geometry {
+        block: 0,
+        total: 0,
+        directory: 0,
+    };
+    let pattern = [0u8; 12];
+    let search = Search {
+        kind: Kept::Nothing,
+        user: 0,
+        last: 0,
+        pattern,
+    };
+    let held = [0u64; 4];
+    Drive {
+        geometry,
+        user: 0,
+        protected: false,
+        search,
+        held,
+    }
+}
+
+// The kind of search that byte 8 says.
+fn kind_of(b: u8) -> Kept
+    ensures { λ r. ⌜ r ≡ kindOf b ⌝ }
+{
+    if b == 0 {
+        return Kept::Nothing;
+    }
+    if b == 1 {
+        return Kept::Pattern;
+    }
+    Kept::Everything
+}
+
+// Bytes 0 to 5: B, T and D.
+fn geometry_at(s: &[u8]) -> Geometry
+    requires { ⌜ length (now s) ≡ 64 ⌝ }
+    ensures { λ r. ⌜ r ≡ fields (now (s .entry)) .geometry ⌝ }
+{
+    let block = two_of(&s[0..2]);
+    let total = two_of(&s[2..4]);
+    let directory = two_of(&s[4..6]);
+    Geometry {
+        block,
+        total,
+        directory,
+    }
+}
+
+// Bytes 8 to 23: the kept search.
+fn search_at(s: &[u8]) -> Search
+    requires { ⌜ length (now s) ≡ 64 ⌝ }
+    ensures { λ r. ⌜ r ≡ fields (now (s .entry)) .search ⌝ }
+{
+    let kind = kind_of(s[8]);
+    let last = two_of(&s[10..12]);
+    let mut pattern = [0u8; 12];
+    lists::copy(&mut pattern, &s[12..24]);
+    Search {
+        kind,
+        user: s[9],
+        last,
+        pattern,
+    }
+}
+
+// Bytes 32 to 63: the held words.
+fn held_at(s: &[u8]) -> [u64; 4]
+    requires { ⌜ length (now s) ≡ 64 ⌝ }
+    ensures { λ r. ⌜ r ≡ fields (now (s .entry)) .held ⌝ }
+{
+    let a = eight_of(&s[32..40]);
+    let b = eight_of(&s[40..48]);
+    let c = eight_of(&s[48..56]);
+    let d = eight_of(&s[56..64]);
+    [a, b, c, d]
+}
+
+// The state in 64 bytes.
+pub(crate) fn fields(s: &[u8]) -> Drive
+    requires { ⌜ length (now s) ≡ 64 ⌝ }
+    ensures { λ r. ⌜ r ≡ fields (now (s .entry)) ⌝ }
+{
+    let geometry = geometry_at(s);
+    let search = search_at(s);
+    let held = held_at(s);
+    Drive {
+        geometry,
+        user: s[6],
+        protected: s[7] == 1,
+        search,
+        held,
+    }
+}

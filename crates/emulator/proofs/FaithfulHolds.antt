@@ -1,0 +1,202 @@
+-- The drive's bytes carry the state from call to call, and a refusal alters no lent byte: the statements of
+-- `specs/Faithful`.
+use mathlib.Core.Path.{_≡_, refl, sym, ap, _∙_}
+use mathlib.Core.Bool.{Bool, true, false, cond, true≢false, false≢true}
+use mathlib.Core.Logic.{_⊎_, inl, inr, ⊎-elim}
+use mathlib.Core.List.{List, []}
+use Prim.Native.Nat.{ℕ, _<_}
+use native.Mathlib.Omega.{arith}
+use lib.Dec.{eqb}
+use lib.ListN.{length}
+use borrow.Author.Tests.{not-false, eq-eqb}
+use Rattle.volume.specs.declared.Geometry.{Geometry}
+use Rattle.volume.specs.Geometry.{lawful}
+use Rattle.volume.proofs.GeometryLaws.{bounds}
+use Rattle.answers.specs.declared.Refusal.{Refusal}
+use Rattle.answers.specs.declared.Refusal.the-variants.{Closed}
+use Rattle.answers.specs.declared.Answer.the-variants as answer
+use Rattle.answers.specs.Refusal.{isNone, refusalNumber, firstMet}
+use Rattle.answers.specs.Answer.{succeeded}
+use Rattle.answers.proofs.Ladder.{unmet}
+use Rattle.blocks.specs.Held.{freeCount}
+use Rattle.blocks.proofs.WordsLaws.{Words, words-none}
+use Rattle.inspection.specs.GoodSlot.{lowestBad}
+use Rattle.inspection.specs.Named.{heldOf}
+use Rattle.inspection.proofs.NamedLaws.{words-held}
+use Rattle.filecalls.specs.declared.Drive.{Drive}
+use Rattle.filecalls.specs.declared.Reply.{Reply}
+use Rattle.filecalls.specs.State.{isOpen, closed, loggedIn}
+use Rattle.filecalls.specs.Outcome.{Act, deny, done, Outcome, outcome}
+use Rattle.filecalls.specs.LogIn.{logInTests, refusedLogIn, logIn}
+use Rattle.bdos.specs.declared.Call.{Call}
+use Rattle.bdos.specs.declared.Call.the-variants.{LogIn, Open, Close, SearchFirst, SearchNext, Delete, ReadSequential, WriteSequential, Make, Rename, Protect, Attributes, User, ReadRandom, WriteRandom, Size, SetRandom, EmptyRecord, Unserved}
+use Rattle.bdos.specs.Step.{Asked, asked, keepsBuffer, keepsBlock, keepsVolume, callOf, does, step}
+use Rattle.drivebytes.specs.Layout.{decoded}
+use Rattle.drivebytes.specs.RoundTrip.{Carried}
+use Rattle.drivebytes.proofs.RoundTripHolds.{decode-encode, encode-decode, read-carried}
+use Rattle.emulator.specs.Seam.{answered, sealed, through, atSeam, logInAtSeam}
+use Rattle.emulator.specs.Faithful.{LogInCarried, LogInOpens, CallCarried, CallStaysOpen, LogInFaithful, CallFaithful, RefusedLeavesAll}
+use Rattle.emulator.proofs.LastingLaws.{Lasts, denied, outcome-lasts}
+use Rattle.emulator.proofs.CallsLast.{open-lasting, close-lasting, size-lasting, first-lasting, next-lasting, delete-lasting, make-lasting, rename-lasting, attributes-lasting, read-sequential-lasting, read-random-lasting, write-sequential-lasting, write-random-lasting, empty-record-lasting, protect-lasting, user-lasting, set-random-lasting}
+
+-- ---- log-in
+closed-carried : Carried closed
+closed-carried =
+    record {
+      block = omega arith;
+      total = omega arith;
+      directory = omega arith;
+      last = omega arith;
+      pattern = refl;
+      four = refl;
+      words = words-none .small;
+      idle = λ e. refl;
+    }
+
+logged-in-carried : (g : Geometry) (held : List ℕ) → lawful g ≡ true → Words held → Carried (loggedIn g held)
+logged-in-carried g held law w =
+    let k = bounds g law in
+    record {
+      block = omega (arith, k .block-high);
+      total = omega (arith, k .total-high);
+      directory = omega (arith, k .directory-high);
+      last = omega arith;
+      pattern = refl;
+      four = w .four;
+      words = w .small;
+      idle = λ e. refl;
+    }
+
+-- the two ways that a log-in can end
+module _ (g : Geometry) (v : List ℕ) where
+  accepted : isNone (firstMet (logInTests g v)) ≡ true → lawful g ≡ true
+  unfolding logInTests
+  accepted h = not-false (lawful g) (unmet Closed _ _ refl h .0)
+
+  taken : isNone (firstMet (logInTests g v)) ≡ true
+      → logIn g v ≡ record { answer = answer.Ready (freeCount (heldOf g v) (g .directory) (g .total)); drive = loggedIn g (heldOf g v) }
+  unfolding logIn
+  taken h = rw h
+
+  turned-away : isNone (firstMet (logInTests g v)) ≡ false
+      → logIn g v ≡ record { answer = refusedLogIn (firstMet (logInTests g v)) (lowestBad g v); drive = closed }
+  unfolding logIn
+  turned-away h = rw h
+
+  refused-fails : (why : Refusal) (slot : ℕ) → succeeded (refusedLogIn why slot) ≡ false
+  unfolding refusedLogIn
+  refused-fails why slot = go (eqb (refusalNumber why) 36)
+    where
+      go : (t : Bool) → succeeded (cond t (answer.BadSlot slot) (answer.Refused why)) ≡ false
+      go true = refl
+      go false = refl
+
+pub log-in-carried : LogInCarried
+log-in-carried g v = go (isNone (firstMet (logInTests g v))) refl
+  where
+    go : (t : Bool) → isNone (firstMet (logInTests g v)) ≡ t → Carried (logIn g v .drive)
+    go true h = rw (taken g v h) (logged-in-carried g (heldOf g v) (accepted g v h) (words-held g v))
+    go false h = rw (turned-away g v h) closed-carried
+
+pub log-in-opens : LogInOpens
+log-in-opens g v s = go (isNone (firstMet (logInTests g v))) refl
+  where
+    go : (t : Bool) → isNone (firstMet (logInTests g v)) ≡ t → isOpen (logIn g v .drive) ≡ true
+    go true h = unfold isOpen in rw (taken g v h, accepted g v h)
+    go false h = absurd (false≢true (sym (refused-fails g v (firstMet (logInTests g v)) (lowestBad g v)) ∙ ap (λ (r : Reply). succeeded (r .answer)) (sym (turned-away g v h)) ∙ s))
+
+-- ---- every call logs in, or leaves a state that lasts
+module _ (g : Geometry) (p : ℕ) (small : p < 256) (d : Drive) (l : Lasts d) (v f b : List ℕ) where
+  call-lasts : (call : Call) → (call ≡ LogIn) ⊎ Lasts (does g call p d v f b .drive)
+  unfolding does
+  call-lasts LogIn = inl refl
+  call-lasts Open = inr (outcome-lasts d v f [] _ l (open-lasting d v f b l))
+  call-lasts Close = inr (outcome-lasts d v f [] _ l (close-lasting d v f b l))
+  call-lasts SearchFirst = inr (outcome-lasts d v f b _ l (first-lasting d v f b l))
+  call-lasts SearchNext = inr (outcome-lasts d v [] b _ l (next-lasting d v f b l))
+  call-lasts Delete = inr (outcome-lasts d v f [] _ l (delete-lasting d v f b l))
+  call-lasts ReadSequential = inr (outcome-lasts d v f b _ l (read-sequential-lasting d v f b l))
+  call-lasts WriteSequential = inr (outcome-lasts d v f b _ l (write-sequential-lasting d v f b l))
+  call-lasts Make = inr (outcome-lasts d v f [] _ l (make-lasting d v f b l))
+  call-lasts Rename = inr (outcome-lasts d v f [] _ l (rename-lasting d v f b l))
+  call-lasts Protect = inr (outcome-lasts d [] [] [] _ l (protect-lasting d [] f b l))
+  call-lasts Attributes = inr (outcome-lasts d v f [] _ l (attributes-lasting d v f b l))
+  call-lasts User = inr (outcome-lasts d [] [] [] _ l (user-lasting d [] f b l p small))
+  call-lasts ReadRandom = inr (outcome-lasts d v f b _ l (read-random-lasting d v f b l))
+  call-lasts WriteRandom = inr (outcome-lasts d v f b _ l (write-random-lasting d v f b l))
+  call-lasts Size = inr (outcome-lasts d v f [] _ l (size-lasting d v f b l))
+  call-lasts SetRandom = inr (outcome-lasts d [] f [] _ l (set-random-lasting d [] f b l))
+  call-lasts EmptyRecord = inr (outcome-lasts d v f [] _ l (empty-record-lasting d v f b l))
+  call-lasts Unserved = inr (outcome-lasts d v f b _ l denied)
+
+step-lasts : (d : Drive) → Carried d → isOpen d ≡ true → (c : Asked) → c .parameter < 256 → (v : List ℕ)
+    → (callOf (c .function) ≡ LogIn) ⊎ Lasts (step (d .geometry) c d v .drive)
+unfolding step
+step-lasts d k o c small v = call-lasts (d .geometry) (c .parameter) small d (record { carried = k; opens = o }) v (c .block) (c .buffer) (callOf (c .function))
+
+step-log-in : (g : Geometry) (c : Asked) (d : Drive) (v : List ℕ) → callOf (c .function) ≡ LogIn → step g c d v .drive ≡ logIn g v .drive
+unfolding step does
+step-log-in g c d v e = rw e
+
+pub call-carried : CallCarried
+call-carried d k o c small v =
+    ⊎-elim (λ e. rw (step-log-in (d .geometry) c d v e) (log-in-carried (d .geometry) v)) (λ l. l .carried) (step-lasts d k o c small v)
+
+pub call-stays-open : CallStaysOpen
+call-stays-open d k o c small v n = ⊎-elim (λ e. absurd (n e)) (λ l. l .opens) (step-lasts d k o c small v)
+
+-- ---- what is read back is what was returned
+pub log-in-faithful : LogInFaithful
+unfolding logInAtSeam
+log-in-faithful g v s e = rw (eq-eqb (length s) 64 e) (decode-encode (logIn g v .drive) (log-in-carried g v))
+
+pub call-faithful : CallFaithful
+unfolding atSeam
+call-faithful n p s v f b small bytes o =
+    rw o (decode-encode _ (call-carried (decoded s) (read-carried s bytes o) o (asked n p f b) small v))
+
+-- ---- a refusal alters nothing
+abbrev sameAll : Outcome → Drive → List ℕ → List ℕ → List ℕ → Outcome
+sameAll o d v f b = record { answer = o .answer; drive = d; volume = v; block = f; buffer = b }
+
+outcome-refused : (d : Drive) (v f b : List ℕ) (act : Act) → succeeded (outcome d v f b act .answer) ≡ false
+    → outcome d v f b act ≡ sameAll (outcome d v f b act) d v f b
+unfolding outcome
+outcome-refused d v f b (deny why) e = refl
+outcome-refused d v f b (done code change stores f′ b′) e = absurd (true≢false e)
+
+module _ (g : Geometry) (p : ℕ) (d : Drive) (v f b : List ℕ) where
+  call-refused : (call : Call) → (call ≡ LogIn → ⊥) → succeeded (does g call p d v f b .answer) ≡ false
+      → does g call p d v f b ≡ sameAll (does g call p d v f b) d v f b
+  unfolding does
+  call-refused LogIn n e = absurd (n refl)
+  call-refused Open n e = ap (keepsBuffer b) (outcome-refused d v f [] _ e)
+  call-refused Close n e = ap (keepsBuffer b) (outcome-refused d v f [] _ e)
+  call-refused SearchFirst n e = outcome-refused d v f b _ e
+  call-refused SearchNext n e = ap (keepsBlock f) (outcome-refused d v [] b _ e)
+  call-refused Delete n e = ap (keepsBuffer b) (outcome-refused d v f [] _ e)
+  call-refused ReadSequential n e = outcome-refused d v f b _ e
+  call-refused WriteSequential n e = outcome-refused d v f b _ e
+  call-refused Make n e = ap (keepsBuffer b) (outcome-refused d v f [] _ e)
+  call-refused Rename n e = ap (keepsBuffer b) (outcome-refused d v f [] _ e)
+  call-refused Protect n e = ap (keepsVolume v) (ap (keepsBlock f) (ap (keepsBuffer b) (outcome-refused d [] [] [] _ e)))
+  call-refused Attributes n e = ap (keepsBuffer b) (outcome-refused d v f [] _ e)
+  call-refused User n e = ap (keepsVolume v) (ap (keepsBlock f) (ap (keepsBuffer b) (outcome-refused d [] [] [] _ e)))
+  call-refused ReadRandom n e = outcome-refused d v f b _ e
+  call-refused WriteRandom n e = outcome-refused d v f b _ e
+  call-refused Size n e = ap (keepsBuffer b) (outcome-refused d v f [] _ e)
+  call-refused SetRandom n e = ap (keepsVolume v) (ap (keepsBuffer b) (outcome-refused d [] f [] _ e))
+  call-refused EmptyRecord n e = ap (keepsBuffer b) (outcome-refused d v f [] _ e)
+  call-refused Unserved n e = outcome-refused d v f b _ e
+
+step-refused : (g : Geometry) (c : Asked) (d : Drive) (v : List ℕ) → (callOf (c .function) ≡ LogIn → ⊥) → succeeded (step g c d v .answer) ≡ false
+    → step g c d v ≡ sameAll (step g c d v) d v (c .block) (c .buffer)
+unfolding step
+step-refused g c d v n e = call-refused g (c .parameter) d v (c .block) (c .buffer) (callOf (c .function)) n e
+
+pub refused-leaves-all : RefusedLeavesAll
+unfolding atSeam
+refused-leaves-all n p s v f b bytes o other e =
+    rw o
+    (ap through (step-refused (decoded s .geometry) (asked n p f b) (decoded s) v other e)
+    ∙ ap (λ (x : List ℕ). sealed (answered (step (decoded s .geometry) (asked n p f b) (decoded s) v .answer)) x v f b) (encode-decode s bytes o))

@@ -1,0 +1,6 @@
+-- What the seam rests on: answers that fit 16 bits, and states that 64 bytes carry.
+pub mod ValueLaws
+pub mod SeamLaws
+pub mod LastingLaws
+pub mod CallsLast
+pub mod FaithfulHolds

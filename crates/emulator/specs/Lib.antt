@@ -1,0 +1,3 @@
+-- The seam to an emulator: what an exported call leaves, and that the drive's bytes carry the state from call to call.
+pub mod Seam
+pub mod Faithful

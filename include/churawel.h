@@ -1,0 +1,106 @@
+/*
+ * Churawel: the file calls of SCP 1700 (a CP/M-86) over a disk image, for an emulator. C11 and C++.
+ *
+ * Everything is lent: the caller owns all memory, and nothing is kept between calls. No heap is used, and of the C
+ * library only memset. A slice is a pointer and the number of bytes; the pointer is never null, also where the number
+ * is 0, and the slices of one call do not overlap. docs/EMULATOR.md says how a handler of INT 224 uses this.
+ *
+ * This file is kept by hand beside crates/emulator/src/lib.rt, which says exactly what each call leaves.
+ */
+#ifndef CHURAWEL_H
+#define CHURAWEL_H
+
+#include <stddef.h>
+#include <stdint.h>
+
+#ifdef __cplusplus
+extern "C" {
+#endif
+
+/* The lengths that calls want: of a drive, of a control block, of the transfer buffer. */
+#define CHURAWEL_DRIVE_BYTES 64
+#define CHURAWEL_FCB_BYTES 36
+#define CHURAWEL_BUFFER_BYTES 128
+
+/* The two halves of an answer: its number, and a log-in's count of free blocks or its lowest bad slot. */
+#define CHURAWEL_NUMBER(answer) ((answer) & 0xFFFFu)
+#define CHURAWEL_VALUE(answer) ((answer) >> 16)
+
+/* The functions that are served; any other number is refused by 31. */
+enum {
+    CHURAWEL_RESET = 13,            /* log-in with the drive's own geometry */
+    CHURAWEL_OPEN = 15,
+    CHURAWEL_CLOSE = 16,
+    CHURAWEL_SEARCH_FIRST = 17,
+    CHURAWEL_SEARCH_NEXT = 18,
+    CHURAWEL_DELETE = 19,
+    CHURAWEL_READ_SEQUENTIAL = 20,
+    CHURAWEL_WRITE_SEQUENTIAL = 21,
+    CHURAWEL_MAKE = 22,
+    CHURAWEL_RENAME = 23,
+    CHURAWEL_WRITE_PROTECT = 28,
+    CHURAWEL_ATTRIBUTES = 30,
+    CHURAWEL_USER = 32,             /* the parameter is the code, 255 to ask for it */
+    CHURAWEL_READ_RANDOM = 33,
+    CHURAWEL_WRITE_RANDOM = 34,
+    CHURAWEL_SIZE = 35,
+    CHURAWEL_SET_RANDOM = 36,
+    CHURAWEL_RESET_DRIVE = 37,      /* as 13 */
+    CHURAWEL_EMPTY_RECORD = 40
+};
+
+/*
+ * The numbers of refusal, in the order in which the tests are made. Success is a directory code 0..3 for 15, 16, 17, 18
+ * and 22, the user code 0..15 for 32 with parameter 255, and 0 for every other function.
+ */
+enum {
+    CHURAWEL_NOT_SERVED = 31,       /* a function that is not served */
+    CHURAWEL_CLOSED = 32,           /* geometry outside the rules, or (not log-in) closed state */
+    CHURAWEL_VOLUME_LENGTH = 33,    /* length of volume */
+    CHURAWEL_FCB_LENGTH = 34,       /* control block not 36 */
+    CHURAWEL_BUFFER_LENGTH = 35,    /* transfer buffer not 128 */
+    CHURAWEL_DRIVE_CODE = 42,       /* dr not 0 or 1 (search: 63 also) */
+    CHURAWEL_USER_CODE = 44,        /* user 16..254 */
+    CHURAWEL_NAME = 39,             /* a name outside the byte rule */
+    CHURAWEL_POSITION = 40,         /* ex, s2 or cr too large where used */
+    CHURAWEL_BEYOND = 6,            /* random: r2 not 0; sequential reads and writes: position 65,536 */
+    CHURAWEL_BAD_SLOT = 36,         /* log-in only: a slot is bad; the lowest such slot is the value */
+    CHURAWEL_PROTECTED = 37,        /* protected: delete, make, rename, attributes, writes */
+    CHURAWEL_NO_MATCH = 255,        /* no match, no search open, or (make) no slot is empty */
+    CHURAWEL_NO_FILE = 3,           /* reads, writes: the user has no entry of that name */
+    CHURAWEL_READ_ONLY = 38,        /* writes, rename, delete: an entry is read-only */
+    CHURAWEL_EXISTS = 43,           /* make, rename: the (new) name exists */
+    CHURAWEL_NO_GROUP = 4,          /* random read: the group has no entry */
+    CHURAWEL_ABSENT = 1,            /* reads: record not present */
+    CHURAWEL_OUTSIDE = 41,          /* reads, writes: the map names a block outside the data blocks */
+    CHURAWEL_NO_SLOT = 5,           /* writes: a group is missing and no slot is empty */
+    CHURAWEL_NO_BLOCK = 2           /* writes: a block is needed and none is free */
+};
+
+/*
+ * Logs a volume in: B bytes a block (1,024, 2,048 or 4,096), T blocks, the first D of them directory. Accepted: 0, with
+ * the number of free blocks as the value, and the drive's 64 bytes are the state that calls take. Refused (32, 33, 36):
+ * the drive becomes 64 zero bytes, which count as closed. A drive of another length: 32, and nothing changes.
+ */
+uint32_t churawel_log_in(
+    uint32_t block_bytes, uint32_t blocks, uint32_t directory_blocks,
+    const uint8_t *volume, size_t volume_bytes,
+    uint8_t *drive, size_t drive_bytes);
+
+/*
+ * Does one call. What the function does not use of volume, control block and buffer is neither read nor changed, and may
+ * have any length. A drive that is not 64 bytes, or whose bytes are no open state: 32, and nothing changes. A refusal
+ * changes nothing, but a refused log-in (13, 37) leaves 64 zero bytes.
+ */
+uint32_t churawel_call(
+    uint8_t function, uint8_t parameter,
+    uint8_t *drive, size_t drive_bytes,
+    uint8_t *volume, size_t volume_bytes,
+    uint8_t *fcb, size_t fcb_bytes,
+    uint8_t *buffer, size_t buffer_bytes);
+
+#ifdef __cplusplus
+}
+#endif
+
+#endif
