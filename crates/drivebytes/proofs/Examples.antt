@@ -5,7 +5,7 @@ use mathlib.Core.List.{List, [], _∷_, _++_}
 use Prim.Native.Nat.{ℕ}
 use lib.ListN.{replicate}
 use Rattle.lists.specs.Bytes.{part, all}
-use Rattle.reading.specs.declared.Kept.the-variants.{Pattern}
+use Rattle.finding.specs.declared.Kept.the-variants.{Pattern}
 use Rattle.filecalls.specs.declared.Drive.{Drive}
 use Rattle.drivebytes.specs.Numbers.{bytesOf, number, bytesFrom}
 use Rattle.drivebytes.specs.Layout.{headBytes, keptBytes, searchBytes, heldBytes, encoded, kindOf, fields, isDrive, decoded}

@@ -10,8 +10,8 @@ use lib.Seq.{length-take-le, take-append-add, take-at, take-all}
 use Rattle.lists.specs.Bytes.{part, put}
 use Rattle.lists.proofs.PartLaws.{length-put}
 use Rattle.volume.specs.declared.Geometry.{Geometry}
-use Rattle.reading.specs.declared.Kept.{Kept}
-use Rattle.reading.specs.declared.Kept.the-variants.{Nothing, Pattern, Everything}
+use Rattle.finding.specs.declared.Kept.{Kept}
+use Rattle.finding.specs.declared.Kept.the-variants.{Nothing, Pattern, Everything}
 use Rattle.drivebytes.specs.Numbers.{bytesOf, bytesFrom}
 use Rattle.drivebytes.specs.Layout.{headBytes, keptBytes, searchBytes, heldBytes}
 use Rattle.drivebytes.proofs.NumberLaws.{bytes-from}

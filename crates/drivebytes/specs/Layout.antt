@@ -9,8 +9,8 @@ use lib.Dec.{leb, eqb}
 use lib.ListN.{length, replicate}
 use Rattle.lists.specs.Bytes.{byte, part}
 use Rattle.volume.specs.declared.Geometry.{Geometry}
-use Rattle.reading.specs.declared.Kept.{Kept}
-use Rattle.reading.specs.declared.Kept.the-variants.{Nothing, Pattern, Everything}
+use Rattle.finding.specs.declared.Kept.{Kept}
+use Rattle.finding.specs.declared.Kept.the-variants.{Nothing, Pattern, Everything}
 use Rattle.filecalls.specs.declared.Drive.{Drive}
 use Rattle.filecalls.specs.State.{closed}
 use Rattle.drivebytes.specs.Numbers.{bytesOf, number, bytesFrom, zeros}

@@ -6,7 +6,7 @@ use mathlib.Core.List.{List}
 use Prim.Native.Nat.{ℕ, _<_, _^_}
 use lib.ListN.{length, replicate}
 use Rattle.lists.specs.Bytes.{byte}
-use Rattle.reading.specs.declared.Kept.the-variants.{Nothing}
+use Rattle.finding.specs.declared.Kept.the-variants.{Nothing}
 use Rattle.filecalls.specs.declared.Drive.{Drive}
 use Rattle.filecalls.specs.State.{noSearch, isOpen, closed}
 use Rattle.drivebytes.specs.Layout.{encoded, decoded}

@@ -5,7 +5,7 @@ ghost use Rattle.drivebytes.specs.Numbers.{bytesOf};
 ghost use Rattle.drivebytes.specs.Layout.{headBytes, keptBytes, searchBytes, heldBytes, encoded};
 use filecalls::Drive;
 use filecalls::Search;
-use reading::Kept;
+use finding::Kept;
 use volume::Geometry;
 
 // Lays a word into eight bytes.

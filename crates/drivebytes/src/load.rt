@@ -8,7 +8,7 @@ ghost use Rattle.drivebytes.specs.Layout.{kindOf, fields, isDrive};
 use crate::DRIVE_BYTES;
 use filecalls::Drive;
 use filecalls::Search;
-use reading::Kept;
+use finding::Kept;
 use volume::Geometry;
 
 // A byte as a word.

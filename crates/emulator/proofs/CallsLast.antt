@@ -17,9 +17,9 @@ use Rattle.answers.specs.declared.Refusal.the-variants.{Closed, VolumeLength, B
 use Rattle.answers.specs.Refusal.{isNone, firstMet}
 use Rattle.answers.proofs.Ladder.{unmet}
 use Rattle.blocks.proofs.WordsLaws.{words-hold}
-use Rattle.reading.specs.declared.Kept.{Kept}
-use Rattle.reading.specs.declared.Kept.the-variants.{Nothing, Pattern, Everything}
-use Rattle.reading.specs.Search.{kindOf, patternOf}
+use Rattle.finding.specs.declared.Kept.{Kept}
+use Rattle.finding.specs.declared.Kept.the-variants.{Nothing, Pattern, Everything}
+use Rattle.finding.specs.Search.{kindOf, patternOf}
 use Rattle.reading.specs.Read.{readTests}
 use Rattle.writing.specs.Write.{needsBlock, writeBlock}
 use Rattle.filecalls.specs.declared.Drive.{Drive}

@@ -20,7 +20,7 @@ use Rattle.answers.specs.declared.Refusal.{Refusal}
 use Rattle.answers.specs.Refusal.{Test, isNone, firstMet}
 use Rattle.blocks.proofs.WordsLaws.{Words, words-release}
 use Rattle.naming.specs.Delete.{freePlace, freeEntry, freeSlot, freeMatches}
-use Rattle.reading.specs.Search.{patternOf}
+use Rattle.finding.specs.Search.{patternOf}
 use Rattle.filecalls.specs.declared.Search.{Search}
 use Rattle.filecalls.specs.declared.Drive.{Drive}
 use Rattle.filecalls.specs.State.{goodPattern, goodKept, isOpen}
