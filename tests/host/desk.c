@@ -51,7 +51,7 @@ static void say_where(void)
             }
 }
 
-static int same_bytes(void)
+int same_bytes(void)
 {
     return memcmp(&now, &want, sizeof now) == 0;
 }
@@ -97,7 +97,7 @@ static void compare(const char *what, uint32_t is, uint32_t should)
     end_line();
 }
 
-static uint32_t call(uint8_t function, uint8_t parameter)
+uint32_t call(uint8_t function, uint8_t parameter)
 {
     return churawel_call(function, parameter, now.drive, lent.drive, now.volume, lent.volume, now.fcb, lent.fcb, now.buffer,
                          lent.buffer);

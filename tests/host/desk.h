@@ -41,8 +41,12 @@ void answers(const char *what, uint8_t function, uint8_t parameter, uint32_t ans
 // A call that must change nothing; one case.
 void refuses(const char *what, uint8_t function, uint32_t number);
 
-// A call that is no case of its own: whether it answers so and leaves all bytes as in `want`.
+// A call that is no case of its own: its answer; and whether it answers so and leaves all bytes as in `want`.
+uint32_t call(uint8_t function, uint8_t parameter);
 int holds(uint8_t function, uint8_t parameter, uint32_t answer);
+
+// Are all bytes as in `want`?
+int same_bytes(void);
 
 // One case by its outcome.
 void verdict(const char *what, int good);

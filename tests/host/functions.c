@@ -88,6 +88,17 @@ static void searching(void)
     want.drive[10] = 4;
     want_shown(128);
     answers("17 BFH is the wildcard with a top bit; slot 4 has code 0 and lies in the second record", 17, 0, 0);
+    as_it_stands();
+    want.drive[6] = 3;
+    answers("32 user 3", 32, 3, 0);
+    block_for(DRAFT);
+    now.fcb[0] = 1;
+    as_it_stands();
+    want.drive[9] = 3;
+    want.drive[10] = 2;
+    memcpy(want.drive + 12, DRAFT, 11);
+    want_shown(0);
+    answers("17 search first of user 3: slot 2, and user 3 is kept", 17, 0, 2);
     now.fcb[0] = 2;
     refuses("17 with dr 2: 42", 17, 42);
     block_for(DRAFT);
@@ -116,6 +127,11 @@ static void reading(void)
     as_it_stands();
     want_random(130, 0, 0);
     answers("36 gives the position 130", 36, 0, 0);
+    now.fcb[12] = 5;
+    refuses("20 in a group that has no entry: 1", 20, 1);
+    now.fcb[14] = 16;
+    refuses("20 with s2 16: 40", 20, 40);
+    refuses("36 with s2 16: 40", 36, 40);
     now.fcb[12] = 31;
     now.fcb[14] = 15;
     now.fcb[32] = 128;
@@ -144,6 +160,12 @@ static void writing(void)
     want_entry(4, 0, FINAL, 0, 0, 4, MAP(19));
     want_set_to(0, 0, 4, MAP(19), 4);
     answers("21 sequential write of record 3: rc 4, cr 4", 21, 0, 0);
+    at_record(1);
+    fill_buffer(10);
+    as_it_stands();
+    want_stored(19 * 1024 + RECORD);
+    want_set_to(0, 0, 4, MAP(19), 1);
+    answers("34 writes record 1 anew: rc stays 4", 34, 0, 0);
     at_record(130);
     as_it_stands();
     memset(want.volume + 20 * 1024 + 2 * RECORD, 0, RECORD);
@@ -161,6 +183,75 @@ static void writing(void)
     refuses("33 where the map place is beyond T-1: 41", 33, 41);
     now.volume[4 * ENTRY + 9] |= 0x80;
     refuses("34 of a file with a read-only entry: 38", 34, 38);
+}
+
+// A file whose higher extent stands in the lower slot, and whose entries differ in their attributes.
+static void uneven_file(void)
+{
+    fresh(1024, 40, 1);
+    as_it_stands();
+    want_entry(0, 5, "UPSIDE  D\xCFW", 2, 0, 7, MAP(9));
+    want_entry(1, 5, "UPSIDE  DOW", 0, 0, 128, MAP(7));
+    now = want;
+    memcpy(want.drive, "\0\4\50\0\1\0", 6);
+    want_held(7);
+    want_held(9);
+    log_in("log-in of a file whose extent 2 stands before its extent 0: 37 free", 1024, 40, 1, 0, 37);
+    as_it_stands();
+    want.drive[6] = 5;
+    answers("32 user 5", 32, 5, 0);
+    block_for("UPSIDE  DOW");
+    now.fcb[0] = 1;
+    as_it_stands();
+    want_random(7, 1, 0);
+    answers("35 its size is 263, by the larger end", 35, 0, 0);
+    at_record(128 + 8);
+    as_it_stands();
+    want_stored(1024);
+    want_entry(2, 5, "UPSIDE  D\xCFW", 1, 0, 9, MAP(0, 1));
+    want_set_to(1, 0, 9, MAP(0, 1), 8);
+    want_held(1);
+    answers("34 in a new group copies bytes 0 to 11 of the file's lowest entry", 34, 0, 0);
+}
+
+// Volumes altered since log-in: rc above 128, and map places below D.
+static void altered(void)
+{
+    static const uint8_t geometry[6] = {0x00, 0x04, 40, 0, 2, 0};
+    fresh(1024, 40, 2);
+    as_it_stands();
+    memcpy(want.drive, geometry, 6);
+    log_in("D 2: log-in, 38 free", 1024, 40, 2, 0, 38);
+    as_it_stands();
+    want_entry(0, 0, DRAFT, 0, 0, 200, MAP(1, 2));
+    now = want;
+    block_for(DRAFT);
+    at_record(0);
+    refuses("33 where the map place is below D: 41", 33, 41);
+    refuses("34 where the map place is below D: 41", 34, 41);
+    at_record(8);
+    as_it_stands();
+    want_shown(2048);
+    want_set_to(0, 0, 128, MAP(1, 2), 8);
+    answers("33 where rc is 200: the count is 128", 33, 0, 0);
+    as_it_stands();
+    want_random(128, 0, 0);
+    answers("35 where rc is 200: size 128", 35, 0, 0);
+    at_record(9);
+    as_it_stands();
+    want_stored(2048 + RECORD);
+    want_set_to(0, 0, 128, MAP(1, 2), 9);
+    answers("34 where rc is 200: it stays, and the held blocks stay", 34, 0, 0);
+    now.drive[32] = 0x07;
+    as_it_stands();
+    want.volume[0] = 0xE5;
+    want.drive[32] = 0x03;
+    answers("19 frees block 2 and passes over block 1, which is below D", 19, 0, 0);
+    as_it_stands();
+    want_entry(0, 0, DRAFT, 0, 0, 8, MAP(1));
+    now = want;
+    memset(want.drive, 0, 64);
+    log_in("log-in where a block number is below D: 36 with slot 0 above", 1024, 40, 2, 36, 0);
 }
 
 static void naming(void)
@@ -189,7 +280,10 @@ static void naming(void)
     want.volume[ENTRY + 9] |= 0x80;
     want.volume[ENTRY + 10] |= 0x80;
     answers("30 attributes go to both entries", 30, 0, 0);
-    now.fcb[9] &= 0x7F;
+    block_for("LATEJ   TXT");
+    memcpy(now.fcb + 17, FINAL, 11);
+    refuses("23 rename of a read-only file: 38, before 43", 23, 38);
+    now.fcb[10] |= 0x80;
     as_it_stands();
     want.volume[9] &= 0x7F;
     want.volume[ENTRY + 9] &= 0x7F;
@@ -362,6 +456,8 @@ void each_function(void)
     searching();
     reading();
     writing();
+    uneven_file();
+    altered();
     naming();
     small();
     lengths();

@@ -1,8 +1,11 @@
 // The host test: the file calls through churawel.h, as an emulator would make them. A line for each case, then the count.
 #include "desk.h"
 
+#include <stdio.h>
+
 int main(void)
 {
+    setvbuf(stdout, NULL, _IOLBF, 0);
     paper_examples();
     looking_right();
     each_function();

@@ -7,6 +7,7 @@
 //     layer IMAGE B T D gather USER NAME FILE   by random reads, the last record first
 //     layer IMAGE B T D put USER NAME FILE      make, then sequential writes
 //     layer IMAGE B T D scatter USER NAME FILE  make, then random writes, the last record first
+//     layer IMAGE B T D replace USER NAME FILE  delete, then as put, with no log-in between
 //     layer IMAGE B T D append USER NAME FILE   sequential writes from the file's size on
 //     layer IMAGE B T D patch USER NAME FILE N  random writes from record N on
 //     layer IMAGE B T D delete USER NAME        the name may have ? in it
@@ -218,7 +219,9 @@ int main(int count, char **words)
         printf("%u\n", records());
     } else if (strcmp(what, "get") == 0 || strcmp(what, "gather") == 0) {
         save(path, bytes, read_file(bytes, strcmp(what, "gather") == 0));
-    } else if (strcmp(what, "put") == 0) {
+    } else if (strcmp(what, "put") == 0 || strcmp(what, "replace") == 0) {
+        if (strcmp(what, "replace") == 0)
+            must(19, 0);
         must(22, 0);
         write_sequential(bytes, load(path, bytes, sizeof bytes));
     } else if (strcmp(what, "scatter") == 0) {
