@@ -18,13 +18,14 @@ void band_name(uint8_t *name, unsigned file)
     lay_name(name, "BAND", file, "TXT");
 }
 
-// An entry without blocks, of user 0 in every second slot.
+// An entry without blocks, of user 0 in about every second slot; one in four is of a later extent.
 static void other_entry(uint8_t *e, uint32_t slot)
 {
     static const uint8_t users[] = {0, 1, 0, 2};
     memset(e, 0, ENTRY);
     e[0] = users[slot / 3 % 4];
     lay_name(e + 1, slot % 2 ? "BAND" : "BLAT", slot, "BAK");
+    e[12] = slot % 4 == 1 ? 5 : 0;
 }
 
 // Group k of a worked file that has so many records from block `first` on.

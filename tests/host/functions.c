@@ -395,6 +395,34 @@ static void lengths(void)
     answers("13 with a volume of another length: 33, and the drive is closed", 13, 0, 33);
 }
 
+// What a function doesn't use may have any length, here 0.
+static void not_lent(void)
+{
+    static const uint8_t no_buffer[] = {15, 16, 19, 23, 30, 35};
+    some_files();
+    block_for("NOTHING    ");
+    memcpy(now.fcb + 17, "OTHER      ", 11);
+    as_it_stands();
+    lent.buffer = 0;
+    int good = 1;
+    for (size_t i = 0; i < sizeof no_buffer; i++)
+        good &= holds(no_buffer[i], 0, 255);
+    verdict("15, 16, 19, 23, 30 and 35 look at no buffer", good && holds(40, 0, 3));
+    lent.fcb = 0;
+    verdict("13 and 37 look at no control block and no buffer", holds(13, 0, 20u << 16) && holds(37, 0, 20u << 16));
+    lent.buffer = RECORD;
+    verdict("18 looks at no control block", holds(18, 0, 255));
+    lent.volume = lent.buffer = 0;
+    verdict("32 looks at nothing that is lent", holds(32, 255, 0));
+    as_it_stands();
+    want.drive[7] = 1;
+    answers("28 looks at nothing that is lent", 28, 0, 0);
+    lent.fcb = 36;
+    as_it_stands();
+    want_random(0, 0, 0);
+    answers("36 looks at no volume and no buffer", 36, 0, 0);
+}
+
 // Log-in's refusals: 32, 33, 36, and the closed value in the drive.
 static void log_in_refusals(void)
 {
@@ -461,5 +489,6 @@ void each_function(void)
     naming();
     small();
     lengths();
+    not_lent();
     log_in_refusals();
 }
