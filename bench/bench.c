@@ -1,0 +1,234 @@
+// The benchmark: the proved calls through churawel.h beside the same work in plain C (plain.c), in tables for people.
+// Times are the processor's, the median of several rounds in which both sides take turns. `bench ratios` prints ratios only.
+#define _POSIX_C_SOURCE 200809L
+#include "churawel.h"
+#include "pass.h"
+#include "plain.h"
+#include "shelf.h"
+
+#include <stdio.h>
+#include <stdlib.h>
+#include <string.h>
+#include <time.h>
+
+enum { ROUNDS = 11, OURS = 0, PLAIN = 1 };
+
+static const struct side sides[2] = {{churawel_log_in, churawel_call}, {plain_log_in, plain_call}};
+
+static struct shelf full, work;
+static struct desk desk;
+static int ratios_only;
+static int differing;
+
+static double seconds(void)
+{
+    struct timespec t;
+    clock_gettime(CLOCK_PROCESS_CPUTIME_ID, &t);
+    return (double)t.tv_sec + (double)t.tv_nsec / 1e9;
+}
+
+static int by_size(const void *a, const void *b)
+{
+    double x = *(const double *)a, y = *(const double *)b;
+    return (x > y) - (x < y);
+}
+
+static double median(const double *times)
+{
+    double sorted[ROUNDS];
+    memcpy(sorted, times, sizeof sorted);
+    qsort(sorted, ROUNDS, sizeof *sorted, by_size);
+    return sorted[ROUNDS / 2];
+}
+
+// A number with commas, right-aligned in so many columns.
+static void print_number(double x, int columns)
+{
+    char digits[32], text[48];
+    int n = snprintf(digits, sizeof digits, "%.0f", x), k = 0;
+    for (int i = 0; i < n; i++) {
+        if (i > 0 && (n - i) % 3 == 0)
+            text[k++] = ',';
+        text[k++] = digits[i];
+    }
+    text[k] = '\0';
+    printf("%*s", columns, text);
+}
+
+// Both medians, and the median of the rounds' ratios.
+struct measured {
+    double ours, plain, ratio;
+};
+
+// One piece of work, timed: `job` is given the side and how often to do it, and the time counts for one.
+static struct measured measure(void (*before)(const struct side *), void (*job)(const struct side *, unsigned), unsigned times)
+{
+    double taken[2][ROUNDS], ratio[ROUNDS];
+    for (int round = 0; round < ROUNDS; round++) {
+        for (int turn = 0; turn < 2; turn++) {
+            int who = (round + turn) % 2;
+            before(&sides[who]);
+            double start = seconds();
+            job(&sides[who], times);
+            taken[who][round] = (seconds() - start) / times;
+        }
+        ratio[round] = taken[OURS][round] / taken[PLAIN][round];
+    }
+    return (struct measured){median(taken[OURS]), median(taken[PLAIN]), median(ratio)};
+}
+
+// ---- the jobs
+
+static void start_anew(const struct side *side)
+{
+    work = full;
+    memset(&desk, 0, sizeof desk);
+    if ((side->log_in(work.block, work.total, work.directory, work.volume, work.bytes, desk.drive, sizeof desk.drive) & 0xFFFF) != 0) {
+        puts("the volume is refused");
+        exit(1);
+    }
+}
+
+static volatile uint64_t sink;
+
+static void pass_job(const struct side *side, unsigned times)
+{
+    while (times-- > 0)
+        sink += replacement_pass(side, &work, &desk, 0);
+}
+
+static void log_in_job(const struct side *side, unsigned times)
+{
+    while (times-- > 0)
+        sink += side->log_in(work.block, work.total, work.directory, work.volume, work.bytes, desk.drive, sizeof desk.drive);
+}
+
+static uint8_t job_function;
+
+static void call_job(const struct side *side, unsigned times)
+{
+    while (times-- > 0)
+        sink += side->call(job_function, 0, desk.drive, sizeof desk.drive, work.volume, work.bytes, desk.fcb, sizeof desk.fcb,
+                           desk.buffer, sizeof desk.buffer);
+}
+
+// The control block of a call on the last record of the last file, whose entry is in the last slot.
+static void start_at_end(const struct side *side)
+{
+    start_anew(side);
+    const uint8_t *e = work.volume + (size_t)(work.slots - 1) * ENTRY;
+    uint32_t n = 128 * (32u * e[14] + e[12]) + e[15] - 1;
+    memcpy(desk.fcb + 1, e + 1, NAME);
+    desk.fcb[33] = (uint8_t)n;
+    desk.fcb[34] = (uint8_t)(n >> 8);
+}
+
+// The control block of a call on a file that isn't there.
+static void start_at_nothing(const struct side *side)
+{
+    start_anew(side);
+    memcpy(desk.fcb + 1, "BAND9999TXT", NAME);
+}
+
+// ---- the tables
+
+static int check_pass(void)
+{
+    uint64_t sum[2];
+    for (int who = 0; who < 2; who++) {
+        start_anew(&sides[who]);
+        sum[who] = replacement_pass(&sides[who], &work, &desk, 1);
+    }
+    if (sum[OURS] != sum[PLAIN])
+        differing++;
+    return sum[OURS] == sum[PLAIN];
+}
+
+static double worst_ratio, least_calls = 1e18;
+
+static void pass_table(void)
+{
+    puts("Replacement pass: 40,000 calls on a nearly full volume of 1 MiB (256 blocks of 4,096 bytes)\n");
+    puts(ratios_only ? "  slots   ratio   answers and bytes" : "  slots   proved, calls/s   plain C, calls/s   ratio   answers and bytes");
+    for (uint32_t directory = 2; directory <= 16; directory *= 2) {
+        fill_shelf(&full, 4096, directory);
+        int same = check_pass();
+        struct measured m = measure(start_anew, pass_job, 1);
+        print_number(full.slots, 7);
+        if (!ratios_only) {
+            print_number(PASS_CALLS / m.ours, 18);
+            print_number(PASS_CALLS / m.plain, 19);
+        }
+        printf("   %5.2f   %s\n", m.ratio, same ? "equal" : "DIFFERENT");
+        if (m.ratio > worst_ratio)
+            worst_ratio = m.ratio;
+        if (PASS_CALLS / m.ours < least_calls)
+            least_calls = PASS_CALLS / m.ours;
+    }
+}
+
+static void log_in_table(void)
+{
+    puts("\nLog-in of a full directory\n");
+    puts(ratios_only ? "  slots   ratio" : "  slots   proved, us   plain C, us   ratio");
+    for (uint32_t directory = 2; directory <= 16; directory *= 2) {
+        fill_shelf(&full, 4096, directory);
+        fill_directory(&full);
+        struct measured m = measure(start_anew, log_in_job, 65536 / full.slots);
+        print_number(full.slots, 7);
+        if (!ratios_only)
+            printf("   %10.1f   %11.1f", m.ours * 1e6, m.plain * 1e6);
+        printf("   %5.2f\n", m.ratio);
+    }
+}
+
+// One call: its time through the seam in nanoseconds, and the ratio.
+static void call_cell(void (*before)(const struct side *), uint8_t function)
+{
+    job_function = function;
+    struct measured m = measure(before, call_job, 2000000 / (full.slots + 100));
+    if (!ratios_only)
+        print_number(m.ours * 1e9, 9);
+    printf(ratios_only ? "%10.2f" : "%6.2f", m.ratio);
+}
+
+static void growth_table(void)
+{
+    static const uint32_t shapes[][2] = {{1024, 1}, {2048, 1}, {4096, 1}, {4096, 2}, {4096, 4}, {4096, 8}, {4096, 16}};
+    puts("\nOne call as the directory grows: on a record whose entry is in the last slot; open of a file that isn't there\n");
+    puts(ratios_only ? "  slots      read   rewrite      size      open   (ratios)"
+                     : "  slots    read, ns ratio   rewrite ratio      size ratio      open ratio");
+    for (size_t i = 0; i < sizeof shapes / sizeof *shapes; i++) {
+        fill_shelf(&full, shapes[i][0], shapes[i][1]);
+        print_number(full.slots, 7);
+        if (!ratios_only)
+            printf("  ");
+        call_cell(start_at_end, 33);
+        call_cell(start_at_end, 34);
+        call_cell(start_at_end, 35);
+        call_cell(start_at_nothing, 15);
+        putchar('\n');
+    }
+}
+
+int main(int count, char **words)
+{
+    ratios_only = count > 1 && strcmp(words[1], "ratios") == 0;
+    printf("Ratio: the time of the proved calls, where that of plain C (gcc -O2) is 1. Median of %d rounds, in turns.\n", ROUNDS);
+    if (ratios_only)
+        puts("This processor runs x86-64 programs under an emulator: a time would say nothing, so only ratios are printed.");
+    putchar('\n');
+    pass_table();
+    log_in_table();
+    growth_table();
+    printf("\nAim in the pass: a ratio of at most 1.30 (%.2f at worst: %s)", worst_ratio, worst_ratio <= 1.3 ? "met" : "MISSED");
+    if (!ratios_only) {
+        printf(", at least 90,000 calls a second (");
+        print_number(least_calls, 0);
+        printf(" at worst: %s)", least_calls >= 90000 ? "met" : "MISSED");
+    }
+    puts(".");
+    if (differing > 0)
+        puts("FAILED: the two sides differ in answers or bytes.");
+    return differing > 0;
+}

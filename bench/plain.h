@@ -1,0 +1,14 @@
+// The file calls in plain C, called as those of churawel.h are.
+#ifndef PLAIN_H
+#define PLAIN_H
+
+#include <stddef.h>
+#include <stdint.h>
+
+uint32_t plain_log_in(uint32_t block_bytes, uint32_t blocks, uint32_t directory_blocks, const uint8_t *volume,
+                      size_t volume_bytes, uint8_t *drive, size_t drive_bytes);
+
+uint32_t plain_call(uint8_t function, uint8_t parameter, uint8_t *drive, size_t drive_bytes, uint8_t *volume,
+                    size_t volume_bytes, uint8_t *fcb, size_t fcb_bytes, uint8_t *buffer, size_t buffer_bytes);
+
+#endif

@@ -1,0 +1,83 @@
+// The volume that the benchmark works on, laid out by the paper's entry format.
+#include "shelf.h"
+
+#include <stdio.h>
+#include <string.h>
+
+enum { TOTAL = 256, SPARE = 6, PLACES = 16 };
+
+static void lay_name(uint8_t *to, const char *stem, unsigned number, const char *type)
+{
+    char text[24];
+    snprintf(text, sizeof text, "%s%04u%s", stem, number % 10000, type);
+    memcpy(to, text, NAME);
+}
+
+void band_name(uint8_t *name, unsigned file)
+{
+    lay_name(name, "BAND", file, "TXT");
+}
+
+// An entry without blocks, of user 0 in about every second slot; one in four is of a later extent.
+static void other_entry(uint8_t *e, uint32_t slot)
+{
+    static const uint8_t users[] = {0, 1, 0, 2};
+    memset(e, 0, ENTRY);
+    e[0] = users[slot / 3 % 4];
+    lay_name(e + 1, slot % 2 ? "BAND" : "BLAT", slot, "BAK");
+    e[12] = slot % 4 == 1 ? 5 : 0;
+}
+
+// Group k of a worked file that has so many records from block `first` on.
+static void worked_entry(const struct shelf *s, uint8_t *e, unsigned file, uint32_t k, uint32_t first, uint32_t records)
+{
+    uint32_t in_block = s->block / RECORD, in_entry = PLACES * in_block;
+    uint32_t end = records < (k + 1) * in_entry ? records : (k + 1) * in_entry;
+    uint32_t extent = (end - 1) / 128;
+    memset(e, 0, ENTRY);
+    band_name(e + 1, file);
+    e[12] = extent % 32;
+    e[14] = (uint8_t)(extent / 32);
+    e[15] = (uint8_t)((end - 1) % 128 + 1);
+    for (uint32_t n = k * in_entry; n < end; n += in_block)
+        e[16 + (n - k * in_entry) / in_block] = (uint8_t)(first + n / in_block);
+}
+
+static void fill_data(struct shelf *s)
+{
+    uint32_t x = 1;
+    for (size_t i = (size_t)s->directory * s->block; i < s->bytes; i++) {
+        x = x * 1664525u + 1013904223u;
+        s->volume[i] = (uint8_t)(x >> 24);
+    }
+}
+
+void fill_shelf(struct shelf *s, uint32_t block, uint32_t directory)
+{
+    s->block = block;
+    s->total = TOTAL;
+    s->directory = directory;
+    s->slots = directory * block / ENTRY;
+    s->bytes = (size_t)TOTAL * block;
+    for (uint32_t slot = 0; slot < s->slots; slot++) {
+        if (slot % 64 == 63 || slot == s->slots / 2 + 1)
+            memset(s->volume + (size_t)slot * ENTRY, 0xE5, ENTRY);
+        else
+            other_entry(s->volume + (size_t)slot * ENTRY, slot);
+    }
+    uint32_t blocks = (TOTAL - directory - SPARE) / FILES;
+    uint32_t groups = (blocks + PLACES - 1) / PLACES, entries = FILES * groups;
+    for (uint32_t i = 0; i < entries; i++) {
+        uint32_t slot = i * (s->slots - 1) / (entries - 1), file = i % FILES;
+        worked_entry(s, s->volume + (size_t)slot * ENTRY, file + 1, i / FILES, directory + file * blocks,
+                     blocks * (block / RECORD) - 3);
+    }
+    fill_data(s);
+}
+
+void fill_directory(struct shelf *s)
+{
+    for (uint32_t slot = 0; slot < s->slots; slot++)
+        if (s->volume[(size_t)slot * ENTRY] == 0xE5)
+            other_entry(s->volume + (size_t)slot * ENTRY, slot);
+}

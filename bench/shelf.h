@@ -1,0 +1,38 @@
+// The volume that the benchmark works on, and the two sides that are measured on it.
+#ifndef SHELF_H
+#define SHELF_H
+
+#include <stddef.h>
+#include <stdint.h>
+
+enum { FILES = 8, RECORD = 128, ENTRY = 32, NAME = 11, VOLUME_MOST = 256 * 4096 };
+
+// The proved calls, or those in plain C.
+struct side {
+    uint32_t (*log_in)(uint32_t, uint32_t, uint32_t, const uint8_t *, size_t, uint8_t *, size_t);
+    uint32_t (*call)(uint8_t, uint8_t, uint8_t *, size_t, uint8_t *, size_t, uint8_t *, size_t, uint8_t *, size_t);
+};
+
+// A nearly full volume of 256 blocks: user 0 works on eight files, BAND0001.TXT and so on, which have nearly all blocks and
+// whose entries are spread from the first slot to the last; one slot in 64 is empty; the other slots have entries without
+// blocks, half of them of user 0.
+struct shelf {
+    uint32_t block, total, directory, slots;
+    size_t bytes;
+    uint8_t volume[VOLUME_MOST];
+};
+
+void fill_shelf(struct shelf *s, uint32_t block, uint32_t directory);
+
+// No empty slot is left.
+void fill_directory(struct shelf *s);
+
+// The eleven bytes of a worked file's name.
+void band_name(uint8_t *name, unsigned file);
+
+// What a side is lent beside the volume.
+struct desk {
+    uint8_t drive[64], fcb[36], buffer[RECORD];
+};
+
+#endif

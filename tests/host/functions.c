@@ -1,0 +1,494 @@
+// Each function that is served, once or more with every byte, and its refusals in the paper's order.
+#include "desk.h"
+
+#include <stdio.h>
+#include <string.h>
+
+#define DRAFT "DRAFT   TXT"
+#define FINAL "FINAL   TXT"
+
+// Slots 0..2: DRAFT of user 0 in groups 0 and 1, and DRAFT of user 3; slot 3 empty; slot 4: FINAL of user 0. B 1,024.
+static void some_files(void)
+{
+    fresh(1024, 40, 1);
+    as_it_stands();
+    want_entry(0, 0, DRAFT, 0, 0, 128, MAP(1, 2, 3, 4, 5, 6, 7, 8, 9, 10, 11, 12, 13, 14, 15, 16));
+    want_entry(1, 0, DRAFT, 1, 0, 2, MAP(17));
+    want_entry(2, 3, DRAFT, 0, 0, 8, MAP(18));
+    want_entry(4, 0, FINAL, 0, 0, 3, MAP(19));
+    now = want;
+    static const uint8_t geometry[6] = {0x00, 0x04, 40, 0, 1, 0};
+    memcpy(want.drive, geometry, 6);
+    for (unsigned b = 1; b <= 19; b++)
+        want_held(b);
+    log_in("log-in of a volume with three files: 20 free", 1024, 40, 1, 0, 20);
+}
+
+static void opening(void)
+{
+    some_files();
+    block_for("D????   T?T");
+    now.fcb[12] = 1;
+    now.fcb[13] = 9;
+    now.fcb[14] = 9;
+    as_it_stands();
+    memcpy(want.fcb + 1, DRAFT, 11);
+    want.fcb[13] = 0;
+    want.fcb[14] = 0;
+    want.fcb[15] = 2;
+    memcpy(want.fcb + 16, MAP(17), 16);
+    answers("15 open by a pattern, ex 1: code 1, name and map from the entry, s1 and s2 become 0", 15, 0, 1);
+    now.fcb[12] = 2;
+    refuses("15 open of a group that is not there: 255", 15, 255);
+    now.fcb[12] = 32;
+    refuses("15 open with ex 32: 40", 15, 40);
+    block_for(DRAFT);
+    now.fcb[12] = 1;
+    as_it_stands();
+    answers("16 close: code 1, nothing changes", 16, 0, 1);
+    now.fcb[14] = 1;
+    refuses("16 close of a group that is not there: 255", 16, 255);
+    now.fcb[14] = 16;
+    refuses("16 close with s2 16: 40", 16, 40);
+    block_for("DRA?T   TXT");
+    refuses("16 close with 3FH in the name: 39", 16, 39);
+}
+
+static void searching(void)
+{
+    some_files();
+    refuses("18 search next with none open: 255", 18, 255);
+    block_for("D??????????");
+    now.fcb[12] = 63;
+    as_it_stands();
+    want.drive[8] = 1;
+    memcpy(want.drive + 12, "D??????????", 11);
+    want.drive[23] = 63;
+    want_shown(0);
+    answers("17 search first: slot 0, its directory record, pattern and user kept", 17, 0, 0);
+    as_it_stands();
+    want.drive[6] = 3;
+    answers("32 user 3 between the two", 32, 3, 0);
+    memset(now.fcb, 0xFF, 36);
+    memset(now.buffer, 0, RECORD);
+    as_it_stands();
+    want.drive[10] = 1;
+    want_shown(0);
+    answers("18 search next looks at no control block and keeps the user of first: slot 1", 18, 0, 1);
+    refuses("18 no further hit: 255, the search stays as it is", 18, 255);
+    block_for("NOTHING    ");
+    refuses("17 with no hit: 255, the older search stays open", 17, 255);
+    block_for("FINAL   TX\xBF");
+    as_it_stands();
+    want.drive[6] = 0;
+    answers("32 user 0", 32, 0, 0);
+    as_it_stands();
+    memcpy(want.drive + 12, "FINAL   TX\xBF", 11);
+    want.drive[23] = 0;
+    want.drive[10] = 4;
+    want_shown(128);
+    answers("17 BFH is the wildcard with a top bit; slot 4 has code 0 and lies in the second record", 17, 0, 0);
+    as_it_stands();
+    want.drive[6] = 3;
+    answers("32 user 3", 32, 3, 0);
+    block_for(DRAFT);
+    now.fcb[0] = 1;
+    as_it_stands();
+    want.drive[9] = 3;
+    want.drive[10] = 2;
+    memcpy(want.drive + 12, DRAFT, 11);
+    want_shown(0);
+    answers("17 search first of user 3: slot 2, and user 3 is kept", 17, 0, 2);
+    now.fcb[0] = 2;
+    refuses("17 with dr 2: 42", 17, 42);
+    block_for(DRAFT);
+    now.fcb[12] = 33;
+    refuses("17 with ex 33: 40", 17, 40);
+}
+
+static void reading(void)
+{
+    some_files();
+    block_for(DRAFT);
+    now.fcb[32] = 127;
+    as_it_stands();
+    want_shown(16 * 1024 + 7 * RECORD);
+    want_set_to(0, 0, 128, MAP(1, 2, 3, 4, 5, 6, 7, 8, 9, 10, 11, 12, 13, 14, 15, 16), 128);
+    answers("20 sequential read of record 127: cr 128", 20, 0, 0);
+    as_it_stands();
+    want_shown(17 * 1024);
+    want_set_to(1, 0, 2, MAP(17), 1);
+    answers("20 again: record 128, ex 1, cr 1", 20, 0, 0);
+    as_it_stands();
+    want_shown(17 * 1024 + RECORD);
+    want_set_to(1, 0, 2, MAP(17), 2);
+    answers("20 again: record 129", 20, 0, 0);
+    refuses("20 again: 1 at the end", 20, 1);
+    as_it_stands();
+    want_random(130, 0, 0);
+    answers("36 gives the position 130", 36, 0, 0);
+    now.fcb[12] = 5;
+    refuses("20 in a group that has no entry: 1", 20, 1);
+    now.fcb[14] = 16;
+    refuses("20 with s2 16: 40", 20, 40);
+    refuses("36 with s2 16: 40", 36, 40);
+    now.fcb[12] = 31;
+    now.fcb[14] = 15;
+    now.fcb[32] = 128;
+    refuses("20 at position 65,536: 6", 20, 6);
+    refuses("21 at position 65,536: 6", 21, 6);
+    as_it_stands();
+    want_random(0, 0, 1);
+    answers("36 at position 65,536: bytes 0, 0, 1", 36, 0, 0);
+    refuses("33 with r2 1: 6", 33, 6);
+    refuses("34 with r2 1: 6", 34, 6);
+    refuses("40 with r2 1: 6", 40, 6);
+    block_for("NOTHING    ");
+    refuses("33 of a file that is not there: 3", 33, 3);
+    refuses("34 of a file that is not there: 3", 34, 3);
+    refuses("35 of a file that is not there: 255", 35, 255);
+}
+
+static void writing(void)
+{
+    some_files();
+    block_for(FINAL);
+    now.fcb[32] = 3;
+    fill_buffer(9);
+    as_it_stands();
+    want_stored(19 * 1024 + 3 * RECORD);
+    want_entry(4, 0, FINAL, 0, 0, 4, MAP(19));
+    want_set_to(0, 0, 4, MAP(19), 4);
+    answers("21 sequential write of record 3: rc 4, cr 4", 21, 0, 0);
+    at_record(1);
+    fill_buffer(10);
+    as_it_stands();
+    want_stored(19 * 1024 + RECORD);
+    want_set_to(0, 0, 4, MAP(19), 1);
+    answers("34 writes record 1 anew: rc stays 4", 34, 0, 0);
+    at_record(130);
+    as_it_stands();
+    memset(want.volume + 20 * 1024 + 2 * RECORD, 0, RECORD);
+    want_entry(3, 0, FINAL, 1, 0, 3, MAP(20));
+    want_set_to(1, 0, 3, MAP(20), 2);
+    want_held(20);
+    answers("40 stores 128 zero bytes in a new group: slot 3, block 20, rc 3", 40, 0, 0);
+    lent.buffer = 0;
+    as_it_stands();
+    answers("40 looks at no buffer", 40, 0, 0);
+    lent.buffer = RECORD;
+    now.volume[4 * ENTRY + 16] = 40;
+    at_record(0);
+    refuses("34 where the map place is beyond T-1: 41", 34, 41);
+    refuses("33 where the map place is beyond T-1: 41", 33, 41);
+    now.volume[4 * ENTRY + 9] |= 0x80;
+    refuses("34 of a file with a read-only entry: 38", 34, 38);
+}
+
+// A file whose higher extent stands in the lower slot, and whose entries differ in their attributes.
+static void uneven_file(void)
+{
+    fresh(1024, 40, 1);
+    as_it_stands();
+    want_entry(0, 5, "UPSIDE  D\xCFW", 2, 0, 7, MAP(9));
+    want_entry(1, 5, "UPSIDE  DOW", 0, 0, 128, MAP(7));
+    now = want;
+    memcpy(want.drive, "\0\4\50\0\1\0", 6);
+    want_held(7);
+    want_held(9);
+    log_in("log-in of a file whose extent 2 stands before its extent 0: 37 free", 1024, 40, 1, 0, 37);
+    as_it_stands();
+    want.drive[6] = 5;
+    answers("32 user 5", 32, 5, 0);
+    block_for("UPSIDE  DOW");
+    now.fcb[0] = 1;
+    as_it_stands();
+    want_random(7, 1, 0);
+    answers("35 its size is 263, by the larger end", 35, 0, 0);
+    at_record(128 + 8);
+    as_it_stands();
+    want_stored(1024);
+    want_entry(2, 5, "UPSIDE  D\xCFW", 1, 0, 9, MAP(0, 1));
+    want_set_to(1, 0, 9, MAP(0, 1), 8);
+    want_held(1);
+    answers("34 in a new group copies bytes 0 to 11 of the file's lowest entry", 34, 0, 0);
+}
+
+// Volumes altered since log-in: rc above 128, and map places below D.
+static void altered(void)
+{
+    static const uint8_t geometry[6] = {0x00, 0x04, 40, 0, 2, 0};
+    fresh(1024, 40, 2);
+    as_it_stands();
+    memcpy(want.drive, geometry, 6);
+    log_in("D 2: log-in, 38 free", 1024, 40, 2, 0, 38);
+    as_it_stands();
+    want_entry(0, 0, DRAFT, 0, 0, 200, MAP(1, 2));
+    now = want;
+    block_for(DRAFT);
+    at_record(0);
+    refuses("33 where the map place is below D: 41", 33, 41);
+    refuses("34 where the map place is below D: 41", 34, 41);
+    at_record(8);
+    as_it_stands();
+    want_shown(2048);
+    want_set_to(0, 0, 128, MAP(1, 2), 8);
+    answers("33 where rc is 200: the count is 128", 33, 0, 0);
+    as_it_stands();
+    want_random(128, 0, 0);
+    answers("35 where rc is 200: size 128", 35, 0, 0);
+    at_record(9);
+    as_it_stands();
+    want_stored(2048 + RECORD);
+    want_set_to(0, 0, 128, MAP(1, 2), 9);
+    answers("34 where rc is 200: it stays, and the held blocks stay", 34, 0, 0);
+    now.drive[32] = 0x07;
+    as_it_stands();
+    want.volume[0] = 0xE5;
+    want.drive[32] = 0x03;
+    answers("19 frees block 2 and passes over block 1, which is below D", 19, 0, 0);
+    as_it_stands();
+    want_entry(0, 0, DRAFT, 0, 0, 8, MAP(1));
+    now = want;
+    memset(want.drive, 0, 64);
+    log_in("log-in where a block number is below D: 36 with slot 0 above", 1024, 40, 2, 36, 0);
+}
+
+static void naming(void)
+{
+    some_files();
+    block_for(DRAFT);
+    memcpy(now.fcb + 17, FINAL, 11);
+    refuses("23 rename to a name that exists: 43", 23, 43);
+    memcpy(now.fcb + 17, "LATE*   T?T", 11);
+    refuses("23 rename to a name with 3FH: 39", 23, 39);
+    memcpy(now.fcb + 17, "LATE\xCA   T\xD8T", 11);
+    as_it_stands();
+    memcpy(want.volume + 1, "LATEJ   TXT", 11);
+    memcpy(want.volume + ENTRY + 1, "LATEJ   TXT", 11);
+    answers("23 rename: both entries of user 0 take the new name without top bits", 23, 0, 0);
+    block_for(DRAFT);
+    refuses("19 delete of a name that is gone: 255", 19, 255);
+    memcpy(now.fcb + 17, FINAL, 11);
+    refuses("23 rename of a name that is gone: 255, before 43", 23, 255);
+    block_for("LATEJ   TXT");
+    now.fcb[9] |= 0x80;
+    now.fcb[10] |= 0x80;
+    as_it_stands();
+    want.volume[9] |= 0x80;
+    want.volume[10] |= 0x80;
+    want.volume[ENTRY + 9] |= 0x80;
+    want.volume[ENTRY + 10] |= 0x80;
+    answers("30 attributes go to both entries", 30, 0, 0);
+    block_for("LATEJ   TXT");
+    memcpy(now.fcb + 17, FINAL, 11);
+    refuses("23 rename of a read-only file: 38, before 43", 23, 38);
+    now.fcb[10] |= 0x80;
+    as_it_stands();
+    want.volume[9] &= 0x7F;
+    want.volume[ENTRY + 9] &= 0x7F;
+    answers("30 takes one of them off again", 30, 0, 0);
+    block_for("NOTHING    ");
+    refuses("30 of a file that is not there: 255", 30, 255);
+    block_for("LATEJ   TXT");
+    memcpy(now.fcb + 17, DRAFT, 11);
+    as_it_stands();
+    memcpy(want.volume + 1, DRAFT, 11);
+    memcpy(want.volume + ENTRY + 1, DRAFT, 11);
+    want.volume[10] |= 0x80;
+    want.volume[ENTRY + 10] |= 0x80;
+    answers("23 rename keeps the entries' attribute bits", 23, 0, 0);
+    block_for(DRAFT);
+    as_it_stands();
+    want.volume[0] = 0xE5;
+    want.volume[ENTRY] = 0xE5;
+    want.drive[32] = 0;
+    want.drive[33] = 0;
+    want.drive[34] = 0x0C;
+    answers("19 delete: both entries are gone, their 17 blocks are free", 19, 0, 0);
+    block_for("NEW\xA0\xA0\xA0\xA0\xA0   ");
+    as_it_stands();
+    want_entry(0, 0, "NEW        ", 0, 0, 0, MAP(0));
+    memcpy(want.fcb + 1, "NEW        ", 11);
+    answers("22 make takes the lowest empty slot, and the name without top bits", 22, 0, 0);
+    now.fcb[12] = 1;
+    refuses("22 make with ex 1: 40", 22, 40);
+}
+
+static void small(void)
+{
+    some_files();
+    as_it_stands();
+    want.drive[6] = 15;
+    answers("32 sets user 15", 32, 15, 0);
+    as_it_stands();
+    answers("32 with 255 answers the user", 32, 255, 15);
+    int good = 1;
+    for (unsigned code = 16; code < 255; code++)
+        good &= holds(32, (uint8_t)code, 44);
+    verdict("32 with 16..254: 44, nothing changes", good);
+    as_it_stands();
+    want.drive[7] = 1;
+    answers("28 protects", 28, 0, 0);
+    block_for(DRAFT);
+    memcpy(now.fcb + 17, "OTHER      ", 11);
+    static const uint8_t changing[] = {19, 21, 22, 23, 30, 34, 40};
+    as_it_stands();
+    good = 1;
+    for (size_t i = 0; i < sizeof changing; i++)
+        good &= holds(changing[i], 0, 37);
+    verdict("delete, make, rename, attributes and the writes answer 37 on a protected drive", good);
+    as_it_stands();
+    want.drive[6] = 0;
+    want.drive[7] = 0;
+    answers("13 logs in anew: user 0, not protected", 13, 0, 20u << 16);
+    good = 1;
+    as_it_stands();
+    static const uint8_t served[] = {13, 15, 16, 17, 18, 19, 20, 21, 22, 23, 28, 30, 32, 33, 34, 35, 36, 37, 40};
+    for (unsigned f = 0; f < 256; f++)
+        if (memchr(served, (int)f, sizeof served) == NULL)
+            good &= holds((uint8_t)f, 0, 31);
+    verdict("every number that is not served answers 31, nothing changes", good);
+    now.volume[4 * ENTRY + 13] = 1;
+    as_it_stands();
+    memset(want.drive, 0, 64);
+    answers("37 on a volume that was altered: 36 with slot 4 above, the drive is closed", 37, 0, 36 | 4u << 16);
+    refuses("13 on a closed drive: 32", 13, 32);
+}
+
+// The lengths: 33, 34, 35 as far as lent, each before the next.
+static void lengths(void)
+{
+    static const uint8_t volume[] = {15, 16, 17, 18, 19, 20, 21, 22, 23, 30, 33, 34, 35, 40};
+    static const uint8_t block[] = {15, 16, 17, 19, 20, 21, 22, 23, 30, 33, 34, 35, 36, 40};
+    static const uint8_t buffer[] = {17, 18, 20, 21, 33, 34};
+    some_files();
+    block_for(DRAFT);
+    now.fcb[0] = 9;
+    as_it_stands();
+    int good = 1;
+    lent.buffer = 127;
+    for (size_t i = 0; i < sizeof buffer; i++)
+        good &= holds(buffer[i], 0, 35);
+    lent.buffer = 129;
+    for (size_t i = 0; i < sizeof buffer; i++)
+        good &= holds(buffer[i], 0, 35);
+    verdict("35 for a buffer of 127 or 129 bytes, before 42", good);
+    good = 1;
+    lent.fcb = 35;
+    for (size_t i = 0; i < sizeof block; i++)
+        good &= holds(block[i], 0, 34);
+    lent.fcb = 37;
+    for (size_t i = 0; i < sizeof block; i++)
+        good &= holds(block[i], 0, 34);
+    verdict("34 for a control block of 35 or 37 bytes, before 35", good);
+    good = 1;
+    lent.volume -= 1;
+    for (size_t i = 0; i < sizeof volume; i++)
+        good &= holds(volume[i], 0, 33);
+    lent.volume += 2;
+    for (size_t i = 0; i < sizeof volume; i++)
+        good &= holds(volume[i], 0, 33);
+    verdict("33 for a volume one byte short or long, before 34", good);
+    as_it_stands();
+    memset(want.drive, 0, 64);
+    answers("13 with a volume of another length: 33, and the drive is closed", 13, 0, 33);
+}
+
+// What a function doesn't use may have any length, here 0.
+static void not_lent(void)
+{
+    static const uint8_t no_buffer[] = {15, 16, 19, 23, 30, 35};
+    some_files();
+    block_for("NOTHING    ");
+    memcpy(now.fcb + 17, "OTHER      ", 11);
+    as_it_stands();
+    lent.buffer = 0;
+    int good = 1;
+    for (size_t i = 0; i < sizeof no_buffer; i++)
+        good &= holds(no_buffer[i], 0, 255);
+    verdict("15, 16, 19, 23, 30 and 35 look at no buffer", good && holds(40, 0, 3));
+    lent.fcb = 0;
+    verdict("13 and 37 look at no control block and no buffer", holds(13, 0, 20u << 16) && holds(37, 0, 20u << 16));
+    lent.buffer = RECORD;
+    verdict("18 looks at no control block", holds(18, 0, 255));
+    lent.volume = lent.buffer = 0;
+    verdict("32 looks at nothing that is lent", holds(32, 255, 0));
+    as_it_stands();
+    want.drive[7] = 1;
+    answers("28 looks at nothing that is lent", 28, 0, 0);
+    lent.fcb = 36;
+    as_it_stands();
+    want_random(0, 0, 0);
+    answers("36 looks at no volume and no buffer", 36, 0, 0);
+}
+
+// Log-in's refusals: 32, 33, 36, and the closed value in the drive.
+static void log_in_refusals(void)
+{
+    // The last three are within the rules if only 16 bits of each number are looked at.
+    static const uint32_t outside[][3] = {
+        {0, 40, 1},    {512, 40, 1},  {1023, 40, 1}, {8192, 40, 1},  {1024, 0, 1},     {1024, 1, 1},       {1024, 257, 1},
+        {1024, 40, 0}, {1024, 2, 2},  {1024, 16, 16}, {1024, 40, 17}, {66560, 40, 1}, {1024, 65576, 1}, {1024, 40, 65537},
+    };
+    for (size_t i = 0; i < sizeof outside / sizeof *outside; i++) {
+        char what[100];
+        const uint32_t *g = outside[i];
+        some_files();
+        as_it_stands();
+        memset(want.drive, 0, 64);
+        snprintf(what, sizeof what, "log-in with B %u, T %u, D %u: 32, the drive is closed", g[0], g[1], g[2]);
+        log_in(what, g[0], g[1], g[2], 32, 0);
+    }
+    some_files();
+    lent.volume++;
+    as_it_stands();
+    memset(want.drive, 0, 64);
+    log_in("log-in with a volume one byte long: 33, the drive is closed", 1024, 40, 1, 33, 0);
+    static const struct {
+        const char *what;
+        uint8_t at, byte;
+    } bad[] = {
+        {"slot 4 has user 16: 36 with 4 above", 0, 16},
+        {"slot 4 has a name that begins with a blank: 36 with 4 above", 1, 0x20},
+        {"slot 4 has 1FH in its name: 36 with 4 above", 4, 0x1F},
+        {"slot 4 has 7FH in its name: 36 with 4 above", 4, 0x7F},
+        {"slot 4 has 3FH in its name: 36 with 4 above", 4, 0x3F},
+        {"slot 4 has a top bit on byte 8: 36 with 4 above", 8, 0xA0},
+        {"slot 4 has a top bit on byte 11: 36 with 4 above", 11, 0xD4},
+        {"slot 4 has ex 32: 36 with 4 above", 12, 32},
+        {"slot 4 has s1 1: 36 with 4 above", 13, 1},
+        {"slot 4 has s2 16: 36 with 4 above", 14, 16},
+        {"slot 4 has rc 129: 36 with 4 above", 15, 129},
+        {"slot 4 has a block number beyond T-1: 36 with 4 above", 31, 40},
+        {"slot 4 has a block twice: 36 with 4 above", 31, 19},
+        {"slot 4 has a lower slot's block: 36 with 4 above", 31, 18},
+    };
+    for (size_t i = 0; i < sizeof bad / sizeof *bad; i++) {
+        some_files();
+        now.volume[4 * ENTRY + bad[i].at] = bad[i].byte;
+        as_it_stands();
+        memset(want.drive, 0, 64);
+        log_in(bad[i].what, 1024, 40, 1, 36, 4);
+    }
+    some_files();
+    memcpy(now.volume + 4 * ENTRY + 1, DRAFT, 11);
+    as_it_stands();
+    memset(want.drive, 0, 64);
+    log_in("the same user, name and group as in a lower slot: 36 with slot 4 above", 1024, 40, 1, 36, 4);
+}
+
+void each_function(void)
+{
+    opening();
+    searching();
+    reading();
+    writing();
+    uneven_file();
+    altered();
+    naming();
+    small();
+    lengths();
+    not_lent();
+    log_in_refusals();
+}

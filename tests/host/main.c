@@ -1,0 +1,14 @@
+// The host test: the file calls through churawel.h, as an emulator would make them. A line for each case, then the count.
+#include "desk.h"
+
+#include <stdio.h>
+
+int main(void)
+{
+    setvbuf(stdout, NULL, _IOLBF, 0);
+    paper_examples();
+    looking_right();
+    each_function();
+    malformed_drives();
+    return summary() == 0 ? 0 : 1;
+}

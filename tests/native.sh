@@ -1,0 +1,51 @@
+# Sourced by tests/host/run, tests/peer/run and bench/run, which stand in the repository's root and have set OUT.
+# The archive of `rt staticlib` links into x86-64 programs. On x86-64 gcc compiles them and they run as they are; on another
+# processor Debian's cross compiler and QEMU's user emulator do. What is lacking is installed by apt, and said so.
+
+FLAGS="-std=c11 -O2 -Wall -Wextra -pedantic -Iinclude"
+ARCHIVE=target/staticlib/libemulator.a
+mkdir -p "$OUT"
+
+install_packages() {
+    echo "installing by apt: $*" >&2
+    local root=""
+    [ "$(id -u)" = 0 ] || root=sudo
+    $root apt-get update -qq >&2
+    DEBIAN_FRONTEND=noninteractive $root apt-get install -y -qq "$@" >&2
+}
+
+# need FILE-OR-COMMAND PACKAGE..: installs the packages where the command, or the file of this path, is not there.
+need() {
+    local what=$1
+    shift
+    [ -e "$what" ] || command -v "$what" >/dev/null || install_packages "$@"
+}
+
+if [ "$(uname -m)" = x86_64 ]; then
+    EMULATED=no
+    CC=gcc
+    RUN=""
+    need gcc gcc libc6-dev
+else
+    EMULATED=yes
+    CC="x86_64-linux-gnu-gcc -static"
+    RUN=qemu-x86_64
+    need x86_64-linux-gnu-gcc gcc-x86-64-linux-gnu
+    need /usr/x86_64-linux-gnu/include/stdio.h libc6-dev-amd64-cross
+    need qemu-x86_64 qemu-user
+fi
+
+# Proves the seam and writes its archive, unless the archive is younger than every source; what is printed goes to standard
+# error.
+archive() {
+    if [ ! -e "$ARCHIVE" ] || [ -n "$(find crates crates.txt -newer "$ARCHIVE" -print -quit)" ]; then
+        rt staticlib emulator >&2
+    fi
+}
+
+# compile PROGRAM SOURCE..: one program over the archive.
+compile() {
+    local program=$1
+    shift
+    $CC $FLAGS "$@" "$ARCHIVE" -o "$program"
+}

@@ -1,0 +1,247 @@
+// Our side of the peer test: one call, or one file read or written by calls, over an image file.
+//
+//     layer IMAGE B T D free                    the free blocks, by log-in
+//     layer IMAGE B T D list USER               a name a line, as cpmls prints them
+//     layer IMAGE B T D size USER NAME          records
+//     layer IMAGE B T D get USER NAME FILE      by sequential reads
+//     layer IMAGE B T D gather USER NAME FILE   by random reads, the last record first
+//     layer IMAGE B T D put USER NAME FILE      make, then sequential writes
+//     layer IMAGE B T D scatter USER NAME FILE  make, then random writes, the last record first
+//     layer IMAGE B T D replace USER NAME FILE  delete, then as put, with no log-in between
+//     layer IMAGE B T D append USER NAME FILE   sequential writes from the file's size on
+//     layer IMAGE B T D patch USER NAME FILE N  random writes from record N on
+//     layer IMAGE B T D delete USER NAME        the name may have ? in it
+//     layer IMAGE B T D rename USER NAME NEW
+//     layer IMAGE B T D mark USER NAME LETTERS  attributes: r read-only, s system, - none
+//
+// A name is NAME.TYP. A refusal prints `refused NUMBER`, with the slot behind it for 36, and ends with status 1. The image is
+// written back where the call was done.
+#include "churawel.h"
+
+#include <ctype.h>
+#include <stdio.h>
+#include <stdlib.h>
+#include <string.h>
+
+enum { RECORD = 128, VOLUME_MOST = 256 * 4096, FILE_MOST = 65536 * RECORD };
+
+static uint8_t drive[CHURAWEL_DRIVE_BYTES];
+static uint8_t volume[VOLUME_MOST];
+static size_t volume_bytes;
+static uint8_t fcb[36];
+static uint8_t buffer[RECORD];
+
+static _Noreturn void fail(const char *what)
+{
+    fprintf(stderr, "layer: %s\n", what);
+    exit(2);
+}
+
+static _Noreturn void refused(uint32_t answer)
+{
+    printf("refused %u", answer & 0xFFFF);
+    if (answer >> 16 != 0)
+        printf(" %u", answer >> 16);
+    putchar('\n');
+    exit(1);
+}
+
+static size_t load(const char *path, uint8_t *bytes, size_t most)
+{
+    FILE *file = fopen(path, "rb");
+    if (file == NULL)
+        fail("a file can't be read");
+    size_t n = fread(bytes, 1, most, file);
+    if (fgetc(file) != EOF)
+        fail("a file is too long");
+    fclose(file);
+    return n;
+}
+
+static void save(const char *path, const uint8_t *bytes, size_t n)
+{
+    FILE *file = fopen(path, "wb");
+    if (file == NULL || fwrite(bytes, 1, n, file) != n || fclose(file) != 0)
+        fail("a file can't be written");
+}
+
+static uint32_t call(uint8_t function, uint8_t parameter)
+{
+    return churawel_call(function, parameter, drive, sizeof drive, volume, volume_bytes, fcb, sizeof fcb, buffer,
+                         sizeof buffer);
+}
+
+// A call that has to be done; a code is no refusal.
+static uint32_t must(uint8_t function, uint8_t parameter)
+{
+    uint32_t answer = call(function, parameter);
+    int has_code = function == 15 || function == 16 || function == 17 || function == 18 || function == 22;
+    if (answer != 0 && !(has_code && answer < 4))
+        refused(answer);
+    return answer;
+}
+
+// Eleven bytes of NAME.TYP.
+static void lay_name(uint8_t *to, const char *name)
+{
+    memset(to, ' ', 11);
+    size_t k = 0;
+    for (; *name != '\0' && *name != '.'; name++)
+        if (k < 8)
+            to[k++] = (uint8_t)toupper((unsigned char)*name);
+    for (k = 8; *name != '\0'; name++)
+        if (*name != '.' && k < 11)
+            to[k++] = (uint8_t)toupper((unsigned char)*name);
+}
+
+static void block_for(const char *name)
+{
+    memset(fcb, 0, sizeof fcb);
+    lay_name(fcb + 1, name);
+}
+
+static void set_record(uint32_t n)
+{
+    fcb[33] = (uint8_t)n;
+    fcb[34] = (uint8_t)(n >> 8);
+    fcb[35] = (uint8_t)(n >> 16);
+}
+
+static uint32_t records(void)
+{
+    must(35, 0);
+    return fcb[33] | (uint32_t)fcb[34] << 8 | (uint32_t)fcb[35] << 16;
+}
+
+// The sequential position: record n.
+static void set_position(uint32_t n)
+{
+    fcb[12] = n / 128 % 32;
+    fcb[14] = (uint8_t)(n / 128 / 32);
+    fcb[32] = n % 128;
+}
+
+// A name as cpmls prints it: small letters, no blanks, a full stop where there is a type.
+static void print_name(const uint8_t *e)
+{
+    for (int k = 1; k <= 11; k++) {
+        int c = e[k] & 0x7F;
+        if (k == 9 && c != ' ')
+            putchar('.');
+        if (c != ' ')
+            putchar(tolower(c));
+    }
+    putchar('\n');
+}
+
+// Every entry of the user whose extent is in group 0: one for each file.
+static void list(void)
+{
+    block_for("????????.???");
+    for (uint32_t answer = call(17, 0); answer < 4; answer = call(18, 0))
+        print_name(buffer + answer * 32);
+}
+
+// The file's bytes; each record is read into its place.
+static size_t read_file(uint8_t *bytes, int backwards)
+{
+    uint32_t n = records();
+    if (backwards) {
+        for (uint32_t i = n; i > 0; i--) {
+            set_record(i - 1);
+            must(33, 0);
+            memcpy(bytes + (size_t)(i - 1) * RECORD, buffer, RECORD);
+        }
+        return (size_t)n * RECORD;
+    }
+    must(15, 0);
+    uint32_t i = 0, answer;
+    for (; (answer = call(20, 0)) == 0; i++)
+        memcpy(bytes + (size_t)i * RECORD, buffer, RECORD);
+    if (answer != 1)
+        refused(answer);
+    if (i != n)
+        fail("the sequential reads don't end at the file's size");
+    must(16, 0);
+    return (size_t)n * RECORD;
+}
+
+static void write_sequential(const uint8_t *bytes, size_t n)
+{
+    for (size_t i = 0; i < n; i += RECORD) {
+        memcpy(buffer, bytes + i, RECORD);
+        must(21, 0);
+    }
+}
+
+static void write_random(const uint8_t *bytes, size_t n, uint32_t from, int backwards)
+{
+    uint32_t count = (uint32_t)(n / RECORD);
+    for (uint32_t k = 0; k < count; k++) {
+        uint32_t i = backwards ? count - 1 - k : k;
+        set_record(from + i);
+        memcpy(buffer, bytes + (size_t)i * RECORD, RECORD);
+        must(34, 0);
+    }
+}
+
+static void mark(const char *letters)
+{
+    if (strchr(letters, 'r') != NULL)
+        fcb[9] |= 0x80;
+    if (strchr(letters, 's') != NULL)
+        fcb[10] |= 0x80;
+    must(30, 0);
+}
+
+int main(int count, char **words)
+{
+    static uint8_t bytes[FILE_MOST];
+    if (count < 6)
+        fail("too few words");
+    const char *image = words[1], *what = words[5];
+    const char *name = count > 7 ? words[7] : "", *path = count > 8 ? words[8] : "";
+    uint32_t record = count > 9 ? (uint32_t)atoi(words[9]) : 0;
+    volume_bytes = load(image, volume, sizeof volume);
+    uint32_t answer = churawel_log_in((uint32_t)atoi(words[2]), (uint32_t)atoi(words[3]), (uint32_t)atoi(words[4]), volume,
+                                      volume_bytes, drive, sizeof drive);
+    if ((answer & 0xFFFF) != 0)
+        refused(answer);
+    if (strcmp(what, "free") == 0) {
+        printf("%u\n", answer >> 16);
+        return 0;
+    }
+    must(32, count > 6 ? (uint8_t)atoi(words[6]) : 0);
+    block_for(name);
+    if (strcmp(what, "list") == 0) {
+        list();
+    } else if (strcmp(what, "size") == 0) {
+        printf("%u\n", records());
+    } else if (strcmp(what, "get") == 0 || strcmp(what, "gather") == 0) {
+        save(path, bytes, read_file(bytes, strcmp(what, "gather") == 0));
+    } else if (strcmp(what, "put") == 0 || strcmp(what, "replace") == 0) {
+        if (strcmp(what, "replace") == 0)
+            must(19, 0);
+        must(22, 0);
+        write_sequential(bytes, load(path, bytes, sizeof bytes));
+    } else if (strcmp(what, "scatter") == 0) {
+        must(22, 0);
+        write_random(bytes, load(path, bytes, sizeof bytes), 0, 1);
+    } else if (strcmp(what, "append") == 0) {
+        set_position(records());
+        write_sequential(bytes, load(path, bytes, sizeof bytes));
+    } else if (strcmp(what, "patch") == 0) {
+        write_random(bytes, load(path, bytes, sizeof bytes), record, 0);
+    } else if (strcmp(what, "delete") == 0) {
+        must(19, 0);
+    } else if (strcmp(what, "rename") == 0) {
+        lay_name(fcb + 17, path);
+        must(23, 0);
+    } else if (strcmp(what, "mark") == 0) {
+        mark(path);
+    } else {
+        fail("no such command");
+    }
+    save(image, volume, volume_bytes);
+    return 0;
+}
