@@ -83,7 +83,9 @@ static void start_anew(const struct side *side)
 {
     work = full;
     memset(&desk, 0, sizeof desk);
-    if ((side->log_in(work.block, work.total, work.directory, work.volume, work.bytes, desk.drive, sizeof desk.drive) & 0xFFFF) != 0) {
+    uint32_t answer =
+        side->log_in(work.block, work.total, work.directory, work.volume, work.bytes, desk.drive, sizeof desk.drive);
+    if ((answer & 0xFFFF) != 0) {
         puts("the volume is refused");
         exit(1);
     }
@@ -149,7 +151,8 @@ static double worst_ratio, least_calls = 1e18;
 static void pass_table(void)
 {
     puts("Replacement pass: 40,000 calls on a nearly full volume of 1 MiB (256 blocks of 4,096 bytes)\n");
-    puts(ratios_only ? "  slots   ratio   answers and bytes" : "  slots   proved, calls/s   plain C, calls/s   ratio   answers and bytes");
+    puts(ratios_only ? "  slots   ratio   answers and bytes"
+                     : "  slots   proved, calls/s   plain C, calls/s   ratio   answers and bytes");
     for (uint32_t directory = 2; directory <= 16; directory *= 2) {
         fill_shelf(&full, 4096, directory);
         int same = check_pass();

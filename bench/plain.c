@@ -7,8 +7,11 @@
 
 enum { DRIVE = 64, FCB = 36, RECORD = 128, ENTRY = 32, NAME = 11, PLACES = 16, EMPTY = 0xE5, ANY = 0x3F };
 
-// Bytes of an entry and of a control block.
-enum { USER = 0, DR = 0, T1 = 9, T2 = 10, EX = 12, S1 = 13, S2 = 14, RC = 15, MAP = 16, NEW_NAME = 17, CR = 32, R0 = 33, R1 = 34, R2 = 35 };
+// Bytes of an entry, and from 9 to 16 of a control block.
+enum { USER = 0, T1 = 9, T2 = 10, EX = 12, S1 = 13, S2 = 14, RC = 15, MAP = 16 };
+
+// Further bytes of a control block.
+enum { DR = 0, NEW_NAME = 17, CR = 32, R0 = 33, R1 = 34, R2 = 35 };
 
 // The numbers of refusal.
 enum {

@@ -67,12 +67,19 @@ void want_shown(size_t at);
 void want_held(unsigned block);
 void want_random(uint8_t r0, uint8_t r1, uint8_t r2);
 
+// A volume that is logged in, B 1,024, T 40, D 1. Slots 0 and 1: DRAFT of user 0 in groups 0 and 1; slot 2: DRAFT of user 3;
+// slot 3 is empty; slot 4: FINAL of user 0.
+#define DRAFT "DRAFT   TXT"
+#define FINAL "FINAL   TXT"
+void some_files(void);
+
 #define MAP(...) ((const uint8_t[16]){__VA_ARGS__})
 
 // The groups of cases.
 void paper_examples(void);
 void looking_right(void);
 void each_function(void);
+void lent_and_log_in(void);
 void malformed_drives(void);
 
 #endif
