@@ -80,7 +80,7 @@ fn is_match(e: &[u8], user: u8, pattern: &[u8]) -> bool
     names::like_name(&e[1..12], pattern)
 }
 
-// Does the entry have what is wanted, for this user and this name or pattern?
+// Does the entry have what is wanted, for this user and this name or pattern? The name is looked at last.
 pub fn has(g: Geometry, e: &[u8], user: u8, name: &[u8], wanted: Wanted) -> bool
     requires { ⌜ (lawful g ≡ true) × ((length (now e) ≡ 32) × (length (now name) ≡ 11)) ⌝ }
     ensures { λ r. ⌜ r ≡ fits g user (strip (now (name .entry))) wanted (now (e .entry)) ⌝ }
@@ -89,14 +89,22 @@ pub fn has(g: Geometry, e: &[u8], user: u8, name: &[u8], wanted: Wanted) -> bool
         Wanted::Any => true,
         Wanted::Empty => e[0] == EMPTY,
         Wanted::File => of_file(e, user, name),
-        Wanted::ReadOnlyFile => of_file(e, user, name) & (128 <= e[9]),
+        Wanted::ReadOnlyFile => if 128 <= e[9] {
+            of_file(e, user, name)
+        } else {
+            false
+        },
         Wanted::Group(k) => if in_group(g, e, user, k) {
             of_file(e, user, name)
         } else {
             false
         },
         Wanted::Match => is_match(e, user, name),
-        Wanted::ReadOnlyMatch => is_match(e, user, name) & (128 <= e[9]),
+        Wanted::ReadOnlyMatch => if 128 <= e[9] {
+            is_match(e, user, name)
+        } else {
+            false
+        },
         Wanted::MatchGroup(k) => if in_group(g, e, user, k) {
             is_match(e, user, name)
         } else {
