@@ -16,10 +16,12 @@ use Rattle.filecalls.specs.State.{closed}
 use Rattle.drivebytes.specs.Numbers.{bytesOf, number, bytesFrom, zeros}
 
 -- ---- from the state to bytes
+-- 0..7
 unfoldable pub headBytes : Geometry → ℕ → Bool → List ℕ
 headBytes g user protected =
     bytesOf 2 (g .block) ++ bytesOf 2 (g .total) ++ bytesOf 2 (g .directory) ++ (user ∷ cond protected 1 0 ∷ [])
 
+-- 8..23
 unfoldable pub keptBytes : ℕ → ℕ → ℕ → List ℕ → List ℕ
 keptBytes kind user last pattern = (kind ∷ user ∷ []) ++ bytesOf 2 last ++ bytesFrom pattern 0 12
 
@@ -28,6 +30,7 @@ searchBytes Nothing user last pattern = replicate 16 0
 searchBytes Pattern user last pattern = keptBytes 1 user last pattern
 searchBytes Everything user last pattern = keptBytes 2 user last pattern
 
+-- 32..63
 unfoldable pub heldBytes : List ℕ → List ℕ
 heldBytes held = bytesOf 8 (byte held 0) ++ bytesOf 8 (byte held 1) ++ bytesOf 8 (byte held 2) ++ bytesOf 8 (byte held 3)
 

@@ -31,11 +31,11 @@ use Rattle.filecalls.specs.LogIn.{logInTests, refusedLogIn, logIn}
 use Rattle.bdos.specs.declared.Call.{Call}
 use Rattle.bdos.specs.declared.Call.the-variants.{LogIn, Open, Close, SearchFirst, SearchNext, Delete, ReadSequential, WriteSequential, Make, Rename, Protect, Attributes, User, ReadRandom, WriteRandom, Size, SetRandom, EmptyRecord, Unserved}
 use Rattle.bdos.specs.Step.{Asked, asked, keepsBuffer, keepsBlock, keepsVolume, callOf, does, step}
-use Rattle.drivebytes.specs.Layout.{decoded}
+use Rattle.drivebytes.specs.Layout.{encoded, decoded}
 use Rattle.drivebytes.specs.RoundTrip.{Carried}
-use Rattle.drivebytes.proofs.RoundTripHolds.{decode-encode, encode-decode, read-carried}
+use Rattle.drivebytes.proofs.RoundTripHolds.{decode-encode, encode-decode, read-carried, closed-is-zeros}
 use Rattle.emulator.specs.Seam.{answered, sealed, through, atSeam, logInAtSeam}
-use Rattle.emulator.specs.Faithful.{LogInCarried, LogInOpens, CallCarried, CallStaysOpen, LogInFaithful, CallFaithful, RefusedLeavesAll}
+use Rattle.emulator.specs.Faithful.{LogInCarried, LogInOpens, CallCarried, CallStaysOpen, LogInFaithful, CallFaithful, RefusedLeavesAll, RefusedLogInCloses, RefusedResetCloses}
 use Rattle.emulator.proofs.LastingLaws.{Lasts, denied, outcome-lasts}
 use Rattle.emulator.proofs.CallsLast.{open-lasting, close-lasting, size-lasting, first-lasting, next-lasting, delete-lasting, make-lasting, rename-lasting, attributes-lasting, read-sequential-lasting, read-random-lasting, write-sequential-lasting, write-random-lasting, empty-record-lasting, protect-lasting, user-lasting, set-random-lasting}
 
@@ -200,3 +200,27 @@ refused-leaves-all n p s v f b bytes o other e =
     rw o
     (ap through (step-refused (decoded s .geometry) (asked n p f b) (decoded s) v other e)
     ∙ ap (λ (x : List ℕ). sealed (answered (step (decoded s .geometry) (asked n p f b) (decoded s) v .answer)) x v f b) (encode-decode s bytes o))
+
+-- ---- a refused log-in closes
+log-in-closed : (g : Geometry) (v : List ℕ) → succeeded (logIn g v .answer) ≡ false → logIn g v .drive ≡ closed
+log-in-closed g v s = go (isNone (firstMet (logInTests g v))) refl
+  where
+    go : (t : Bool) → isNone (firstMet (logInTests g v)) ≡ t → logIn g v .drive ≡ closed
+    go true h = absurd (true≢false (ap (λ (r : Reply). succeeded (r .answer)) (sym (taken g v h)) ∙ s))
+    go false h = ap (λ (r : Reply). r .drive) (turned-away g v h)
+
+pub refused-log-in-closes : RefusedLogInCloses
+unfolding logInAtSeam
+refused-log-in-closes g v s e no-success = rw (eq-eqb (length s) 64 e) (ap encoded (log-in-closed g v no-success) ∙ closed-is-zeros)
+
+step-answer : (g : Geometry) (c : Asked) (d : Drive) (v : List ℕ) → callOf (c .function) ≡ LogIn → step g c d v .answer ≡ logIn g v .answer
+unfolding step does
+step-answer g c d v e = rw e
+
+pub refused-reset-closes : RefusedResetCloses
+unfolding atSeam
+refused-reset-closes n p s v f b o e no-success =
+    let g = decoded s .geometry in
+    let c = asked n p f b in
+    let fails = ap succeeded (sym (step-answer g c (decoded s) v e)) ∙ no-success in
+    rw o (ap encoded (step-log-in g c (decoded s) v e ∙ log-in-closed g v fails) ∙ closed-is-zeros)

@@ -4,7 +4,7 @@ use mathlib.Core.Path.{_≡_}
 use mathlib.Core.Bool.{true, false}
 use mathlib.Core.List.{List}
 use Prim.Native.Nat.{ℕ, _<_}
-use lib.ListN.{length}
+use lib.ListN.{length, replicate}
 use Rattle.volume.specs.declared.Geometry.{Geometry}
 use Rattle.answers.specs.Answer.{succeeded}
 use Rattle.filecalls.specs.declared.Drive.{Drive}
@@ -49,3 +49,13 @@ RefusedLeavesAll =
     (n p : ℕ) (s v f b : List ℕ) → Bytes s → isOpen (decoded s) ≡ true → (callOf n ≡ LogIn → ⊥)
     → succeeded (step (decoded s .geometry) (asked n p f b) (decoded s) v .answer) ≡ false
     → atSeam n p s v f b ≡ sealed (answered (step (decoded s .geometry) (asked n p f b) (decoded s) v .answer)) s v f b
+
+-- a refused log-in leaves "64 zero bytes", and so does function 13 or 37 that is refused
+abbrev pub RefusedLogInCloses : Type 0
+RefusedLogInCloses =
+    (g : Geometry) (v s : List ℕ) → length s ≡ 64 → succeeded (logIn g v .answer) ≡ false → logInAtSeam g v s .drive ≡ replicate 64 0
+
+abbrev pub RefusedResetCloses : Type 0
+RefusedResetCloses =
+    (n p : ℕ) (s v f b : List ℕ) → isOpen (decoded s) ≡ true → callOf n ≡ LogIn
+    → succeeded (step (decoded s .geometry) (asked n p f b) (decoded s) v .answer) ≡ false → atSeam n p s v f b .drive ≡ replicate 64 0
