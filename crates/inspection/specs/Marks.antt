@@ -14,10 +14,10 @@ use Rattle.blocks.specs.Held.{holds}
 
 -- the mark of user u and group k, and what byte p of the name makes of it
 abbrev pub firstMark : ℕ → ℕ → ℕ
-firstMark u k = (u + 16 * (k % 1024)) % 16384
+firstMark u k = (u + 16 * (k % 1024)) % 65536
 
 abbrev pub nextMark : List ℕ → ℕ → ℕ → ℕ
-nextMark name mark p = (5003 * mark + byte name p) % 16384
+nextMark name mark p = (5003 * mark + byte name p) % 65536
 
 unfoldable pub markOf : ℕ → List ℕ → ℕ → ℕ
 markOf u name k = fold (nextMark name) (firstMark u k) 0 11

@@ -33,8 +33,8 @@ struct Looked {
 
 // Is what was looked at good? If so, the blocks held with it.
 struct Taken {
-    good: bool,
     held: [u64; 4],
+    good: bool,
 }
 
 // Are the bytes other than name and map good?
@@ -103,7 +103,7 @@ fn take_map(g: Geometry, volume: &[u8], i: usize, before: [u64; 4]) -> Taken
 fn take_slot(g: Geometry, volume: &[u8], i: usize, held: [u64; 4], marks: &mut [u64]) -> Taken
     requires { ⌜ (lawful g ≡ true) × (length (now volume) ≡ bytes g) ⌝ }
     requires { ⌜ (i < slots g) × (held ≡ wordsOf (heldBelow g (now volume) i)) ⌝ }
-    requires { ⌜ (length (now marks) ≡ 256) × (marked g (now volume) (now marks) i ≡ true) ⌝ }
+    requires { ⌜ (length (now marks) ≡ 1024) × (marked g (now volume) (now marks) i ≡ true) ⌝ }
     ensures { λ r. ⌜ r .good ≡ goodSlot g (now (volume .entry)) i ⌝ }
     ensures { λ r. ⌜ (r .good ≡ true → r .held ≡ wordsOf (heldBelow g (now (volume .entry)) (i + 1))) ⌝ }
     ensures { λ r. ⌜ (r .good ≡ true → marked g (now (volume .entry)) (now (marks .exit)) (i + 1) ≡ true) ⌝ }

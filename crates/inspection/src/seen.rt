@@ -15,7 +15,7 @@ use volume::Wanted;
 use volume::entry;
 
 // How many marks there are, bits of a word, and words for all marks.
-const MARKS: usize = 16384;
+const MARKS: usize = 65536;
 
 const BITS: usize = 64;
 
@@ -24,7 +24,7 @@ pub const WORDS: usize = MARKS / BITS;
 // The mark of a user, name and group; the factor spreads names that differ in their numbers only.
 fn mark_of(user: u8, name: &[u8], k: usize) -> usize
     requires { ⌜ length (now name) ≡ 11 ⌝ }
-    ensures { λ r. ⌜ (r ≡ markOf user (strip (now (name .entry))) k) × (r < 16384) ⌝ }
+    ensures { λ r. ⌜ (r ≡ markOf user (strip (now (name .entry))) k) × (r < 65536) ⌝ }
 {
     let mut mark = (lists::wide(user) + 16 * (k % 1024)) % MARKS;
     let mut p = 0;
@@ -56,7 +56,7 @@ fn is_below(g: Geometry, volume: &[u8], n: usize, user: u8, name: &[u8], k: usiz
 pub fn is_seen(g: Geometry, volume: &[u8], i: usize, e: &[u8], marks: &mut [u64]) -> bool
     requires { ⌜ (lawful g ≡ true) × (length (now volume) ≡ bytes g) ⌝ }
     requires { ⌜ (i < slots g) × ((length (now e) ≡ 32) × (now e ≡ slotAt g (now volume) i)) ⌝ }
-    requires { ⌜ (isEmpty (now e) ≡ false) × ((length (now marks) ≡ 256) × (marked g (now volume) (now marks) i ≡ true)) ⌝ }
+    requires { ⌜ (isEmpty (now e) ≡ false) × ((length (now marks) ≡ 1024) × (marked g (now volume) (now marks) i ≡ true)) ⌝ }
     ensures { λ r. ⌜ r ≡ seenBelow g (now (volume .entry)) i ⌝ }
     ensures { λ _. ⌜ marked g (now (volume .entry)) (now (marks .exit)) (i + 1) ≡ true ⌝ }
 {

@@ -27,7 +27,7 @@ record SoFar (g : Geometry) (volume held marks : List ℕ) (i : ℕ) : Type 0 wh
   low : i ≤ slots g
   good : Searched (bad g volume) 0 (slots g) i
   blocks : held ≡ wordsOf (heldBelow g volume i)
-  long : length marks ≡ 256
+  long : length marks ≡ 1024
   seen : marked g volume marks i ≡ true
 
 abbrev Inv-loop : tie.InvT-loop

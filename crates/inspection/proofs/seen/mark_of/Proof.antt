@@ -11,7 +11,7 @@ use Rattle.inspection.proofs.seen.mark_of.Statement.{statement}
 use Rattle.inspection.proofs.seen.mark_of.Tie as tie
 
 abbrev Inv-loop : tie.InvT-loop
-Inv-loop user name k mark₀ p₀ mark p = (p ≤ 11) × ((mark < 16384) × Folded (nextMark (strip name)) (firstMark user k) 11 mark p)
+Inv-loop user name k mark₀ p₀ mark p = (p ≤ 11) × ((mark < 65536) × Folded (nextMark (strip name)) (firstMark user k) 11 mark p)
 
 abbrev μ-loop : tie.MeasureT-loop
 μ-loop user name k mark₀ p₀ mark p = 11 - p
@@ -49,7 +49,7 @@ loop-less c = search needs
 loop-again : tie.Need-loop-again Inv-loop μ-loop
 loop-again c =
     let l = c .before .before .before .loop in
-    let next = ap (λ (x : ℕ). (5003 * l .mark + x) % 16384) (c .wide2 .ensures .0 ∙ sym (byte-strip (now (c .before .before .before .before .before .before .args .name)) (l .p))) in
+    let next = ap (λ (x : ℕ). (5003 * l .mark + x) % 65536) (c .wide2 .ensures .0 ∙ sym (byte-strip (now (c .before .before .before .before .before .before .args .name)) (l .p))) in
     (search needs, (search needs, folded-next (l .inv .1 .1) (search needs) next))
 
 returns : tie.Need-returns Inv-loop μ-loop
