@@ -1,0 +1,242 @@
+//! The pairs of call and answer that the paper makes possible, written down
+//! by hand from "Numbers of refusal, in order of test" and "What each call
+//! does when it succeeds", each with its reason.
+//!
+//! Through `replay` the volume keeps its length and the geometry is the
+//! header's, so that 33 can be answered by log-in alone. Through the seam
+//! log-in has one entry of its own, which stands here as 13.
+
+#[derive(Clone, Copy, PartialEq, Eq, Debug)]
+pub enum Door {
+    Both,
+    Replay,
+    Seam,
+}
+
+pub struct Pair {
+    pub call: u8,
+    pub answer: u32,
+    pub door: Door,
+    pub reason: &'static str,
+}
+
+const fn both(call: u8, answer: u32, reason: &'static str) -> Pair {
+    Pair { call, answer, door: Door::Both, reason }
+}
+
+const fn replay(call: u8, answer: u32, reason: &'static str) -> Pair {
+    Pair { call, answer, door: Door::Replay, reason }
+}
+
+const fn seam(call: u8, answer: u32, reason: &'static str) -> Pair {
+    Pair { call, answer, door: Door::Seam, reason }
+}
+
+pub const PAIRS: &[Pair] = &[
+    // Log-in: lent a volume only, given a geometry and no state.
+    both(13, 0, "all slots are good"),
+    both(13, 32, "geometry outside the rules"),
+    both(13, 33, "the volume is not T times B long"),
+    both(13, 36, "a slot is bad"),
+    replay(37, 0, "all slots are good"),
+    replay(37, 32, "geometry outside the rules"),
+    replay(37, 33, "the volume is not T times B long"),
+    replay(37, 36, "a slot is bad"),
+    // Open.
+    both(15, 0, "code: slot 0, 4, 8, ..."),
+    both(15, 1, "code: slot 1, 5, 9, ..."),
+    both(15, 2, "code: slot 2, 6, 10, ..."),
+    both(15, 3, "code: slot 3, 7, 11, ..."),
+    both(15, 32, "closed state"),
+    seam(15, 33, "state and volume do not fit each other"),
+    both(15, 34, "control block not 36 bytes"),
+    both(15, 42, "dr not 0 or 1"),
+    both(15, 39, "a byte of the pattern outside the rule, or 20H first"),
+    both(15, 40, "ex above 31"),
+    both(15, 255, "no entry matches"),
+    // Close.
+    both(16, 0, "code: slot 0, 4, 8, ..."),
+    both(16, 1, "code: slot 1, 5, 9, ..."),
+    both(16, 2, "code: slot 2, 6, 10, ..."),
+    both(16, 3, "code: slot 3, 7, 11, ..."),
+    both(16, 32, "closed state"),
+    seam(16, 33, "state and volume do not fit each other"),
+    both(16, 34, "control block not 36 bytes"),
+    both(16, 42, "dr not 0 or 1"),
+    both(16, 39, "a name byte outside the rule, 3FH among them"),
+    both(16, 40, "ex above 31 or s2 above 15"),
+    both(16, 255, "the group has no entry of that name"),
+    // Search first.
+    both(17, 0, "code: slot 0, 4, 8, ..."),
+    both(17, 1, "code: slot 1, 5, 9, ..."),
+    both(17, 2, "code: slot 2, 6, 10, ..."),
+    both(17, 3, "code: slot 3, 7, 11, ..."),
+    both(17, 32, "closed state"),
+    seam(17, 33, "state and volume do not fit each other"),
+    both(17, 34, "control block not 36 bytes"),
+    both(17, 35, "transfer buffer not 128 bytes"),
+    both(17, 42, "dr not 0, 1 or 63"),
+    both(17, 39, "a byte of the pattern outside the rule, or 20H first"),
+    both(17, 40, "ex above 31 and not 63"),
+    both(17, 255, "no slot matches"),
+    // Search next: lent no control block.
+    both(18, 0, "code: slot 4, 8, 12, ... (never slot 0, which cannot come after a hit)"),
+    both(18, 1, "code: slot 1, 5, 9, ..."),
+    both(18, 2, "code: slot 2, 6, 10, ..."),
+    both(18, 3, "code: slot 3, 7, 11, ..."),
+    both(18, 32, "closed state"),
+    seam(18, 33, "state and volume do not fit each other"),
+    both(18, 35, "transfer buffer not 128 bytes"),
+    both(18, 255, "no search is open, or no slot after the last hit matches"),
+    // Delete.
+    both(19, 0, "all matching entries are erased"),
+    both(19, 32, "closed state"),
+    seam(19, 33, "state and volume do not fit each other"),
+    both(19, 34, "control block not 36 bytes"),
+    both(19, 42, "dr not 0 or 1"),
+    both(19, 39, "a byte of the pattern outside the rule, or 20H first"),
+    both(19, 37, "protected"),
+    both(19, 255, "no entry matches"),
+    both(19, 38, "a matching entry is read-only"),
+    // Sequential read.
+    both(20, 0, "the record is present"),
+    both(20, 32, "closed state"),
+    seam(20, 33, "state and volume do not fit each other"),
+    both(20, 34, "control block not 36 bytes"),
+    both(20, 35, "transfer buffer not 128 bytes"),
+    both(20, 42, "dr not 0 or 1"),
+    both(20, 39, "a name byte outside the rule, 3FH among them"),
+    both(20, 40, "ex above 31, s2 above 15 or cr above 128"),
+    both(20, 6, "position 65,536: ex 31, s2 15, cr 128"),
+    both(20, 3, "the user has no entry of that name"),
+    both(20, 1, "the record is not present, or its group is missing"),
+    both(20, 41, "altered volume or wild state: a place below D or beyond T-1"),
+    // Sequential write.
+    both(21, 0, "the record is stored"),
+    both(21, 32, "closed state"),
+    seam(21, 33, "state and volume do not fit each other"),
+    both(21, 34, "control block not 36 bytes"),
+    both(21, 35, "transfer buffer not 128 bytes"),
+    both(21, 42, "dr not 0 or 1"),
+    both(21, 39, "a name byte outside the rule, 3FH among them"),
+    both(21, 40, "ex above 31, s2 above 15 or cr above 128"),
+    both(21, 6, "position 65,536: ex 31, s2 15, cr 128"),
+    both(21, 37, "protected"),
+    both(21, 3, "the user has no entry of that name"),
+    both(21, 38, "an entry of the file is read-only"),
+    both(21, 41, "altered volume or wild state: a place below D or beyond T-1"),
+    both(21, 5, "the group is missing and no slot is empty"),
+    both(21, 2, "a block is needed and none is free"),
+    // Make.
+    both(22, 0, "code: slot 0, 4, 8, ..."),
+    both(22, 1, "code: slot 1, 5, 9, ..."),
+    both(22, 2, "code: slot 2, 6, 10, ..."),
+    both(22, 3, "code: slot 3, 7, 11, ..."),
+    both(22, 32, "closed state"),
+    seam(22, 33, "state and volume do not fit each other"),
+    both(22, 34, "control block not 36 bytes"),
+    both(22, 42, "dr not 0 or 1"),
+    both(22, 39, "a name byte outside the rule, 3FH among them"),
+    both(22, 40, "ex not 0"),
+    both(22, 37, "protected"),
+    both(22, 43, "the name exists"),
+    both(22, 255, "no slot is empty (in the place of 5)"),
+    // Rename.
+    both(23, 0, "all entries take the new name"),
+    both(23, 32, "closed state"),
+    seam(23, 33, "state and volume do not fit each other"),
+    both(23, 34, "control block not 36 bytes"),
+    both(23, 42, "dr not 0 or 1"),
+    both(23, 39, "a byte of the old or the new name outside the rule"),
+    both(23, 37, "protected"),
+    both(23, 255, "no entry of the old name"),
+    both(23, 38, "an entry of the file is read-only"),
+    both(23, 43, "the new name exists, the old one included"),
+    // Write protect: lent nothing.
+    both(28, 0, "protected from now on"),
+    both(28, 32, "closed state"),
+    // Attributes.
+    both(30, 0, "the top bits go to all entries"),
+    both(30, 32, "closed state"),
+    seam(30, 33, "state and volume do not fit each other"),
+    both(30, 34, "control block not 36 bytes"),
+    both(30, 42, "dr not 0 or 1"),
+    both(30, 39, "a name byte outside the rule, 3FH among them"),
+    both(30, 37, "protected"),
+    both(30, 255, "no entry of that name"),
+    // User: lent nothing.
+    both(32, 0, "set; or 255 given and the current code is 0"),
+    both(32, 1, "255 given, the current code is 1"),
+    both(32, 2, "255 given, the current code is 2"),
+    both(32, 3, "255 given, the current code is 3"),
+    both(32, 4, "255 given, the current code is 4"),
+    both(32, 5, "255 given, the current code is 5"),
+    both(32, 6, "255 given, the current code is 6"),
+    both(32, 7, "255 given, the current code is 7"),
+    both(32, 8, "255 given, the current code is 8"),
+    both(32, 9, "255 given, the current code is 9"),
+    both(32, 10, "255 given, the current code is 10"),
+    both(32, 11, "255 given, the current code is 11"),
+    both(32, 12, "255 given, the current code is 12"),
+    both(32, 13, "255 given, the current code is 13"),
+    both(32, 14, "255 given, the current code is 14"),
+    both(32, 15, "255 given, the current code is 15"),
+    both(32, 32, "closed state"),
+    both(32, 44, "user 16 to 254"),
+    // Random read.
+    both(33, 0, "the record is present"),
+    both(33, 32, "closed state"),
+    seam(33, 33, "state and volume do not fit each other"),
+    both(33, 34, "control block not 36 bytes"),
+    both(33, 35, "transfer buffer not 128 bytes"),
+    both(33, 42, "dr not 0 or 1"),
+    both(33, 39, "a name byte outside the rule, 3FH among them"),
+    both(33, 6, "r2 not 0"),
+    both(33, 3, "the user has no entry of that name"),
+    both(33, 4, "the group has no entry"),
+    both(33, 1, "beyond the count, or a place that is 0"),
+    both(33, 41, "altered volume or wild state: a place below D or beyond T-1"),
+    // Random write.
+    both(34, 0, "the record is stored"),
+    both(34, 32, "closed state"),
+    seam(34, 33, "state and volume do not fit each other"),
+    both(34, 34, "control block not 36 bytes"),
+    both(34, 35, "transfer buffer not 128 bytes"),
+    both(34, 42, "dr not 0 or 1"),
+    both(34, 39, "a name byte outside the rule, 3FH among them"),
+    both(34, 6, "r2 not 0"),
+    both(34, 37, "protected"),
+    both(34, 3, "the user has no entry of that name"),
+    both(34, 38, "an entry of the file is read-only"),
+    both(34, 41, "altered volume or wild state: a place below D or beyond T-1"),
+    both(34, 5, "the group is missing and no slot is empty"),
+    both(34, 2, "a block is needed and none is free"),
+    // Size.
+    both(35, 0, "the size is in r0 r1 r2"),
+    both(35, 32, "closed state"),
+    seam(35, 33, "state and volume do not fit each other"),
+    both(35, 34, "control block not 36 bytes"),
+    both(35, 42, "dr not 0 or 1"),
+    both(35, 39, "a name byte outside the rule, 3FH among them"),
+    both(35, 255, "no entry of that name"),
+    // Set random record: lent a control block only; examines no name.
+    both(36, 0, "the position is in r0 r1 r2"),
+    both(36, 32, "closed state"),
+    both(36, 34, "control block not 36 bytes"),
+    both(36, 42, "dr not 0 or 1"),
+    both(36, 40, "ex above 31, s2 above 15 or cr above 128"),
+    // Empty record: a random write that is lent no transfer buffer.
+    both(40, 0, "zeros are stored"),
+    both(40, 32, "closed state"),
+    seam(40, 33, "state and volume do not fit each other"),
+    both(40, 34, "control block not 36 bytes"),
+    both(40, 42, "dr not 0 or 1"),
+    both(40, 39, "a name byte outside the rule, 3FH among them"),
+    both(40, 6, "r2 not 0"),
+    both(40, 37, "protected"),
+    both(40, 3, "the user has no entry of that name"),
+    both(40, 38, "an entry of the file is read-only"),
+    both(40, 41, "altered volume or wild state: a place below D or beyond T-1"),
+    both(40, 5, "the group is missing and no slot is empty"),
+    both(40, 2, "a block is needed and none is free"),
+];
