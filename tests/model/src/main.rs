@@ -1,117 +1,104 @@
-//! An independent model of the SCP 1700 file calls and of the programs over
-//! them, written from the paper alone. README.md says how to use it.
+//! An independent model of the SCP 1700 file calls, and the test that holds the
+//! program `replay` and the emulator's seam against it. README.md says how to
+//! use it.
 
-mod agree;
-mod bench;
-mod chains;
-mod choices;
-mod control;
-mod demo;
-mod directory;
-mod files;
-mod frames;
-mod geometry;
-mod held;
-mod images;
-mod inspection;
-mod lister;
-mod model;
-mod names;
-mod pairs;
-mod random;
-mod records;
-mod script;
-mod scripts;
-mod seam;
-mod state;
-mod table;
+mod check;
+mod choose;
+mod doors;
+mod paper;
 #[cfg(test)]
 mod tests;
 
-use std::io::{self, BufWriter, Read, Write};
+use std::io::{self, Read, Write};
 use std::path::Path;
 use std::process::ExitCode;
 
+use check::kept;
+use check::program::Program;
+use check::run::{run, Plan};
+use doors::replay::expected;
+use doors::script::Script;
+use doors::seam::Seam;
+
 const USAGE: &str = "usage:
-  model scripts DIR SEED COUNT   writes N.script and N.expected for N from 0 to COUNT - 1
-  model seam SEED COUNT          writes COUNT chains of seam calls to standard output
-  model frames                   reads what seam writes on standard input and checks it on the model
-  model table SEED COUNT         counts calls against answers; fails if a possible pair is missing
-  model agree SEED COUNT         plain way and kept way side by side
-  model demo                     the paper's examples
-  model expected                 a script on standard input, what replay must print on standard output
-  model listing                  a volume on standard input, what the lister must print
+  model run SEED SCRIPTS FOLDER   scripts and chains on replay and at the seam; failing ones go to FOLDER
+  model again FILE                a kept script or chain once more
+  model keep SEED NUMBER FOLDER   writes the script and the chain of this number to FOLDER
+  model expected                  a script on standard input: what replay must print
+  model listing                   a volume on standard input: what the lister must print
+The environment's REPLAY is the command that runs replay.
 ";
 
-fn write_scripts(directory: &str, seed: u64, count: u64) -> io::Result<()> {
-    let directory = Path::new(directory);
-    std::fs::create_dir_all(directory)?;
-    for number in 0..count {
-        let bytes = scripts::script_bytes(seed, number);
-        let (text, _) = script::expected(&bytes);
-        std::fs::write(directory.join(format!("{}.script", number)), &bytes)?;
-        std::fs::write(directory.join(format!("{}.expected", number)), text)?;
+/// The archive, if it is linked.
+fn seam() -> Option<&'static dyn Seam> {
+    #[cfg(feature = "archive")]
+    return Some(&check::archive::Archive);
+    #[cfg(not(feature = "archive"))]
+    None
+}
+
+/// What is under test, or what is missing.
+fn under_test() -> Result<(Program, &'static dyn Seam), String> {
+    let command = std::env::var("REPLAY").unwrap_or_default();
+    let replay = Program::new(&command).ok_or("REPLAY is not set")?;
+    Ok((replay, seam().ok_or("built without the feature 'archive'")?))
+}
+
+fn run_all(seed: u64, scripts: u64, folder: &Path) -> Result<bool, String> {
+    let (replay, seam) = under_test()?;
+    std::fs::create_dir_all(folder).map_err(|error| error.to_string())?;
+    let (passed, failed) = run(&Plan { seed, scripts, replay: &replay, seam, folder });
+    println!("compared: {} passed, {} failed", passed, failed);
+    Ok(failed == 0)
+}
+
+fn again(file: &str) -> Result<bool, String> {
+    let (replay, seam) = under_test()?;
+    let bytes = std::fs::read(file).map_err(|error| format!("{}: {}", file, error))?;
+    Ok(check::again::again(&bytes, &replay, seam))
+}
+
+fn keep(seed: u64, number: u64, folder: &Path) -> Result<bool, String> {
+    std::fs::create_dir_all(folder).map_err(|error| error.to_string())?;
+    for ending in [kept::SCRIPT, kept::CHAIN] {
+        let path = kept::keep(folder, seed, number, ending).map_err(|error| error.to_string())?;
+        println!("{}", path.display());
     }
-    Ok(())
+    Ok(true)
 }
 
-fn write_chains(seed: u64, count: u64) -> io::Result<()> {
-    let mut out = BufWriter::new(io::stdout().lock());
-    frames::write(&mut out, seed, count)?;
-    out.flush()
-}
-
-fn check_frames() -> bool {
-    let stream = match standard_input() {
-        Ok(stream) => stream,
-        Err(error) => return done(Err(error)),
-    };
-    match frames::check(&stream) {
-        Ok(calls) => println!("{} calls hold", calls),
-        Err(fault) => {
-            println!("{}", fault);
-            return false;
-        }
-    }
-    true
-}
-
-fn standard_input() -> io::Result<Vec<u8>> {
+/// Prints a text made of standard input.
+fn answer(text_of: fn(&[u8]) -> String) -> Result<bool, String> {
     let mut bytes = Vec::new();
-    io::stdin().lock().read_to_end(&mut bytes)?;
-    Ok(bytes)
+    io::stdin().lock().read_to_end(&mut bytes).map_err(|error| error.to_string())?;
+    io::stdout().lock().write_all(text_of(&bytes).as_bytes()).map_err(|error| error.to_string())?;
+    Ok(true)
 }
 
-fn done(result: io::Result<()>) -> bool {
-    if let Err(error) = &result {
-        eprintln!("model: {}", error);
-    }
-    result.is_ok()
-}
-
-fn run(words: &[&str]) -> Option<bool> {
-    let good = match words {
-        ["scripts", directory, seed, count] => {
-            done(write_scripts(directory, seed.parse().ok()?, count.parse().ok()?))
+/// `None` where the words are no command.
+fn obey(words: &[&str]) -> Option<Result<bool, String>> {
+    Some(match words {
+        ["run", seed, scripts, folder] => {
+            run_all(seed.parse().ok()?, scripts.parse().ok()?, Path::new(folder))
         }
-        ["seam", seed, count] => done(write_chains(seed.parse().ok()?, count.parse().ok()?)),
-        ["table", seed, count] => table::table(seed.parse().ok()?, count.parse().ok()?),
-        ["agree", seed, count] => agree::agree(seed.parse().ok()?, count.parse().ok()?),
-        ["frames"] => check_frames(),
-        ["demo"] => demo::demo(),
-        ["expected"] => done(standard_input().map(|bytes| print!("{}", script::expected(&bytes).0))),
-        ["listing"] => done(standard_input().map(|bytes| print!("{}", lister::listing(&bytes)))),
+        ["again", file] => again(file),
+        ["keep", seed, number, folder] => keep(seed.parse().ok()?, number.parse().ok()?, Path::new(folder)),
+        ["expected"] => answer(|bytes| expected(&Script::decode(bytes)).0),
+        ["listing"] => answer(paper::lister::listing),
         _ => return None,
-    };
-    Some(good)
+    })
 }
 
 fn main() -> ExitCode {
     let arguments: Vec<String> = std::env::args().skip(1).collect();
-    let words: Vec<&str> = arguments.iter().map(|word| word.as_str()).collect();
-    match run(&words) {
-        Some(true) => ExitCode::SUCCESS,
-        Some(false) => ExitCode::from(1),
+    let words: Vec<&str> = arguments.iter().map(String::as_str).collect();
+    match obey(&words) {
+        Some(Ok(true)) => ExitCode::SUCCESS,
+        Some(Ok(false)) => ExitCode::from(1),
+        Some(Err(fault)) => {
+            eprintln!("model: {}", fault);
+            ExitCode::from(2)
+        }
         None => {
             eprint!("{}", USAGE);
             ExitCode::from(2)

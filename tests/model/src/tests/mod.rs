@@ -1,13 +1,26 @@
-//! Hand-worked cases: each refusal of the table and its order against the
-//! next ones, what succeeds, the script's text and the seam's bytes.
+//! Hand-worked cases: the paper's examples, each refusal of the table and its
+//! order against the next ones, what succeeds, the script's text, the seam's
+//! bytes, and mistakes that the comparison must find.
 
-mod doors;
-mod refusals;
-mod successes;
+mod bench;
+mod chosen;
+mod examples;
+mod files;
+mod mistakes;
+mod pairs;
+mod records;
+mod refused_by_control_block;
+mod refused_by_file;
+mod refused_by_inspection;
+mod refused_by_record;
+mod refused_by_state_and_lengths;
+mod replay;
+mod seam;
 
-use crate::bench::{control_for, name, Bench};
-use crate::inspection::Way;
-use crate::model::MAKE;
+use bench::{control_for, name, Bench};
+
+use crate::paper::calls::MAKE;
+use crate::paper::held::Way;
 
 /// All calls that are lent a control block.
 pub const WITH_CONTROL: [u8; 14] = [15, 16, 17, 19, 20, 21, 22, 23, 30, 33, 34, 35, 36, 40];
