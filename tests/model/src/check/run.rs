@@ -22,8 +22,8 @@ use crate::doors::seam::Seam;
 /// its reads come back short.
 const PIECES: [usize; 4] = [1 << 20, 4096, 1000, 131];
 
-/// So many failures are shown and kept as files.
-const MOST_SHOWN: usize = 10;
+/// So many failures of each comparison are shown and kept as files.
+const MOST_SHOWN: usize = 5;
 
 pub struct Plan<'a> {
     pub seed: u64,
@@ -42,6 +42,9 @@ enum Comparison {
     PlainWay,
     Chain,
 }
+
+const COMPARISONS: [Comparison; 4] =
+    [Comparison::OnReplay, Comparison::AtSeam, Comparison::PlainWay, Comparison::Chain];
 
 impl Comparison {
     fn thing(&self) -> &'static str {
@@ -90,14 +93,16 @@ pub fn run(plan: &Plan) -> (u64, u64) {
         passed += occurred;
         failed += wrong;
     }
-    for (comparison, count) in &results.passed {
+    for comparison in COMPARISONS {
+        let count = results.passed.get(&comparison).unwrap_or(&0);
         println!("{} {}s passed {}", count, comparison.thing(), comparison.place());
+        let failures = results.failures.iter().filter(|failure| failure.comparison == comparison);
+        print_failures(plan, &failures.collect::<Vec<_>>());
     }
-    print_failures(plan, &results.failures);
     (passed, failed)
 }
 
-fn print_failures(plan: &Plan, failures: &[Failure]) {
+fn print_failures(plan: &Plan, failures: &[&Failure]) {
     for failure in failures.iter().take(MOST_SHOWN) {
         let Failure { number, comparison, what } = failure;
         let (thing, place) = (comparison.thing(), comparison.place());
@@ -135,7 +140,7 @@ fn all_numbers(plan: &Plan) -> Results {
         }
     });
     let mut results = all.into_inner().expect("no worker panics");
-    results.failures.sort_by_key(|failure| (failure.number, failure.comparison));
+    results.failures.sort_by_key(|failure| failure.number);
     results
 }
 
