@@ -3,7 +3,8 @@
 //! | module | what it holds |
 //! |---|---|
 //! | `program`, `archive` | the two things under test |
-//! | `transcripts`, `side_by_side`, `differences` | comparing texts and chains of calls, and differences in words |
+//! | `transcripts`, `side_by_side` | comparing texts, and chains of calls |
+//! | `differences` | differences in words |
 //! | `ways` | comparing the model's two ways |
 //! | `pairs`, `table` | the pairs of call and answer that the paper makes possible, and their count |
 //! | `run`, `again`, `kept` | many scripts and chains; one that is kept in a file |

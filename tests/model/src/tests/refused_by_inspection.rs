@@ -1,11 +1,11 @@
-//! The refusals 36: inspection at log-in.
+//! The refusal 36: inspection at log-in.
 
 use super::*;
 use crate::paper::calls::*;
 
 #[test]
 fn number_36_bad_slots() {
-    // Two entries: slot 0 with blocks 1 and 2, slot 1 with block 3 (D 2, T 8).
+    // D 2, T 8. Two entries: slot 0 with blocks 2 and 3, slot 5 with block 4.
     let make = || {
         let mut b = Bench::closed(1024, 8, 2, Way::Kept);
         let mut first = [0u8; 32];
@@ -21,31 +21,13 @@ fn number_36_bad_slots() {
         b
     };
     assert_eq!(make().log_in(), (0, 3));
+    #[rustfmt::skip]
     let bad: [(usize, u8); 24] = [
-        (0, 16),
-        (0, 0xE4),
-        (0, 0xE6),
-        (0, 0xFF),
-        (1, 0x20),
-        (2, 0x1F),
-        (2, 0x7F),
-        (3, 0x3F),
-        (1, b'T' | 0x80),
-        (8, 0xA0),
-        (11, b'T' | 0x80),
-        (9, 0xBF),
-        (10, 0xFF),
-        (12, 32),
-        (13, 1),
-        (14, 16),
-        (15, 129),
-        (16, 1),
-        (16, 8),
-        (16, 255),
-        (17, 4),
-        (20, 2),
-        (31, 3),
-        (20, 4),
+        (0, 16), (0, 0xE4), (0, 0xE6), (0, 0xFF),
+        (1, 0x20), (2, 0x1F), (2, 0x7F), (3, 0x3F), (1, b'T' | 0x80), (8, 0xA0), (11, b'T' | 0x80),
+        (9, 0xBF), (10, 0xFF),
+        (12, 32), (13, 1), (14, 16), (15, 129),
+        (16, 1), (16, 8), (16, 255), (17, 4), (20, 2), (31, 3), (20, 4),
     ];
     for (byte, value) in bad {
         let mut b = make();
@@ -53,21 +35,10 @@ fn number_36_bad_slots() {
         assert_eq!(b.log_in(), (36, 5), "byte {} value {}", byte, value);
         assert_eq!(b.drive, None);
     }
+    #[rustfmt::skip]
     let good: [(usize, u8); 14] = [
-        (0, 15),
-        (0, 0xE5),
-        (1, 0x21),
-        (1, 0x7E),
-        (2, 0x20),
-        (9, b'T' | 0x80),
-        (10, b'X' | 0x80),
-        (12, 31),
-        (14, 15),
-        (15, 128),
-        (16, 0),
-        (17, 7),
-        (20, 5),
-        (20, 0),
+        (0, 15), (0, 0xE5), (1, 0x21), (1, 0x7E), (2, 0x20), (9, b'T' | 0x80), (10, b'X' | 0x80),
+        (12, 31), (14, 15), (15, 128), (16, 0), (17, 7), (20, 5), (20, 0),
     ];
     for (byte, value) in good {
         let mut b = make();
