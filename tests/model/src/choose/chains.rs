@@ -109,6 +109,7 @@ impl Making {
             _ if self.calls == 0 => 85,
             None => 45,
             Some(state) if state.protected => 15,
+            Some(_) if self.altered_slot.is_some() => 6,
             Some(_) => 2,
         };
         self.r.percent(cases)
@@ -119,7 +120,7 @@ impl Making {
         if self.memory.drive.len() != DRIVE_BYTES && self.r.percent(70) {
             self.set_drive(CLOSED.to_vec());
         }
-        if self.r.percent(75) {
+        if self.r.percent(60) {
             if let Some(slot) = lowest_bad_slot(&self.geometry, &self.memory.volume) {
                 self.lay(slot * SLOT, vec![EMPTY]);
             }

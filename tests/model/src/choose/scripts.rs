@@ -36,8 +36,12 @@ pub fn script_bytes(seed: u64, number: u64) -> Vec<u8> {
     let mut random = Random::new(seed, 2 * number);
     let r = &mut random;
     let (geometry, volume) = geometry_and_volume(r);
-    let altered = r.percent(40);
-    let calls = calls(r, geometry, &volume, altered);
+    let calls = if r.percent(6) {
+        inspections(r, &geometry, &volume)
+    } else {
+        let altered = r.percent(40);
+        calls(r, geometry, &volume, altered)
+    };
     let script = Script { geometry, volume, calls, bad: false };
     if r.percent(6) {
         bad_script(r, &script)
@@ -119,6 +123,17 @@ fn calls(r: &mut Random, geometry: Geometry, volume: &[u8], altered: bool) -> Ve
     calls
 }
 
+/// Log-in upon log-in, each after one alteration that is then taken back.
+fn inspections(r: &mut Random, geometry: &Geometry, volume: &[u8]) -> Vec<Call> {
+    let mut calls = Vec::new();
+    for _ in 0..r.between(5, 20) {
+        let (offset, bytes) = alteration(r, &seen(geometry), volume);
+        let before: Vec<u8> = volume.iter().copied().skip(offset).take(bytes.len()).collect();
+        calls.extend([Call::touch(offset, &bytes), log_in_call(r), Call::touch(offset, &before)]);
+    }
+    calls
+}
+
 /// Mostly 10 to 60.
 fn number_of_calls(r: &mut Random) -> usize {
     match r.below(100) {
@@ -137,7 +152,13 @@ fn next_call(
     altered_slot: Option<usize>,
 ) -> Call {
     let state = player.drive.as_ref().expect("the drive is open");
-    if r.percent(if state.protected { 15 } else { 1 }) {
+    if r.percent(if state.protected {
+        15
+    } else if altered_slot.is_some() {
+        6
+    } else {
+        1
+    }) {
         return log_in_call(r);
     }
     if altered && r.percent(12) {
