@@ -161,13 +161,14 @@ impl Making {
 
     /// The drive to be put back, if it was changed and is to be.
     fn change_drive(&mut self) -> Option<Vec<u8>> {
-        if !self.wild || !self.r.percent(12) {
+        if !self.wild || !self.r.percent(15) {
             return None;
         }
         let before = self.memory.drive.clone();
         let wild = wild_drive(&mut self.r, &before, &self.geometry, &self.memory.volume);
+        let closed = decode(&wild).is_none();
         self.set_drive(wild);
-        self.r.percent(60).then_some(before)
+        self.r.percent(if closed { 85 } else { 30 }).then_some(before)
     }
 
     /// The volume and the drive to be put back, if the length was changed.

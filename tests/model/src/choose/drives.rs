@@ -16,18 +16,18 @@ pub fn wild_drive(r: &mut Random, drive: &[u8], geometry: &Geometry, volume: &[u
         put_geometry(&mut wild, geometry);
         wild[6] = r.below(16) as u8;
     }
-    match r.below(24) {
-        0..=1 => wild[r.below(DRIVE_BYTES)] = r.byte(),
-        2..=6 => hold_otherwise(r, &mut wild[32..]),
-        7 => wild[6] = r.pick(&[0, 1, 15, 16, 17, 255]),
-        8 => wild[7] = r.pick(&[0, 1, 1, 2, 255]),
-        9..=13 => keep_pattern(r, &mut wild, geometry, volume),
-        14..=16 => keep_every_slot(r, &mut wild, geometry),
-        17 => keep_none(r, &mut wild),
-        18 => wild[24 + r.below(8)] = r.pick(&[0, 1, 128]),
-        19..=20 => put_geometry(&mut wild, &other_geometry(r, geometry)),
-        21 => wild.resize(r.pick(&[0, 1, 63, 65, 128]), 0),
-        22 => r.fill(&mut wild),
+    match r.below(30) {
+        0..=3 => wild[r.below(DRIVE_BYTES)] = r.byte(),
+        4..=8 => hold_otherwise(r, &mut wild[32..]),
+        9 => wild[6] = r.pick(&[0, 1, 15, 16, 17, 255]),
+        10 => wild[7] = r.pick(&[0, 1, 1, 2, 255]),
+        11..=15 => keep_pattern(r, &mut wild, geometry, volume),
+        16..=18 => keep_every_slot(r, &mut wild, geometry),
+        19..=22 => keep_none(r, &mut wild),
+        23 => wild[24 + r.below(8)] = r.pick(&[0, 1, 128]),
+        24..=25 => put_geometry(&mut wild, &other_geometry(r, geometry)),
+        26 => wild.resize(r.pick(&[0, 1, 63, 65, 128]), 0),
+        27 => r.fill(&mut wild),
         _ => wild = CLOSED.to_vec(),
     }
     wild
@@ -42,9 +42,9 @@ fn hold_otherwise(r: &mut Random, words: &mut [u8]) {
     }
 }
 
-/// A kept search of the pattern kind.
+/// A kept search of the pattern kind, or one that is no kind but for that.
 fn keep_pattern(r: &mut Random, drive: &mut [u8], geometry: &Geometry, volume: &[u8]) {
-    drive[8] = 1;
+    drive[8] = r.pick(&[1, 1, 1, 1, 1, 1, 1, 0, 3, 0x81]);
     drive[9] = r.pick(&[0, 0, 1, 15, 16, drive[6]]);
     put_last_slot(r, drive, geometry);
     let slots = geometry.slots().min(volume.len() / SLOT);
@@ -63,9 +63,9 @@ fn keep_pattern(r: &mut Random, drive: &mut [u8], geometry: &Geometry, volume: &
     drive[23] = r.pick(&[0, 0, 1, 31, 32, 63, 63, 63, 64, 191]);
 }
 
-/// A kept search of the dr 3FH kind.
+/// A kept search of the dr 3FH kind, or one that is no kind but for that.
 fn keep_every_slot(r: &mut Random, drive: &mut [u8], geometry: &Geometry) {
-    drive[8] = 2;
+    drive[8] = r.pick(&[2, 2, 2, 2, 2, 2, 2, 0, 3, 0x82]);
     drive[9] = r.pick(&[0, 1, 15, 16]);
     put_last_slot(r, drive, geometry);
     r.fill(&mut drive[12..24]);
@@ -73,10 +73,10 @@ fn keep_every_slot(r: &mut Random, drive: &mut [u8], geometry: &Geometry) {
 
 /// No kept search, its bytes zero or one of them not.
 fn keep_none(r: &mut Random, drive: &mut [u8]) {
-    drive[8] = r.pick(&[0, 0, 0, 3, 255]);
+    drive[8] = r.pick(&[0, 0, 0, 0, 0, 0, 3, 255]);
     drive[9..24].fill(0);
-    if r.percent(40) {
-        drive[9 + r.below(15)] = r.byte();
+    if r.percent(75) {
+        drive[9 + r.below(15)] = r.pick(&[1, 15, 0x41, 0xFF]);
     }
 }
 

@@ -183,6 +183,7 @@ fn mixed(r: &mut Random, view: &View) -> Call {
             OPEN,
             CLOSE,
             DELETE,
+            DELETE,
             SEQUENTIAL_READ,
             SEQUENTIAL_WRITE,
             RENAME,
