@@ -1,0 +1,93 @@
+//! The emulator's archive behind the seam's two entries: `seam.c` links it and
+//! answers over a pipe, so that the archive may be for another processor.
+
+use std::io::{self, Read, Write};
+use std::process::{Child, ChildStdin, ChildStdout};
+use std::sync::Mutex;
+
+use super::program::Program;
+use crate::doors::seam::{Memory, Seam};
+use crate::paper::geometry::Geometry;
+
+const NAMES: [&str; 4] = ["drive", "volume", "control block", "buffer"];
+
+/// The program and those of its runs that no thread is asking.
+pub struct Archive {
+    program: Program,
+    idle: Mutex<Vec<Run>>,
+}
+
+impl Archive {
+    pub fn new(program: Program) -> Archive {
+        Archive { program, idle: Mutex::new(Vec::new()) }
+    }
+
+    fn ask(&self, head: [u8; 4], geometry: Geometry, memory: &mut Memory) -> Result<u32, String> {
+        let idle = self.idle.lock().unwrap().pop();
+        let mut run = idle.map_or_else(|| Run::new(&self.program), Ok).map_err(|error| error.to_string())?;
+        let (answer, changed) = run.ask(head, geometry, memory).map_err(|error| format!("the seam: {}", error))?;
+        self.idle.lock().unwrap().push(run);
+        match changed {
+            0 => Ok(answer),
+            which => Err(format!("a byte before or behind the {} was changed", NAMES[which as usize - 1])),
+        }
+    }
+}
+
+impl Seam for Archive {
+    fn log_in(&self, geometry: Geometry, memory: &mut Memory) -> Result<u32, String> {
+        self.ask([0, 0, 0, 0], geometry, memory)
+    }
+
+    fn call(&self, function: u8, parameter: u8, memory: &mut Memory) -> Result<u32, String> {
+        let none = Geometry { block_bytes: 0, blocks: 0, directory_blocks: 0 };
+        self.ask([1, function, parameter, 0], none, memory)
+    }
+}
+
+/// One run of the program, and its two pipes.
+struct Run {
+    child: Child,
+    requests: ChildStdin,
+    replies: ChildStdout,
+}
+
+impl Run {
+    fn new(program: &Program) -> io::Result<Run> {
+        let mut child = program.start()?;
+        let requests = child.stdin.take().ok_or(io::ErrorKind::BrokenPipe)?;
+        let replies = child.stdout.take().ok_or(io::ErrorKind::BrokenPipe)?;
+        Ok(Run { child, requests, replies })
+    }
+
+    /// The answer, and which of the four has a neighbouring byte changed. The
+    /// program reads a request to its end before it replies.
+    fn ask(&mut self, head: [u8; 4], geometry: Geometry, memory: &mut Memory) -> io::Result<(u32, u32)> {
+        let mut lent = [&mut memory.drive, &mut memory.volume, &mut memory.control, &mut memory.buffer];
+        let mut request = head.to_vec();
+        for number in [geometry.block_bytes, geometry.blocks, geometry.directory_blocks] {
+            request.extend(number.to_le_bytes());
+        }
+        lent.iter().for_each(|bytes| request.extend((bytes.len() as u32).to_le_bytes()));
+        lent.iter().for_each(|bytes| request.extend_from_slice(bytes));
+        self.requests.write_all(&request)?;
+        let numbers = (self.number()?, self.number()?);
+        for bytes in lent.iter_mut() {
+            self.replies.read_exact(bytes)?;
+        }
+        Ok(numbers)
+    }
+
+    fn number(&mut self) -> io::Result<u32> {
+        let mut bytes = [0; 4];
+        self.replies.read_exact(&mut bytes)?;
+        Ok(u32::from_le_bytes(bytes))
+    }
+}
+
+impl Drop for Run {
+    fn drop(&mut self) {
+        let _ = self.child.kill();
+        let _ = self.child.wait();
+    }
+}

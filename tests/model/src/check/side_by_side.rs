@@ -1,0 +1,88 @@
+//! A chain played on the model and on something behind the seam: after every
+//! call the answer and every lent byte are compared.
+
+use super::differences::{bytes_differ, numbers_differ, Difference};
+use super::pairs::Row;
+use super::table::Tally;
+use crate::doors::chain::{Chain, Step};
+use crate::doors::replay::hex;
+use crate::doors::script::lay;
+use crate::doors::seam::{self, Memory, Seam};
+use crate::paper::geometry::Geometry;
+
+/// The first difference, if there is one. The model's answers are counted.
+pub fn first_difference(chain: &Chain, under_test: &dyn Seam, tally: &mut Tally) -> Option<Difference> {
+    let (volume, drive) = (chain.volume.clone(), chain.drive.clone());
+    let mut model = Memory { volume, drive, ..Memory::default() };
+    let mut other = model.clone();
+    for (number, step) in chain.steps.iter().enumerate() {
+        prepare(step, &mut model);
+        prepare(step, &mut other);
+        let (row, answer, got) = match step {
+            Step::LogIn(geometry) => {
+                let answer = seam::log_in(*geometry, &mut model);
+                (Row::LogInEntry, answer, under_test.log_in(*geometry, &mut other))
+            }
+            Step::Call(call) => {
+                let answer = seam::call(call.function, call.parameter, &mut model);
+                (Row::of(call.function), answer, under_test.call(call.function, call.parameter, &mut other))
+            }
+            _ => continue,
+        };
+        tally.count(row, answer % 65536);
+        if let Some(what) = difference(got, answer, &other, &model) {
+            let what = format!("step {} ({}): {}", number, row.name(), what);
+            return Some(Difference { what, details: details(step, &other, &model) });
+        }
+    }
+    None
+}
+
+/// What a step lays ready.
+fn prepare(step: &Step, memory: &mut Memory) {
+    match step {
+        Step::Volume(bytes) => memory.volume = bytes.clone(),
+        Step::Drive(bytes) => memory.drive = bytes.clone(),
+        Step::Lay(offset, bytes) => lay(&mut memory.volume, *offset, bytes),
+        Step::LogIn(_) => {}
+        Step::Call(call) => {
+            memory.control = call.control.clone();
+            memory.buffer = call.buffer.clone();
+        }
+    }
+}
+
+fn difference(got: Result<u32, String>, answer: u32, other: &Memory, model: &Memory) -> Option<String> {
+    let got = match got {
+        Ok(got) => got,
+        Err(fault) => return Some(fault),
+    };
+    numbers_differ("answer", got % 65536, answer % 65536)
+        .or_else(|| numbers_differ("count or slot", got / 65536, answer / 65536))
+        .or_else(|| bytes_differ("drive", &other.drive, &model.drive))
+        .or_else(|| bytes_differ("control block", &other.control, &model.control))
+        .or_else(|| bytes_differ("buffer", &other.buffer, &model.buffer))
+        .or_else(|| bytes_differ("volume", &other.volume, &model.volume))
+}
+
+fn details(step: &Step, other: &Memory, model: &Memory) -> Vec<String> {
+    let asked = match step {
+        Step::Call(call) => {
+            let (control, buffer) = (hex(&call.control), hex(&call.buffer));
+            format!("parameter {}, control block {}, buffer {}", call.parameter, control, buffer)
+        }
+        Step::LogIn(geometry) => {
+            let Geometry { block_bytes, blocks, directory_blocks } = geometry;
+            format!("B {}, T {}, D {}", block_bytes, blocks, directory_blocks)
+        }
+        _ => String::new(),
+    };
+    let lines = [("asked  ", asked), ("it has ", shown(other)), ("model  ", shown(model))];
+    lines.map(|(head, line)| head.to_string() + &line).to_vec()
+}
+
+/// All but the volume.
+fn shown(memory: &Memory) -> String {
+    let (drive, control, buffer) = (hex(&memory.drive), hex(&memory.control), hex(&memory.buffer));
+    format!("drive {}, control block {}, buffer {}", drive, control, buffer)
+}

@@ -1,0 +1,215 @@
+//! Random chains for the seam alone, with drives that no run of calls has
+//! left, volumes of another length, log-in through `churawel_call`, and numbers
+//! that are not served.
+
+use super::aims::View;
+use super::alterations::alteration;
+use super::bad_scripts::number_not_served;
+use super::drives::wild_drive;
+use super::geometries::{geometry, wild_geometry};
+use super::images::{contents, make_length_wrong, valid_image};
+use super::random::Random;
+use super::runs::Chooser;
+use crate::doors::chain::{Chain, Step};
+use crate::doors::drive_bytes::{decode, CLOSED, DRIVE_BYTES};
+use crate::doors::script::{lay, Call, LARGEST_VOLUME};
+use crate::doors::seam::{self, Memory};
+use crate::paper::calls::LOG_INS;
+use crate::paper::directory::EMPTY;
+use crate::paper::geometry::{Geometry, SLOT};
+use crate::paper::inspection::lowest_bad_slot;
+
+/// Volumes above this keep their length throughout a chain.
+const LARGE: usize = 64 * 1024;
+
+/// The random chain of this seed and number.
+pub fn chain(seed: u64, number: u64) -> Chain {
+    let mut making = Making::new(Random::new(seed, 2 * number + 1));
+    let Memory { volume, drive, .. } = making.memory.clone();
+    if making.r.percent(15) {
+        making.alter();
+    }
+    let length = making.r.between(10, 60);
+    while making.calls < length {
+        if making.wants_log_in() {
+            making.log_in();
+        } else {
+            making.some_calls();
+        }
+    }
+    Chain { volume, drive, steps: making.steps }
+}
+
+/// A chain in the making, played on the model as it is chosen.
+struct Making {
+    r: Random,
+    geometry: Geometry,
+    steps: Vec<Step>,
+    /// Drive and volume as the steps so far leave them.
+    memory: Memory,
+    /// Log-ins and calls among the steps.
+    calls: usize,
+    chooser: Chooser,
+    /// Whether the drive's bytes are changed between calls.
+    wild: bool,
+    /// Whether the volume is altered between calls.
+    altered: bool,
+    /// The slot of the last alteration, for some calls after it.
+    altered_slot: Option<usize>,
+}
+
+impl Making {
+    fn new(mut r: Random) -> Making {
+        let geometry = geometry(&mut r);
+        let contents = contents(&mut r);
+        let volume = valid_image(&mut r, geometry, contents);
+        let drive = if r.percent(20) { r.bytes(DRIVE_BYTES) } else { CLOSED.to_vec() };
+        Making {
+            geometry,
+            steps: Vec::new(),
+            memory: Memory { volume, drive, ..Memory::default() },
+            calls: 0,
+            chooser: Chooser::new(),
+            wild: r.percent(60),
+            altered: r.percent(40),
+            altered_slot: None,
+            r,
+        }
+    }
+
+    fn set_volume(&mut self, volume: Vec<u8>) {
+        self.steps.push(Step::Volume(volume.clone()));
+        self.memory.volume = volume;
+    }
+
+    fn set_drive(&mut self, drive: Vec<u8>) {
+        self.steps.push(Step::Drive(drive.clone()));
+        self.memory.drive = drive;
+    }
+
+    fn lay(&mut self, offset: usize, bytes: Vec<u8>) {
+        lay(&mut self.memory.volume, offset, &bytes);
+        self.steps.push(Step::Lay(offset, bytes));
+    }
+
+    /// The geometry by which the next call is chosen: the drive's if it is open.
+    fn seen_geometry(&self) -> Geometry {
+        decode(&self.memory.drive).map_or(self.geometry, |state| state.geometry)
+    }
+
+    fn alter(&mut self) {
+        let geometry = self.seen_geometry();
+        let (offset, bytes) = alteration(&mut self.r, &geometry, &self.memory.volume);
+        self.lay(offset, bytes);
+        self.altered_slot = Some(offset / SLOT);
+    }
+
+    fn wants_log_in(&mut self) -> bool {
+        let cases = match decode(&self.memory.drive) {
+            _ if self.calls == 0 => 85,
+            None => 45,
+            Some(state) if state.protected => 15,
+            Some(_) if self.altered_slot.is_some() => 6,
+            Some(_) => 2,
+        };
+        self.r.percent(cases)
+    }
+
+    /// `churawel_log_in`, mostly after what makes it succeed.
+    fn log_in(&mut self) {
+        if self.memory.drive.len() != DRIVE_BYTES && self.r.percent(70) {
+            self.set_drive(CLOSED.to_vec());
+        }
+        if self.r.percent(60) {
+            if let Some(slot) = lowest_bad_slot(&self.geometry, &self.memory.volume) {
+                self.lay(slot * SLOT, vec![EMPTY]);
+            }
+        }
+        let wild = self.r.percent(6);
+        let given = if wild { wild_geometry(&mut self.r, &self.geometry) } else { self.geometry };
+        self.log_in_with(given);
+    }
+
+    fn log_in_with(&mut self, geometry: Geometry) {
+        seam::log_in(geometry, &mut self.memory);
+        self.steps.push(Step::LogIn(geometry));
+        self.calls += 1;
+    }
+
+    /// One call or a few, with drive and volume changed before them now and
+    /// then, and mostly put back after them.
+    fn some_calls(&mut self) {
+        if self.altered && self.r.percent(12) {
+            self.alter();
+        } else if self.r.percent(12) {
+            self.altered_slot = None;
+        }
+        let drive_back = self.change_drive();
+        let volume_back = self.change_length();
+        for _ in 0..self.r.pick(&[1, 1, 1, 3]) {
+            let call = self.next_call(volume_back.is_some());
+            self.call(call);
+        }
+        if let Some((volume, drive)) = volume_back {
+            self.set_volume(volume);
+            self.set_drive(drive);
+        }
+        if let Some(drive) = drive_back {
+            self.set_drive(drive);
+        }
+    }
+
+    /// The drive to be put back, if it was changed and is to be.
+    fn change_drive(&mut self) -> Option<Vec<u8>> {
+        if !self.wild || !self.r.percent(15) {
+            return None;
+        }
+        let before = self.memory.drive.clone();
+        let wild = wild_drive(&mut self.r, &before, &self.geometry, &self.memory.volume);
+        let closed = decode(&wild).is_none();
+        self.set_drive(wild);
+        self.r.percent(if closed { 85 } else { 30 }).then_some(before)
+    }
+
+    /// The volume and the drive to be put back, if the length was changed.
+    fn change_length(&mut self) -> Option<(Vec<u8>, Vec<u8>)> {
+        if self.memory.volume.len() > LARGE || !self.r.percent(2) {
+            return None;
+        }
+        let before = (self.memory.volume.clone(), self.memory.drive.clone());
+        let mut volume = before.0.clone();
+        make_length_wrong(&mut self.r, &mut volume, LARGEST_VOLUME);
+        self.set_volume(volume);
+        if self.r.percent(20) {
+            self.log_in_with(self.geometry);
+        }
+        Some(before)
+    }
+
+    /// Mostly one of the calls that replay has too; now and then log-in or a
+    /// number that is not served, more often where they are refused.
+    fn next_call(&mut self, wrong_length: bool) -> Call {
+        let state = decode(&self.memory.drive);
+        let cases = if state.is_none() || wrong_length { 12 } else { 2 };
+        let mut instead = None;
+        if self.r.percent(cases) {
+            instead = Some(self.r.pick(&LOG_INS));
+        } else if self.r.percent(cases) {
+            instead = Some(number_not_served(&mut self.r));
+        }
+        let geometry = self.seen_geometry();
+        let user = state.map_or(0, |state| state.user);
+        let view = View { geometry, volume: &self.memory.volume, user, altered: self.altered_slot };
+        let call = self.chooser.next(&mut self.r, &view);
+        Call { function: instead.unwrap_or(call.function), ..call }
+    }
+
+    fn call(&mut self, call: Call) {
+        self.memory.control = call.control.clone();
+        self.memory.buffer = call.buffer.clone();
+        let answer = seam::call(call.function, call.parameter, &mut self.memory);
+        self.chooser.saw(call.function, answer, &self.memory.control);
+        self.steps.push(Step::Call(call));
+        self.calls += 1;
+    }
+}

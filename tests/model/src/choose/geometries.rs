@@ -1,0 +1,78 @@
+//! Geometries within the rules and outside of them.
+
+use super::random::Random;
+use crate::paper::geometry::Geometry;
+
+/// Within the rules; small mostly, some at the limits.
+pub fn geometry(r: &mut Random) -> Geometry {
+    let block_bytes = r.pick(&[1024, 2048, 4096]);
+    let (blocks, directory_blocks) = match r.below(100) {
+        0..=69 => few_blocks(r),
+        70..=79 => {
+            let blocks = r.between(4, 14);
+            (blocks, r.between(1, blocks - 1))
+        }
+        80..=87 => (r.between(17, 40), r.between(1, 3)),
+        88..=90 => (2, 1),
+        91..=93 => (17, 16),
+        94..=95 => (r.between(17, 24), 16),
+        96 => (256, 1),
+        97 => (256, 16),
+        98 => (255, r.pick(&[1, 2, 16])),
+        _ => (r.between(41, 254), r.between(1, 16)),
+    };
+    Geometry::new(block_bytes, blocks as u32, directory_blocks as u32)
+}
+
+fn few_blocks(r: &mut Random) -> (usize, usize) {
+    let blocks = r.between(2, 12).max(r.between(2, 12));
+    (blocks, r.between(1, 2.min(blocks - 1)))
+}
+
+/// Outside the rules, in numbers of 16 bits; often by one.
+pub fn wrong_geometry(r: &mut Random) -> Geometry {
+    let mut wrong = geometry(r);
+    while wrong.within_rules() {
+        match r.below(12) {
+            0..=1 => wrong.block_bytes = r.pick(&[512, 8192, 512, 8192, 3072, 0]),
+            2 => wrong.block_bytes = r.pick(&[1, 128, 1023, 1025, 16384, 32768]),
+            3..=4 => wrong.blocks = 257,
+            5 => wrong.blocks = r.pick(&[0, 1, 1, 512, 65535]),
+            6 => wrong.directory_blocks = 0,
+            7 => wrong = Geometry { blocks: wrong.blocks.max(18), directory_blocks: 17, ..wrong },
+            8 => wrong.directory_blocks = wrong.blocks,
+            9 => wrong.directory_blocks = wrong.blocks + 1,
+            10 => wrong = Geometry::new(0, 0, 0),
+            _ => wrong.block_bytes = r.below(65536) as u32,
+        }
+    }
+    wrong
+}
+
+/// Outside the rules, in numbers that may be beyond 16 bits: as given to
+/// `churawel_log_in`.
+pub fn wild_geometry(r: &mut Random, right: &Geometry) -> Geometry {
+    let mut wild = *right;
+    match r.below(6) {
+        0 => wild.block_bytes += 65536,
+        1 => wild.blocks += 65536,
+        2 => wild.directory_blocks += 65536,
+        3 => wild.blocks = r.pick(&[u32::MAX, 0x8000_0000, 0]),
+        4 => wild.block_bytes = r.pick(&[u32::MAX, 0x8000_0400, 0x0100_0000, 0]),
+        _ => wild = wrong_geometry(r),
+    }
+    wild
+}
+
+/// Another geometry for a drive: of the same volume length or not, within the
+/// rules or not.
+pub fn other_geometry(r: &mut Random, right: &Geometry) -> Geometry {
+    let Geometry { block_bytes, blocks, directory_blocks } = *right;
+    match r.below(5) {
+        0 => Geometry::new(block_bytes, blocks, r.between(1, 17) as u32),
+        1 => Geometry::new(block_bytes * 2, blocks / 2, 1),
+        2 => Geometry::new(block_bytes / 2, blocks * 2, directory_blocks),
+        3 => wrong_geometry(r),
+        _ => geometry(r),
+    }
+}

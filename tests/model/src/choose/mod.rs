@@ -1,0 +1,26 @@
+//! Random images, calls, scripts and chains.
+//!
+//! | module | what it chooses |
+//! |---|---|
+//! | `random` | numbers, from a seed |
+//! | `geometries`, `pool`, `images` | geometries, names and users, images that log-in accepts |
+//! | `alterations` | single alterations that may make an image bad |
+//! | `aims` | what a call sees of the volume, and the file and record that it is for |
+//! | `control_blocks`, `faults` | control blocks in order, and things put out of order |
+//! | `runs` | the next call, in runs of calls that belong together |
+//! | `scripts`, `bad_scripts` | scripts for both doors |
+//! | `drives`, `chains` | wild drives, and chains with them for the seam alone |
+
+pub mod aims;
+pub mod alterations;
+pub mod bad_scripts;
+pub mod chains;
+pub mod control_blocks;
+pub mod drives;
+pub mod faults;
+pub mod geometries;
+pub mod images;
+pub mod pool;
+pub mod random;
+pub mod runs;
+pub mod scripts;

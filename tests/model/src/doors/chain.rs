@@ -1,0 +1,128 @@
+//! A chain: a run of calls at the seam, with what is done to drive and volume
+//! between them.
+//!
+//! As a file it is the eight bytes of `HEAD`, the volume, the drive and then the
+//! steps, each a letter and what `Step` says. Numbers have their low byte first;
+//! a *run* is a length of 32 bits and so many bytes; volume and drive are runs.
+
+use super::drive_bytes::CLOSED;
+use super::reader::Reader;
+use super::script::{Call, Script, TOUCH};
+use crate::paper::calls::LOG_INS;
+use crate::paper::geometry::Geometry;
+
+pub const HEAD: &[u8; 8] = b"CHURSEAM";
+
+#[derive(Clone, PartialEq, Eq, Debug)]
+pub struct Chain {
+    pub volume: Vec<u8>,
+    pub drive: Vec<u8>,
+    pub steps: Vec<Step>,
+}
+
+#[derive(Clone, PartialEq, Eq, Debug)]
+pub enum Step {
+    /// `V`, run: from here on this is the volume.
+    Volume(Vec<u8>),
+    /// `D`, run: from here on these are the drive's bytes.
+    Drive(Vec<u8>),
+    /// `A`, 32 bits of offset, run: something else lays bytes into the volume.
+    Lay(usize, Vec<u8>),
+    /// `L`, B, T, D of 32 bits each: `churawel_log_in`.
+    LogIn(Geometry),
+    /// `C`, function, parameter, run of the control block, run of the buffer:
+    /// `churawel_call`.
+    Call(Call),
+}
+
+impl Chain {
+    /// The calls of a script; each is the step of the same number.
+    pub fn of_script(script: &Script) -> Chain {
+        let step = |call: &Call| match call.function {
+            TOUCH => {
+                let (offset, bytes) = call.touched().unwrap_or((0, &[]));
+                Step::Lay(offset, bytes.to_vec())
+            }
+            function if LOG_INS.contains(&function) => Step::LogIn(script.geometry),
+            _ => Step::Call(call.clone()),
+        };
+        let steps = script.calls.iter().map(step).collect();
+        Chain { volume: script.volume.clone(), drive: CLOSED.to_vec(), steps }
+    }
+
+    pub fn encode(&self) -> Vec<u8> {
+        let mut bytes = HEAD.to_vec();
+        put_run(&self.volume, &mut bytes);
+        put_run(&self.drive, &mut bytes);
+        for step in &self.steps {
+            encode_step(step, &mut bytes);
+        }
+        bytes
+    }
+
+    /// `None` where the file is cut off or is no chain.
+    pub fn decode(bytes: &[u8]) -> Option<Chain> {
+        let mut reader = Reader { rest: bytes };
+        if reader.take(HEAD.len())? != HEAD {
+            return None;
+        }
+        let mut chain = Chain { volume: reader.run(4)?, drive: reader.run(4)?, steps: Vec::new() };
+        while !reader.rest.is_empty() {
+            chain.steps.push(decode_step(&mut reader)?);
+        }
+        Some(chain)
+    }
+}
+
+fn put_number(number: u32, bytes: &mut Vec<u8>) {
+    bytes.extend(number.to_le_bytes());
+}
+
+fn put_run(run: &[u8], bytes: &mut Vec<u8>) {
+    put_number(run.len() as u32, bytes);
+    bytes.extend(run);
+}
+
+fn encode_step(step: &Step, bytes: &mut Vec<u8>) {
+    match step {
+        Step::Volume(volume) => {
+            bytes.push(b'V');
+            put_run(volume, bytes);
+        }
+        Step::Drive(drive) => {
+            bytes.push(b'D');
+            put_run(drive, bytes);
+        }
+        Step::Lay(offset, laid) => {
+            bytes.push(b'A');
+            put_number(*offset as u32, bytes);
+            put_run(laid, bytes);
+        }
+        Step::LogIn(geometry) => {
+            bytes.push(b'L');
+            put_number(geometry.block_bytes, bytes);
+            put_number(geometry.blocks, bytes);
+            put_number(geometry.directory_blocks, bytes);
+        }
+        Step::Call(call) => {
+            bytes.extend([b'C', call.function, call.parameter]);
+            put_run(&call.control, bytes);
+            put_run(&call.buffer, bytes);
+        }
+    }
+}
+
+fn decode_step(reader: &mut Reader) -> Option<Step> {
+    let step = match reader.byte()? {
+        b'V' => Step::Volume(reader.run(4)?),
+        b'D' => Step::Drive(reader.run(4)?),
+        b'A' => Step::Lay(reader.number(4)? as usize, reader.run(4)?),
+        b'L' => Step::LogIn(Geometry::new(reader.number(4)?, reader.number(4)?, reader.number(4)?)),
+        b'C' => {
+            let (function, parameter) = (reader.byte()?, reader.byte()?);
+            Step::Call(Call { function, parameter, control: reader.run(4)?, buffer: reader.run(4)? })
+        }
+        _ => return None,
+    };
+    Some(step)
+}

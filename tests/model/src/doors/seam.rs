@@ -1,0 +1,56 @@
+//! The emulator's seam: what `churawel_log_in` and `churawel_call` must answer
+//! and leave.
+
+use super::drive_bytes::{decode, encode, DRIVE_BYTES};
+use crate::paper::calls::{self, is_served, Lent, LOG_INS};
+use crate::paper::geometry::Geometry;
+use crate::paper::held::Way;
+use crate::paper::inspection;
+
+/// All that is lent at the seam (to log-in: volume and drive).
+#[derive(Clone, Default, PartialEq, Eq, Debug)]
+pub struct Memory {
+    pub drive: Vec<u8>,
+    pub volume: Vec<u8>,
+    pub control: Vec<u8>,
+    pub buffer: Vec<u8>,
+}
+
+/// Something that stands behind the two entries. An error is a fault that no
+/// lent byte shows.
+pub trait Seam: Sync {
+    fn log_in(&self, geometry: Geometry, memory: &mut Memory) -> Result<u32, String>;
+    fn call(&self, function: u8, parameter: u8, memory: &mut Memory) -> Result<u32, String>;
+}
+
+/// A drive that is closed, malformed or of another length.
+const CLOSED_DRIVE: u32 = 32;
+/// A function's number that is not served.
+const NOT_SERVED: u32 = 31;
+
+/// The number in the low 16 bits, count or slot in the high 16.
+pub fn log_in(geometry: Geometry, memory: &mut Memory) -> u32 {
+    if memory.drive.len() != DRIVE_BYTES {
+        return CLOSED_DRIVE;
+    }
+    let (answer, value, state) = inspection::log_in(geometry, &memory.volume, Way::Kept);
+    memory.drive.copy_from_slice(&encode(&state));
+    answer + 65536 * value
+}
+
+/// 13 and 37 log in anew with the geometry that the drive has.
+pub fn call(function: u8, parameter: u8, memory: &mut Memory) -> u32 {
+    let mut state = decode(&memory.drive);
+    let Some(open) = &state else { return CLOSED_DRIVE };
+    if !is_served(function) {
+        return NOT_SERVED;
+    }
+    if LOG_INS.contains(&function) {
+        return log_in(open.geometry, memory);
+    }
+    let mut lent =
+        Lent { volume: &mut memory.volume, control: &mut memory.control, buffer: &mut memory.buffer };
+    let answer = calls::call(&mut state, function, parameter, &mut lent);
+    memory.drive.copy_from_slice(&encode(&state));
+    answer
+}

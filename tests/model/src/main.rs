@@ -1,0 +1,103 @@
+//! An independent model of the SCP 1700 file calls, and the test that holds the
+//! program `replay` and the emulator's seam against it. README.md says how to
+//! use it.
+
+mod check;
+mod choose;
+mod doors;
+mod paper;
+#[cfg(test)]
+mod tests;
+
+use std::io::{self, Read, Write};
+use std::path::Path;
+use std::process::ExitCode;
+
+use check::archive::Archive;
+use check::kept;
+use check::program::Program;
+use check::run::{run, Plan};
+use doors::replay::expected;
+use doors::script::Script;
+
+const USAGE: &str = "usage:
+  model run SEED SCRIPTS FOLDER   scripts and chains on replay and at the seam; failing ones go to FOLDER
+  model again FILE                a kept script or chain once more
+  model keep SEED NUMBER FOLDER   writes the script and the chain of this number to FOLDER
+  model expected                  a script on standard input: what replay must print
+  model listing                   a volume on standard input: what the lister must print
+The environment's REPLAY is the command that runs replay, SEAM the one that runs seam.c.
+";
+
+/// The program that the environment's variable names.
+fn program(variable: &str) -> Result<Program, String> {
+    let command = std::env::var(variable).unwrap_or_default();
+    Program::new(&command).ok_or(format!("{} is not set", variable))
+}
+
+/// What is under test, or what is missing.
+fn under_test() -> Result<(Program, Archive), String> {
+    Ok((program("REPLAY")?, Archive::new(program("SEAM")?)))
+}
+
+fn run_all(seed: u64, scripts: u64, folder: &Path) -> Result<bool, String> {
+    let (replay, seam) = under_test()?;
+    std::fs::create_dir_all(folder).map_err(|error| error.to_string())?;
+    let (passed, failed) = run(&Plan { seed, scripts, replay: &replay, seam: &seam, folder });
+    println!("compared: {} passed, {} failed", passed, failed);
+    Ok(failed == 0)
+}
+
+fn again(file: &str) -> Result<bool, String> {
+    let (replay, seam) = under_test()?;
+    let bytes = std::fs::read(file).map_err(|error| format!("{}: {}", file, error))?;
+    Ok(check::again::again(&bytes, &replay, &seam))
+}
+
+fn keep(seed: u64, number: u64, folder: &Path) -> Result<bool, String> {
+    std::fs::create_dir_all(folder).map_err(|error| error.to_string())?;
+    for ending in [kept::SCRIPT, kept::CHAIN] {
+        let path = kept::keep(folder, seed, number, ending).map_err(|error| error.to_string())?;
+        println!("{}", path.display());
+    }
+    Ok(true)
+}
+
+/// Prints a text made of standard input.
+fn answer(text_of: fn(&[u8]) -> String) -> Result<bool, String> {
+    let mut bytes = Vec::new();
+    io::stdin().lock().read_to_end(&mut bytes).map_err(|error| error.to_string())?;
+    io::stdout().lock().write_all(text_of(&bytes).as_bytes()).map_err(|error| error.to_string())?;
+    Ok(true)
+}
+
+/// `None` where the words are no command.
+fn obey(words: &[&str]) -> Option<Result<bool, String>> {
+    Some(match words {
+        ["run", seed, scripts, folder] => {
+            run_all(seed.parse().ok()?, scripts.parse().ok()?, Path::new(folder))
+        }
+        ["again", file] => again(file),
+        ["keep", seed, number, folder] => keep(seed.parse().ok()?, number.parse().ok()?, Path::new(folder)),
+        ["expected"] => answer(|bytes| expected(&Script::decode(bytes)).0),
+        ["listing"] => answer(paper::lister::listing),
+        _ => return None,
+    })
+}
+
+fn main() -> ExitCode {
+    let arguments: Vec<String> = std::env::args().skip(1).collect();
+    let words: Vec<&str> = arguments.iter().map(String::as_str).collect();
+    match obey(&words) {
+        Some(Ok(true)) => ExitCode::SUCCESS,
+        Some(Ok(false)) => ExitCode::from(1),
+        Some(Err(fault)) => {
+            eprintln!("model: {}", fault);
+            ExitCode::from(2)
+        }
+        None => {
+            eprint!("{}", USAGE);
+            ExitCode::from(2)
+        }
+    }
+}

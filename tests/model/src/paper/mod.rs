@@ -1,0 +1,26 @@
+//! The calls of the paper ("01"), done the plain way and written from the
+//! paper alone. The modules follow its headings, so that both can be read side
+//! by side:
+//!
+//! | heading of the paper | module |
+//! |---|---|
+//! | The calls we serve | `calls` |
+//! | Volume and entry | `geometry`, `names`, `directory` |
+//! | Inspection at log-in | `inspection`, `held`, `state` |
+//! | Control block and position | `control` |
+//! | What each call does when it succeeds | `files`, `records` |
+//! | Numbers of refusal, in order of test | `refusals`; the rows from 255 on in `files`, `records` |
+//! | Examples to hold it to | `lister`, and `tests/examples.rs` |
+
+pub mod calls;
+pub mod control;
+pub mod directory;
+pub mod files;
+pub mod geometry;
+pub mod held;
+pub mod inspection;
+pub mod lister;
+pub mod names;
+pub mod records;
+pub mod refusals;
+pub mod state;

@@ -1,0 +1,153 @@
+//! That the comparison finds mistakes and says where they are: a seam that is
+//! the model but for one thing, and texts that differ in one place.
+
+use crate::check::side_by_side;
+use crate::check::table::Tally;
+use crate::check::transcripts::first_difference;
+use crate::choose::chains::chain;
+use crate::doors::seam::{self, Memory, Seam};
+use crate::paper::calls::*;
+use crate::paper::control::CR;
+use crate::paper::geometry::Geometry;
+
+/// Given the function (0 for `churawel_log_in`), the answer and what is lent
+/// after it; a new answer or a fault.
+type Mistake = fn(u8, u32, &mut Memory) -> Result<u32, String>;
+
+/// The model, with a mistake after each call.
+pub struct Mistaken {
+    mistake: Mistake,
+}
+
+impl Mistaken {
+    /// The model as it is.
+    pub const NOT_AT_ALL: Mistaken = Mistaken { mistake: |_, answer, _| Ok(answer) };
+}
+
+impl Seam for Mistaken {
+    fn log_in(&self, geometry: Geometry, memory: &mut Memory) -> Result<u32, String> {
+        let answer = seam::log_in(geometry, memory);
+        (self.mistake)(0, answer, memory)
+    }
+
+    fn call(&self, function: u8, parameter: u8, memory: &mut Memory) -> Result<u32, String> {
+        let answer = seam::call(function, parameter, memory);
+        (self.mistake)(function, answer, memory)
+    }
+}
+
+/// The first difference in two hundred chains.
+fn difference(mistake: Mistake) -> Option<String> {
+    let mistaken = Mistaken { mistake };
+    (0..200).find_map(|number| {
+        let difference = side_by_side::first_difference(&chain(3, number), &mistaken, &mut Tally::default());
+        difference.map(|difference| difference.what)
+    })
+}
+
+/// The mistake is found, and the words for it contain these.
+fn found(mistake: Mistake, words: &str) {
+    let what = difference(mistake).expect("a difference");
+    assert!(what.starts_with("step ") && what.contains(words), "{}", what);
+}
+
+#[test]
+fn the_model_agrees_with_itself() {
+    assert_eq!(difference(Mistaken::NOT_AT_ALL.mistake), None);
+}
+
+#[test]
+fn a_wrong_answer() {
+    let mistake: Mistake = |function, answer, _| match (function, answer) {
+        (RANDOM_READ, 4) => Ok(1),
+        _ => Ok(answer),
+    };
+    found(mistake, "(function 33): the answer is 1, by the model 4");
+}
+
+#[test]
+fn a_wrong_count_or_slot() {
+    let mistake: Mistake = |function, answer, _| Ok(if function == 0 { answer ^ 65536 } else { answer });
+    found(mistake, "(churawel_log_in): the count or slot is ");
+}
+
+#[test]
+fn a_wrong_byte_in_each_thing_lent() {
+    let drive: Mistake = |function, answer, memory| {
+        if function == PROTECT && answer == 0 {
+            memory.drive[7] = 0;
+        }
+        Ok(answer)
+    };
+    found(drive, "(function 28): byte 7 of the drive is 00, by the model 01");
+    let control: Mistake = |function, answer, memory| {
+        if function == SEQUENTIAL_READ && answer == 0 {
+            memory.control[CR] -= 1;
+        }
+        Ok(answer)
+    };
+    found(control, "(function 20): byte 32 of the control block is ");
+    let buffer: Mistake = |function, answer, memory| {
+        if function == SEARCH_NEXT && answer <= 3 {
+            memory.buffer[127] ^= 1;
+        }
+        Ok(answer)
+    };
+    found(buffer, "(function 18): byte 127 of the buffer is ");
+    let volume: Mistake = |function, answer, memory| {
+        if function == DELETE && answer == 0 {
+            memory.volume[0] ^= 0x80;
+        }
+        Ok(answer)
+    };
+    found(volume, "(function 19): byte 0 of the volume is ");
+}
+
+#[test]
+fn a_refusal_that_writes_the_drive_back() {
+    let mistake: Mistake = |function, answer, memory| {
+        if function != 0 && answer == 32 {
+            memory.drive.fill(0);
+        }
+        Ok(answer)
+    };
+    found(mistake, " of the drive is 00, by the model ");
+}
+
+#[test]
+fn a_number_that_is_not_served() {
+    let mistake: Mistake = |_, answer, _| Ok(if answer == 31 { 32 } else { answer });
+    found(mistake, "(a number that is not served): the answer is 32, by the model 31");
+}
+
+#[test]
+fn a_fault_that_no_byte_shows() {
+    found(|_, _, _| Err("a byte before or behind".to_string()), "a byte before or behind");
+}
+
+const TEXT: &str = "13 0 1 - -\n33 1 0 =0041 =AB\nRECORD 8 010203\nEND 2\n";
+
+/// The text with one part exchanged, and the words for the difference.
+fn text_differs(part: &str, other: &str, words: &str) {
+    let got = TEXT.replacen(part, other, 1);
+    let difference = first_difference(&got, TEXT).expect("a difference");
+    assert_eq!(difference.what, words);
+}
+
+#[test]
+fn texts_that_differ() {
+    assert_eq!(first_difference(TEXT, TEXT), None);
+    text_differs("13 0 1", "13 0 2", "call 0 (function 13): the value is '2', by the model '1'");
+    text_differs("33 1", "33 4", "call 1 (function 33): the answer is '4', by the model '1'");
+    text_differs(
+        "=0041",
+        "=0042",
+        "call 1 (function 33): byte 1 of the control block is 42, by the model 41",
+    );
+    text_differs("=0041", "=00", "call 1 (function 33): the control block has 2 digits, by the model 4");
+    text_differs("=AB", "-", "call 1 (function 33): the buffer is '-', by the model '=AB'");
+    text_differs("010203", "010703", "RECORD 8: byte 1 of the record is 07, by the model 02");
+    text_differs("RECORD 8", "RECORD 9", "line 2: 'RECORD 9 010203', by the model 'RECORD 8 010203'");
+    text_differs("RECORD 8 010203\n", "", "line 2: 'END 2', by the model 'RECORD 8 010203'");
+    text_differs("END 2\n", "END 2", "line 4: 'no line, nor a line feed before it', by the model ''");
+}
