@@ -108,7 +108,7 @@ impl Making {
         let cases = match decode(&self.memory.drive) {
             _ if self.calls == 0 => 85,
             None => 45,
-            Some(state) if state.protected => 15,
+            Some(state) if state.protected => 10,
             Some(_) if self.altered_slot.is_some() => 6,
             Some(_) => 2,
         };
@@ -117,7 +117,10 @@ impl Making {
 
     /// `churawel_log_in`, mostly after what makes it succeed.
     fn log_in(&mut self) {
-        if self.memory.drive.len() != DRIVE_BYTES && self.r.percent(70) {
+        if self.r.percent(3) {
+            let drive = self.r.bytes_of(&[0, 1, 32, 63, 65, 128]);
+            self.set_drive(drive);
+        } else if self.memory.drive.len() != DRIVE_BYTES && self.r.percent(80) {
             self.set_drive(CLOSED.to_vec());
         }
         if self.r.percent(60) {

@@ -11,7 +11,7 @@ use crate::paper::geometry::RECORD;
 pub fn finished(r: &mut Random, function: u8, parameter: u8, mut control: Vec<u8>) -> Call {
     let parameter = if function != USER && r.percent(20) { r.byte() } else { parameter };
     let mut faults = 0;
-    if is_lent_control(function) && r.percent(12) {
+    if is_lent_control(function) && r.percent(14) {
         faults = r.weighted(&[(60, 1), (25, 2), (15, 4)]);
     }
     for _ in 0..faults {

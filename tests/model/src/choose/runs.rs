@@ -218,7 +218,7 @@ fn any_function(r: &mut Random, no_files: bool) -> u8 {
         (8, SEQUENTIAL_WRITE),
         (if no_files { 60 } else { 7 }, MAKE),
         (7, RENAME),
-        (1, PROTECT),
+        (2, PROTECT),
         (6, ATTRIBUTES),
         (if no_files { 30 } else { 8 }, USER),
         (12, RANDOM_READ),

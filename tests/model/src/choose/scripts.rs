@@ -152,13 +152,12 @@ fn next_call(
     altered_slot: Option<usize>,
 ) -> Call {
     let state = player.drive.as_ref().expect("the drive is open");
-    if r.percent(if state.protected {
-        15
-    } else if altered_slot.is_some() {
-        6
-    } else {
-        1
-    }) {
+    let log_in = match altered_slot {
+        _ if state.protected => 10,
+        Some(_) => 6,
+        None => 1,
+    };
+    if r.percent(log_in) {
         return log_in_call(r);
     }
     if altered && r.percent(12) {
