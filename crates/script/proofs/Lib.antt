@@ -1,0 +1,3 @@
+-- Laws of what is lent, and of what stands next.
+pub mod LentLaws
+pub mod ScriptLaws
