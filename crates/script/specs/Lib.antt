@@ -2,3 +2,4 @@
 pub mod Numbers
 pub mod Lent
 pub mod Script
+pub mod Window

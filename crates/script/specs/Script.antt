@@ -26,6 +26,11 @@ unfoldable pub headerOf : List ℕ → Header
 headerOf s =
     cond (leb 10 (length s) && leb (four s 6) 1048576) (header.Good (geometryOf s) (four s 6)) header.Bad
 
+-- "at most 1,048,576"
+abbrev pub AtMost : Header → Type 0
+AtMost (header.Good g n) = n ≤ 1048576
+AtMost header.Bad = Unit
+
 -- F and K of the call that stands at the start of s, and how long the call is
 abbrev pub blockLength : List ℕ → ℕ
 blockLength s = byte s 2

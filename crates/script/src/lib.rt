@@ -2,11 +2,12 @@
 ghost use mathlib.Core.Path.{_≡_};
 ghost use lib.ListN.{length};
 ghost use Rattle.script.specs.Numbers.{three};
-ghost use Rattle.script.specs.Script.{headerOf, nextOf, isKnown, Within};
+ghost use Rattle.script.specs.Script.{headerOf, AtMost, nextOf, isKnown, Within};
 use volume::Geometry;
 
 pub mod lending;
 mod numbers;
+pub mod window;
 
 // The longest call: five bytes, 255 of control block, 65,535 of buffer.
 pub const LONGEST_CALL: usize = 65795;
@@ -38,6 +39,7 @@ pub enum Next {
 // The header at the start of s.
 pub fn header_of(s: &[u8]) -> Header
     ensures { λ r. ⌜ r ≡ headerOf (now (s .entry)) ⌝ }
+    ensures { λ r. ⌜ AtMost r ⌝ }
 {
     let length = numbers::four_at(s, 6);
     let good = (10 <= s.len()) & (length <= LONGEST_VOLUME);
