@@ -1,0 +1,3 @@
+-- What a call of the script does, and the whole transcript.
+pub mod Play
+pub mod Transcript

@@ -1,0 +1,5 @@
+-- The script of a replay.
+pub mod Numbers
+pub mod Lent
+pub mod Script
+pub mod Window
