@@ -1,67 +1,12 @@
-#!/usr/bin/env python3
-"""Writes crates/replay/stdin, a script over the paper's volume V, and crates/replay/stdout, what replay must print of it.
+"""The paper's starred example on V, and one call of each kind.
 
-Every answer, control block, buffer and record below is worked out by hand from the paper's sentences; nothing here does a
-call. Run it from anywhere; it finds the repository by its own place.
+Every answer, control block, buffer and record is worked out by hand from the paper's sentences; nothing here does a call.
 """
-from pathlib import Path
-
-TOP = Path(__file__).resolve().parents[2]
-RECORD = 128
-SIGLA = b"SIGLA   TXT"
-
-script = bytearray()
-lines = []
-
-
-def fcb(name=SIGLA, dr=0, ex=0, s1=0, s2=0, rc=0, blocks=(), cr=0, r=0):
-    """A control block of 36 bytes: dr, name and type, ex, s1, s2, rc, map, cr, r0 r1 r2."""
-    places = bytes(blocks) + bytes(16 - len(blocks))
-    return bytes([dr]) + name + bytes([ex, s1, s2, rc]) + places + bytes([cr]) + r.to_bytes(3, "little")
-
-
-def entry(name, ex, rc, blocks):
-    """A directory entry of user 0."""
-    return bytes([0]) + name + bytes([ex, 0, 0, rc]) + bytes(blocks) + bytes(16 - len(blocks))
-
-
-def bytes_of(value):
-    """128 times a byte."""
-    return bytes([value]) * RECORD
-
-
-def shown(lent):
-    return "-" if lent is None else "=" + lent.hex().upper()
-
-
-def call(function, answer, *, parameter=0, value=0, block=b"", buffer=b"", block_after=None, buffer_after=None):
-    """A call as lent, and its line: what is afterwards in control block and buffer, None where the call is lent none."""
-    script.extend([function, parameter, len(block)])
-    script.extend(block)
-    script.extend(len(buffer).to_bytes(2, "little"))
-    script.extend(buffer)
-    lines.append(f"{function} {answer} {value} {shown(block_after)} {shown(buffer_after)}")
-
-
-def refused(function, answer, block=None, buffer=None):
-    """A call that is refused: what it is lent stays as it is."""
-    call(function, answer, block=block or b"", buffer=buffer or b"", block_after=block, buffer_after=buffer)
-
-
-def touch(offset, laid):
-    """Something else touches the volume."""
-    call(0, 0, block=offset.to_bytes(3, "little") + laid)
-
+from writer import A, B, C, D, EMPTY, SIGLA, ZERO, Script, entry, fcb
 
 # Volume V: B 1,024, T 40, D 1, all E5H.
-for number in (1024, 40, 1):
-    script.extend(number.to_bytes(2, "little"))
-script.extend((40960).to_bytes(4, "little"))
-script.extend(bytes([0xE5]) * 40960)
-
-EMPTY = bytes_of(0xE5)
-ZERO = bytes_of(0)
-A, B, C, D = (bytes_of(ord(letter)) for letter in "ABCD")
+sigla = Script(1024, 40, 1)
+call, refused, touch = sigla.call, sigla.refused, sigla.touch
 
 # Before the first log-in the state is closed.
 refused(15, 32, fcb())
@@ -139,10 +84,4 @@ changed = {
     25: ZERO,
     319: EMPTY[:127] + b"Y",
 }
-calls = len(lines)
-lines += [f"RECORD {number} {record.hex().upper()}" for number, record in changed.items()]
-lines.append(f"END {calls}")
-
-crate = TOP / "crates" / "replay"
-(crate / "stdin").write_bytes(script)
-(crate / "stdout").write_text("".join(line + "\n" for line in lines))
+sigla.end(changed)
