@@ -14,7 +14,7 @@ pub fn decode(s: &[u8]) -> Drive
     ensures { λ r. ⌜ r ≡ decoded (now (s .entry)) ⌝ }
 {
     if !load::is_drive(s) {
-        return load::closed_drive();
+        return Drive::closed();
     }
     load::fields(s)
 }

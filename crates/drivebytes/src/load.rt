@@ -2,7 +2,6 @@
 ghost use mathlib.Core.Path.{_≡_};
 ghost use Prim.Native.Nat.{_+_, _*_, _<_};
 ghost use lib.ListN.{length};
-ghost use Rattle.filecalls.specs.State.{closed};
 ghost use Rattle.drivebytes.specs.Numbers.{number};
 ghost use Rattle.drivebytes.specs.Layout.{kindOf, fields, isDrive};
 use crate::DRIVE_BYTES;
@@ -55,32 +54,6 @@ pub(crate) fn is_drive(s: &[u8]) -> bool
     let b = eight_of(&s[16..24]);
     let kind = s[8];
     (s[7] <= 1) & (kind <= 2) & (spare == 0) & ((kind != 0) | ((a == 0) & (b == 0)))
-}
-
-// The closed state.
-pub(crate) fn closed_drive() -> Drive
-    ensures { λ r. ⌜ r ≡ closed ⌝ }
-{
-    let geometry = Geometry {
-        block: 0,
-        total: 0,
-        directory: 0,
-    };
-    let pattern = [0u8; 12];
-    let search = Search {
-        kind: Kept::Nothing,
-        user: 0,
-        last: 0,
-        pattern,
-    };
-    let held = [0u64; 4];
-    Drive {
-        geometry,
-        user: 0,
-        protected: false,
-        search,
-        held,
-    }
 }
 
 // The kind of search that byte 8 says.

@@ -5,7 +5,6 @@ ghost use Rattle.filecalls.specs.State.{closed, loggedIn};
 ghost use Rattle.filecalls.specs.LogIn.{logIn};
 use crate::Drive;
 use crate::Reply;
-use crate::state;
 use answers::Answer;
 use answers::Refusal;
 use volume::Geometry;
@@ -14,7 +13,7 @@ use volume::Geometry;
 fn logged_in(geometry: Geometry, held: [u64; 4]) -> Drive
     ensures { λ r. ⌜ r ≡ loggedIn geometry held ⌝ }
 {
-    let mut drive = state::closed_drive();
+    let mut drive = Drive::closed();
     drive.geometry = geometry;
     drive.held = held;
     drive
@@ -24,7 +23,7 @@ fn logged_in(geometry: Geometry, held: [u64; 4]) -> Drive
 fn closed_reply(answer: Answer) -> Reply
     ensures { λ r. ⌜ r ≡ record { answer = answer; drive = closed } ⌝ }
 {
-    let drive = state::closed_drive();
+    let drive = Drive::closed();
     Reply { answer, drive }
 }
 

@@ -36,33 +36,33 @@ fn is_kept(kind: Kept, user: u8, last: usize, pattern: &[u8], n: usize) -> bool
     }
 }
 
-// The closed state.
-pub(crate) fn closed_drive() -> Drive
-    ensures { λ r. ⌜ r ≡ closed ⌝ }
-{
-    let geometry = Geometry {
-        block: 0,
-        total: 0,
-        directory: 0,
-    };
-    let pattern = [0u8; 12];
-    let search = Search {
-        kind: Kept::Nothing,
-        user: 0,
-        last: 0,
-        pattern,
-    };
-    let held = [0u64; 4];
-    Drive {
-        geometry,
-        user: 0,
-        protected: false,
-        search,
-        held,
-    }
-}
-
 impl Drive {
+    // The closed state.
+    pub fn closed() -> Drive
+        ensures { λ r. ⌜ r ≡ closed ⌝ }
+    {
+        let geometry = Geometry {
+            block: 0,
+            total: 0,
+            directory: 0,
+        };
+        let pattern = [0u8; 12];
+        let search = Search {
+            kind: Kept::Nothing,
+            user: 0,
+            last: 0,
+            pattern,
+        };
+        let held = [0u64; 4];
+        Drive {
+            geometry,
+            user: 0,
+            protected: false,
+            search,
+            held,
+        }
+    }
+
     // Is the state one that counts as open?
     pub fn is_open(self) -> bool
         ensures { λ r. ⌜ r ≡ isOpen self ⌝ }

@@ -1,3 +1,4 @@
 -- What a call of the script does, and the whole transcript.
 pub mod Play
 pub mod Transcript
+pub mod Turns

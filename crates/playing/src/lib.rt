@@ -162,18 +162,3 @@ pub fn take_turn(
         Next::Call(head) => call_next(g, head, drive, s, volume, out, at),
     }
 }
-
-// The state before the first log-in: the one that a refused log-in hands back.
-pub fn closed_drive() -> Drive
-    ensures { λ r. ⌜ r ≡ closed ⌝ }
-{
-    let g = Geometry {
-        block: 0,
-        total: 0,
-        directory: 0,
-    };
-    let volume = [0u8; 1];
-    let r = Drive::log_in(g, &volume);
-    let drive = r.drive;
-    drive
-}

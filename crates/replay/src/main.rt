@@ -136,7 +136,7 @@ fn is_bad(next: Next) -> bool {
 fn start() -> Run
     ensures { λ r. ⌜ (r .from ≡ 0) × (r .to ≡ 0) ⌝ }
 {
-    let drive = playing::closed_drive();
+    let drive = Drive::closed();
     Run {
         drive,
         from: 0,

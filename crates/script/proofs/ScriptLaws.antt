@@ -29,7 +29,7 @@ module _ (s : List ℕ) {f b k : ℕ} {known : Bool}
   next-call p ep h = rw (ne-eqb (length s) 0 some, ← whole, not-false (leb (5 + b + k) (length s) && known) h, ep, ek, eb, ef)
 
 -- a call that stands next is the one whose head was read
-next-head : (s : List ℕ) (h : Head) → nextOf s ≡ Call h → headOf s ≡ h
+pub next-head : (s : List ℕ) (h : Head) → nextOf s ≡ Call h → headOf s ≡ h
 unfolding nextOf
 next-head s h e = go (eqb (length s) 0) (leb (callLength s) (length s) && isKnown (byte s 0)) e
   where

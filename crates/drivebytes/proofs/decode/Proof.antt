@@ -10,12 +10,12 @@ use Rattle.drivebytes.proofs.decode.Tie as tie
 is-drive-requires : tie.Need-is-drive-requires
 is-drive-requires c κs = search needs
 
-closed-drive-requires : tie.Need-closed-drive-requires
-closed-drive-requires c κs = search needs
+closed-requires : tie.Need-closed-requires
+closed-requires c κs = search needs
 
 returns : tie.Need-returns
 unfolding decoded
-returns c = rw (← c .before .before .is-drive .ensures, not-true (c .before .before .is-drive .result) (c .before .if1 .taken)) (c .closed-drive .ensures)
+returns c = rw (← c .before .before .is-drive .ensures, not-true (c .before .before .is-drive .result) (c .before .if1 .taken)) (c .closed .ensures)
 
 fields-requires : tie.Need-fields-requires
 fields-requires c κs = drive-whole _ (sym (c .before .is-drive .ensures) ∙ not-false (c .before .is-drive .result) (c .if1 .left))
@@ -26,4 +26,4 @@ returns-2 c = rw (← c .before .before .is-drive .ensures, not-false (c .before
 
 pub decode-spec : {M : Type 1} → statement M
 decode-spec =
-    tie.close (tie.spec is-drive-requires closed-drive-requires returns fields-requires returns-2)
+    tie.close (tie.spec is-drive-requires closed-requires returns fields-requires returns-2)

@@ -49,7 +49,7 @@ fn put_out_of_order(r: &mut Random, function: u8, control: &mut Vec<u8>) {
         0 => control.resize(r.pick(&[0, 1, 16, 33, 35, 37, 64, 255]), 0x20),
         1..=2 => control[DR] = r.pick(&[2, 3, 16, 62, 63, 64, 0x80, 0xBF, 255]),
         3..=4 => put_name_out_of_order(r, function, control),
-        5 => control[EX] = r.pick(&[1, 31, 32, 33, 63, 64, 0x80, 255]),
+        5 => control[EX] = r.pick(&[1, 31, 32, 33, 63, 64, 0x80, 0xBF, 255]),
         6 => control[S2] = r.pick(&[15, 16, 17, 32, 255]),
         7 => control[CR] = r.pick(&[127, 128, 129, 130, 255]),
         8 => {
@@ -63,11 +63,9 @@ fn put_out_of_order(r: &mut Random, function: u8, control: &mut Vec<u8>) {
 }
 
 fn put_name_out_of_order(r: &mut Random, function: u8, control: &mut [u8]) {
-    control[1 + r.below(11)] = r.pick(&[0, 0x1F, 0x20, 0x3F, 0x3F, 0x3F, 0x7F, 0x9F, 0xA0, 0xBF, 0xFF]);
+    let name = if function == RENAME && r.percent(50) { 17 } else { 1 };
+    control[name + r.below(11)] = r.pick(&[0, 0x1F, 0x20, 0x3F, 0x3F, 0x3F, 0x7F, 0x9F, 0xA0, 0xBF, 0xFF]);
     if r.percent(30) {
-        control[1] = r.pick(&[0x20, 0xA0, 0x7F, 0x3F]);
-    }
-    if function == RENAME && r.percent(50) {
-        control[17 + r.below(11)] = r.pick(&[0, 0x1F, 0x3F, 0x7F, 0xBF]);
+        control[name] = r.pick(&[0x20, 0xA0, 0x7F, 0x3F]);
     }
 }

@@ -172,6 +172,9 @@ fn next_call(
 fn reopening_call(r: &mut Random, player: &Player, chooser: &mut Chooser) -> Call {
     let Player { geometry, volume, .. } = player;
     let right = geometry.within_rules() && volume.len() == geometry.volume_bytes();
+    if !right && r.percent(15) {
+        return touch_call(r, player);
+    }
     if r.percent(25) || (!right && r.percent(60)) {
         return chooser.next(r, &View { geometry: seen(geometry), volume, user: 0, altered: None });
     }
@@ -207,12 +210,12 @@ fn touch_call(r: &mut Random, player: &Player) -> Call {
             Call { function: TOUCH, parameter: 0, control, buffer: Vec::new() }
         }
         // At the end and beyond it.
-        3..=7 => {
+        3..=12 => {
             let offset = player.volume.len() + r.below(40);
             let bytes = r.bytes_of(&[0, 1, 30, 100, 252]);
             Call::touch(offset.saturating_sub(20), &bytes)
         }
-        8 => Call::touch(r.pick(&[0xFF_FFFF, 0x10_0000, 0xFF_FF00]), &[1, 2, 3]),
+        13 => Call::touch(r.pick(&[0xFF_FFFF, 0x10_0000, 0xFF_FF00]), &[1, 2, 3]),
         _ => {
             let (offset, bytes) = alteration(r, &seen(&player.geometry), &player.volume);
             Call::touch(offset, &bytes)

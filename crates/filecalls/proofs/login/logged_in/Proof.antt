@@ -3,11 +3,11 @@ use borrow.Author.Needs.{needs}
 use Rattle.filecalls.proofs.login.logged_in.Statement.{statement}
 use Rattle.filecalls.proofs.login.logged_in.Tie as tie
 
-closed-drive-requires : tie.Need-closed-drive-requires
-closed-drive-requires c κs = search needs
+closed-requires : tie.Need-closed-requires
+closed-requires c κs = search needs
 
 returns : tie.Need-returns
-returns c = rw (c .closed-drive .ensures)
+returns c = rw (c .closed .ensures)
 
 pub logged-in-spec : {M : Type 1} → statement M
-logged-in-spec = tie.close (tie.spec closed-drive-requires returns)
+logged-in-spec = tie.close (tie.spec closed-requires returns)
