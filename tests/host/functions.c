@@ -310,6 +310,34 @@ static void naming(void)
     refuses("22 make with ex 1: 40", 22, 40);
 }
 
+// Renames from one name to another; no case of its own.
+static int renamed(const char *old, const char *new)
+{
+    block_for(old);
+    memcpy(now.fcb + 17, new, 11);
+    return call(23, 0) == 0;
+}
+
+static void by_a_third_name(void)
+{
+    static uint8_t direct[VOLUME_MOST], drive[64];
+    const char *temporary = "DRAFT   $$$", *archived = "LESARTENBAK";
+    some_files();
+    now.volume[ENTRY + 10] |= 0x80;
+    int good = renamed(DRAFT, archived);
+    memcpy(direct, now.volume, VOLUME_MOST);
+    memcpy(drive, now.drive, 64);
+    some_files();
+    now.volume[ENTRY + 10] |= 0x80;
+    as_it_stands();
+    good = good && renamed(DRAFT, temporary) && renamed(temporary, archived);
+    good = good && memcmp(direct, now.volume, VOLUME_MOST) == 0 && memcmp(drive, now.drive, 64) == 0;
+    verdict("23 by way of a third name: the same volume and drive as at once", good);
+    good = renamed(archived, temporary) && renamed(temporary, DRAFT);
+    memcpy(want.fcb, now.fcb, 36);
+    verdict("23 there and back: every old byte", good && same_bytes());
+}
+
 static void small(void)
 {
     some_files();
@@ -360,5 +388,6 @@ void each_function(void)
     uneven_file();
     altered();
     naming();
+    by_a_third_name();
     small();
 }

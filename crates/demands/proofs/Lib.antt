@@ -28,3 +28,9 @@ pub mod Agree
 pub mod Demand3Holds
 pub mod AlwaysHolds
 pub mod TieHolds
+pub mod RenamingParts
+pub mod RenamingSweeps
+pub mod RenamingEntries
+pub mod RenamingCalls
+pub mod RenamingTwice
+pub mod RenamingHolds

@@ -29,24 +29,24 @@ pub record Renames (to : List ℕ) (e e′ : Entry) : Type 0 where
 
 -- ---- bytes 9 and 10 with other top bits
 module _ (e : Entry) (e32 : length e ≡ 32) (x y : ℕ) where
-  marks-length : length (set (set e 9 x) 10 y) ≡ 32
+  pub marks-length : length (set (set e 9 x) 10 y) ≡ 32
   marks-length = length-set (set e 9 x) 10 y ∙ length-set e 9 x ∙ e32
 
-  marks-other : (k : ℕ) → k ≢ 9 → k ≢ 10 → byte (set (set e 9 x) 10 y) k ≡ byte e k
+  pub marks-other : (k : ℕ) → k ≢ 9 → k ≢ 10 → byte (set (set e 9 x) 10 y) k ≡ byte e k
   marks-other k a b = getD-set-other (set e 9 x) 10 k y 0 b ∙ getD-set-other e 9 k x 0 a
+
+  pub marks-nine : byte (set (set e 9 x) 10 y) 9 ≡ x
+  marks-nine = getD-set-other (set e 9 x) 10 9 y 0 (omega arith) ∙ getD-set-same e 9 x 0 (omega arith)
+
+  pub marks-ten : byte (set (set e 9 x) 10 y) 10 ≡ y
+  marks-ten = getD-set-same (set e 9 x) 10 y 0 (omega (arith, length-set e 9 x))
 
   marks-low : x % 128 ≡ byte e 9 % 128 → y % 128 ≡ byte e 10 % 128 → (k : ℕ) → byte (set (set e 9 x) 10 y) k % 128 ≡ byte e k % 128
   marks-low p q k = go (ℕ-discrete k 9) (ℕ-discrete k 10)
     where
-      nine : byte (set (set e 9 x) 10 y) 9 ≡ x
-      nine = getD-set-other (set e 9 x) 10 9 y 0 (omega arith) ∙ getD-set-same e 9 x 0 (omega arith)
-
-      ten : byte (set (set e 9 x) 10 y) 10 ≡ y
-      ten = getD-set-same (set e 9 x) 10 y 0 (omega (arith, length-set e 9 x))
-
       go : Dec (k ≡ 9) → Dec (k ≡ 10) → byte (set (set e 9 x) 10 y) k % 128 ≡ byte e k % 128
-      go (yes z) d = rw (z, nine) p
-      go (no z) (yes w) = rw (w, ten) q
+      go (yes z) d = rw (z, marks-nine) p
+      go (no z) (yes w) = rw (w, marks-ten) q
       go (no z) (no w) = rw (marks-other k z w)
 
   marks-name : x % 128 ≡ byte e 9 % 128 → y % 128 ≡ byte e 10 % 128 → nameOf (set (set e 9 x) 10 y) ≡ nameOf e
@@ -80,7 +80,7 @@ attributes-renames e new e32 =
 
 -- ---- another name laid whole, and its marks
 module _ (e : Entry) (e32 : length e ≡ 32) (s : List ℕ) (s11 : length s ≡ 11) where
-  laid-length : length (put e 1 11 s) ≡ 32
+  pub laid-length : length (put e 1 11 s) ≡ 32
   laid-length = length-put e 1 11 (omega arith) s s11 ∙ e32
 
   laid-other : (k : ℕ) → (k < 1) ⊎ (12 ≤ k) → byte (put e 1 11 s) k ≡ byte e k
@@ -94,7 +94,7 @@ module _ (e : Entry) (e32 : length e ≡ 32) (s : List ℕ) (s11 : length s ≡ 
       apart (inl h) = inl (omega arith)
       apart (inr h) = inr (omega arith)
 
-  laid-byte : (k : ℕ) → k < 11 → byte (put e 1 11 s) (1 + k) ≡ byte s k
+  pub laid-byte : (k : ℕ) → k < 11 → byte (put e 1 11 s) (1 + k) ≡ byte s k
   laid-byte k h = sym (byte-part (put e 1 11 s) 1 11 k h) ∙ ap (λ (l : List ℕ). byte l k) (part-put e 1 11 (omega arith) s s11)
 
   laid-name : nameOf (put e 1 11 s) ≡ strip s

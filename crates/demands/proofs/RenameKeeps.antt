@@ -51,11 +51,11 @@ ready d v f h =
     let exists = unmet Exists _ _ refl (read-only .1) in
     record { block36 = eqb-true (length f) 36 (not-false _ (block .0)); good-name = not-false _ (new .0); unused = ltb-false _ _ (exists .0) }
 
-rename-hit : (u : ℕ) (name new : List ℕ) (e : Entry) → ofFile u name e ≡ true → changed Rename u name new e ≡ renamed e new
+pub rename-hit : (u : ℕ) (name new : List ℕ) (e : Entry) → ofFile u name e ≡ true → changed Rename u name new e ≡ renamed e new
 unfolding changed
 rename-hit u name new e q = rw q
 
-rename-miss : (u : ℕ) (name new : List ℕ) (e : Entry) → ofFile u name e ≡ false → changed Rename u name new e ≡ e
+pub rename-miss : (u : ℕ) (name new : List ℕ) (e : Entry) → ofFile u name e ≡ false → changed Rename u name new e ≡ e
 unfolding changed
 rename-miss u name new e q = rw q
 

@@ -7,3 +7,5 @@ pub mod Demand3
 pub mod Always
 pub mod Tie
 pub mod WrongWays
+pub mod Renaming
+pub mod RenamingOnV

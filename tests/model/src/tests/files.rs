@@ -175,6 +175,36 @@ fn rename_keeps_attribute_bits() {
     assert_eq!(&b.entry(1).bytes[1..12], b"NEWNAME1NEW");
 }
 
+/// SIGLA.TXT, with two entries and the system bit, beside another user's; then renamed from name to name, always by 0.
+fn renamed(names: &[&str]) -> (Vec<u8>, Vec<u8>) {
+    let mut b = Bench::open(1024, 8, 1, Way::Plain);
+    b.on(MAKE, "SIGLA.TXT");
+    b.write("SIGLA.TXT", 0, 1);
+    b.write("SIGLA.TXT", 128, 2);
+    b.set_byte(1, 10, b'X' | 0x80);
+    b.call_with(USER, 3);
+    b.on(MAKE, "SIGLA.TXT");
+    b.call_with(USER, 0);
+    let before = b.volume.clone();
+    for pair in names.windows(2) {
+        b.control = control_for(pair[0]);
+        b.control[17..28].copy_from_slice(&name(pair[1]));
+        assert_eq!(b.call(RENAME), 0);
+    }
+    (before, b.volume)
+}
+
+/// "Renaming first to second and second to third gives the same bytes as first to third, and renaming there and back gives
+/// the old bytes."
+#[test]
+fn renaming_by_a_third_name_leaves_no_trace() {
+    let (old, by_third) = renamed(&["SIGLA.TXT", "SIGLA.$$$", "LESARTEN.BAK"]);
+    let (_, direct) = renamed(&["SIGLA.TXT", "LESARTEN.BAK"]);
+    assert!(by_third == direct && direct != old);
+    let (old, back) = renamed(&["SIGLA.TXT", "SIGLA.$$$", "SIGLA.TXT"]);
+    assert!(back == old);
+}
+
 #[test]
 fn size_takes_the_largest() {
     let mut b = bench();
