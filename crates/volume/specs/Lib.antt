@@ -1,5 +1,6 @@
--- "Volume and entry" of 01, and what inspection says of names.
+-- "Volume and entry" of 01, the block shift of the table in 000, and what inspection says of names.
 pub mod Geometry
+pub mod Shift
 pub mod Name
 pub mod Entry
 pub mod Directory

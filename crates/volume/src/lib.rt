@@ -4,6 +4,7 @@ ghost use mathlib.Core.Bool.{Bool, true, false};
 ghost use Prim.Native.Nat.{ℕ, _+_, _*_, _/_, _%_, _≤_, _<_};
 ghost use Rattle.volume.specs.Entry.{places};
 ghost use Rattle.volume.specs.Geometry.{lawful, bytes, records, extents, start, slots, slotStart, recordStart, groupOf, placeOf, inside};
+ghost use Rattle.volume.specs.Shift.{bsh, blm};
 
 pub mod directory;
 pub mod entry;
@@ -63,6 +64,32 @@ impl Geometry {
         self.block / Geometry::RECORD
     }
 
+    // BSH, the block shift of Digital Research's table (000, Tabelle 13): R is 1 << BSH.
+    pub fn bsh(self) -> usize
+        ensures { λ r. ⌜ (r ≡ bsh self) × (r ≤ 5) ⌝ }
+    {
+        let bls = self.block;
+        match bls {
+            1024 => 3,
+            2048 => 4,
+            4096 => 5,
+            _ => 0,
+        }
+    }
+
+    // BLM, the block mask of the same table: R - 1.
+    pub fn blm(self) -> usize
+        ensures { λ r. ⌜ r ≡ blm self ⌝ }
+    {
+        let bls = self.block;
+        match bls {
+            1024 => 7,
+            2048 => 15,
+            4096 => 31,
+            _ => 0,
+        }
+    }
+
     // X: extents an entry.
     pub fn extents(self) -> usize
         ensures { λ r. ⌜ r ≡ extents self ⌝ }
@@ -107,8 +134,7 @@ impl Geometry {
         requires { ⌜ (lawful self ≡ true) × (b < self .total) ⌝ }
         ensures { λ r. ⌜ (r ≡ recordStart self b n) × (r + 128 ≤ bytes self) ⌝ }
     {
-        let records = self.records();
-        self.start(b * records + n % records)
+        self.start((b << self.bsh()) + (n & self.blm()))
     }
 
     // The group of extent x.
@@ -131,7 +157,7 @@ impl Geometry {
         requires { ⌜ lawful self ≡ true ⌝ }
         ensures { λ r. ⌜ (r ≡ placeOf self n) × (r < places self) ⌝ }
     {
-        n % (128 * self.extents()) / self.records()
+        (n % (128 * self.extents())) >> self.bsh()
     }
 
     // Is the block one from D to T-1?

@@ -1,9 +1,10 @@
--- The place is the definition's own, and the places of an entry hold all records of its extents.
+-- The place is the definition's own, its quotient by R a shift, and the places of an entry hold all records of its extents.
 use mathlib.Core.Path.{refl}
 use native.Mathlib.Omega.{arith}
 use borrow.Author.Needs.{needs}
 use Rattle.volume.specs.Geometry.{placeOf}
 use Rattle.volume.proofs.GeometryLaws.{bounds, place-lt}
+use Rattle.volume.proofs.ShiftLaws.{block-shift}
 use Rattle.volume.proofs.Geometry.place.Statement.{statement}
 use Rattle.volume.proofs.Geometry.place.Tie as tie
 
@@ -16,15 +17,19 @@ mul-result c = search needs
 rem-result : tie.Need-rem-result
 rem-result c = omega (arith, bounds _ (c .before .pre))
 
-records-requires : tie.Need-records-requires
-records-requires c κs = search needs
+bsh-requires : tie.Need-bsh-requires
+bsh-requires c κs = search needs
 
-div-result : tie.Need-div-result
-div-result c = omega (arith, bounds _ (c .before .before .pre))
+shr-result : tie.Need-shr-result
+shr-result c = search needs
 
 returns : tie.Need-returns
 unfolding placeOf
-returns c = rw (c .before .extents .ensures, c .records .ensures) (refl, place-lt _ (c .before .before .pre) (c .before .before .args .n))
+returns c =
+    let a = c .before .before .args in
+    let good = c .before .before .pre in
+    rw (c .before .extents .ensures, c .bsh .ensures .0, block-shift (a .self) good .quotient) (refl, place-lt _ good (a .n))
 
 pub place-spec : {M : Type 1} → statement M
-place-spec = tie.close (tie.spec extents-requires mul-result rem-result records-requires div-result returns)
+place-spec =
+    tie.close (tie.spec extents-requires mul-result rem-result bsh-requires shr-result returns)

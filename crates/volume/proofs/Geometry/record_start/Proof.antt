@@ -1,33 +1,50 @@
--- Record n in block b is a logical record of the volume.
-use Prim.Native.Nat.{_+_, _*_, _%_, _<_}
+-- The block shifted and the record masked are the product by R and the remainder, and record n in block b is a logical
+-- record of the volume.
+use mathlib.Core.Path.{_≡_}
+use Prim.Native.Nat.{_+_, _*_, _%_, _^_, _<_}
 use native.Mathlib.Omega.{arith}
 use borrow.Author.Needs.{needs}
+use lib.Bits.{bitAnd}
 use Rattle.volume.specs.Geometry.{records, recordStart}
 use Rattle.volume.proofs.GeometryLaws.{bounds, record-below}
+use Rattle.volume.proofs.ShiftLaws.{block-shift}
 use Rattle.volume.proofs.Geometry.record_start.Statement.{statement}
 use Rattle.volume.proofs.Geometry.record_start.Tie as tie
 
-records-requires : tie.Need-records-requires
-records-requires c κs = search needs
+bsh-requires : tie.Need-bsh-requires
+bsh-requires c κs = search needs
 
-inside : (c : tie.After-records) → c .before .args .b * records (c .before .args .self) + c .before .args .n % records (c .before .args .self) < c .before .args .self .total * records (c .before .args .self)
-inside c = record-below _ (c .before .pre .0) (c .before .args .b) (c .before .args .n) (c .before .pre .1)
+shl-start : tie.Need-shl-start
+shl-start c = search needs
 
-mul-start : tie.Need-mul-start
-mul-start c = rw (c .records .ensures) (omega (arith, bounds _ (c .before .pre .0), inside c))
+blm-requires : tie.Need-blm-requires
+blm-requires c κs = search needs
 
-rem-start : tie.Need-rem-start
-rem-start c = omega (arith, bounds _ (c .before .pre .0))
+inside : (c : tie.After-blm) → c .before .before .args .b * records (c .before .before .args .self) + c .before .before .args .n % records (c .before .before .args .self) < c .before .before .args .self .total * records (c .before .before .args .self)
+inside c =
+    let a = c .before .before .args in
+    let p = c .before .before .pre in
+    record-below _ (p .0) (a .b) (a .n) (p .1)
+
+same-record : (c : tie.After-blm)
+    → (c .before .before .args .b * 2 ^ c .before .bsh .result) % 2 ^ 64 + bitAnd (c .before .before .args .n) (c .blm .result)
+    ≡ c .before .before .args .b * records (c .before .before .args .self) + c .before .before .args .n % records (c .before .before .args .self)
+same-record c =
+    let a = c .before .before .args in
+    let good = c .before .before .pre .0 in
+    let s = block-shift (a .self) good in
+    rw (c .before .bsh .ensures .0, c .blm .ensures, s .product (a .b) (omega (arith, bounds _ good, inside c)), s .remainder)
 
 add-start : tie.Need-add-start
-add-start c = rw (c .records .ensures) (omega (arith, bounds _ (c .before .pre .0), inside c))
+add-start c = rw (same-record c) (omega (arith, bounds _ (c .before .before .pre .0), inside c))
 
 start-requires : tie.Need-start-requires
-start-requires c κs = (c .before .pre .0, rw (c .records .ensures) (inside c))
+start-requires c κs = (c .before .before .pre .0, rw (same-record c) (inside c))
 
 returns : tie.Need-returns
 unfolding recordStart
-returns c = (rw (c .before .records .ensures) at (c .start .ensures .0), c .start .ensures .1)
+returns c = (rw (same-record (c .before)) at (c .start .ensures .0), c .start .ensures .1)
 
 pub record-start-spec : {M : Type 1} → statement M
-record-start-spec = tie.close (tie.spec records-requires mul-start rem-start add-start start-requires returns)
+record-start-spec =
+    tie.close (tie.spec bsh-requires shl-start blm-requires add-start start-requires returns)
