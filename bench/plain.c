@@ -35,6 +35,7 @@ enum {
     BAD_DR = 42,
     EXISTS = 43,
     BAD_USER = 44,
+    UNTYPEABLE = 45,
     NO_MATCH = 255
 };
 
@@ -110,6 +111,26 @@ static bool good_name(const uint8_t *name, bool pattern)
             return false;
     }
     return (name[0] & 0x7F) != 0x20;
+}
+
+// Blanks at the end of a field alone.
+static bool blanks_last(const uint8_t *field, unsigned bytes)
+{
+    for (unsigned k = 1; k < bytes; k++)
+        if ((field[k - 1] & 0x7F) == ' ' && (field[k] & 0x7F) != ' ')
+            return false;
+    return true;
+}
+
+// No small letter, none of < > . , ; : = * [ ], and no blank before a later non-blank within name or within type.
+static bool typeable_name(const uint8_t *name)
+{
+    for (unsigned k = 0; k < NAME; k++) {
+        uint8_t c = name[k] & 0x7F;
+        if ((c >= 'a' && c <= 'z') || memchr("<>.,;:=*[]", c, 10) != NULL)
+            return false;
+    }
+    return blanks_last(name, 8) && blanks_last(name + 8, 3);
 }
 
 static void copy_name(uint8_t *to, const uint8_t *name)
@@ -509,6 +530,8 @@ static uint32_t make_file(const struct work *w)
     uint32_t why = test_named(w, VOLUME_LENT | FCB_LENT, false);
     if (why != 0)
         return why;
+    if (!typeable_name(w->fcb + 1))
+        return UNTYPEABLE;
     if (w->fcb[EX] != 0)
         return BAD_POSITION;
     if (w->drive[D_PROTECTED])
@@ -539,6 +562,8 @@ static uint32_t rename_file(const struct work *w)
     const uint8_t *old = w->fcb + 1, *new = w->fcb + NEW_NAME;
     if (!good_name(new, false))
         return BAD_NAME;
+    if (!typeable_name(new))
+        return UNTYPEABLE;
     if (w->drive[D_PROTECTED])
         return PROTECTED;
     uint32_t first = w->g.slots, slot;

@@ -62,6 +62,7 @@ enum {
     CHURAWEL_DRIVE_CODE = 42,       /* dr not 0 or 1 (search: 63 also) */
     CHURAWEL_USER_CODE = 44,        /* user 16..254 */
     CHURAWEL_NAME = 39,             /* a name outside the byte rule */
+    CHURAWEL_UNTYPEABLE = 45,       /* make, rename: a (new) name that can't be typed */
     CHURAWEL_POSITION = 40,         /* ex, s2 or cr too large where used */
     CHURAWEL_BEYOND = 6,            /* random: r2 not 0; sequential reads and writes: position 65,536 */
     CHURAWEL_BAD_SLOT = 36,         /* log-in only: a slot is bad; the lowest such slot is the value */

@@ -81,5 +81,6 @@ void looking_right(void);
 void each_function(void);
 void lent_and_log_in(void);
 void malformed_drives(void);
+void typing(void);
 
 #endif

@@ -11,5 +11,6 @@ int main(void)
     each_function();
     lent_and_log_in();
     malformed_drives();
+    typing();
     return summary() == 0 ? 0 : 1;
 }

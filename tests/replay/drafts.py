@@ -2,15 +2,10 @@
 
 The file has two entries and the system bit, which stay; a second user has a file of the same name.
 """
-from writer import A, B, C, EMPTY, SIGLA, Script, entry, fcb
+from writer import A, B, C, EMPTY, SIGLA, Script, entry, fcb, renaming
 
 TEMPORARY = b"SIGLA   $$$"
 ARCHIVED = b"LESARTENBAK"
-
-
-def renaming(old, new):
-    """The control block that asks for it."""
-    return fcb(name=old)[:17] + new + bytes(8)
 
 
 def run(name, *renames):

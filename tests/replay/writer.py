@@ -20,6 +20,11 @@ def fcb(name=SIGLA, dr=0, ex=0, s1=0, s2=0, rc=0, blocks=(), cr=0, r=0):
     return bytes([dr]) + name + bytes([ex, s1, s2, rc]) + places + bytes([cr]) + r.to_bytes(3, "little")
 
 
+def renaming(old, new):
+    """A control block of a rename: old name in 1..11, new in 17..27."""
+    return fcb(name=old)[:17] + new + bytes(8)
+
+
 def entry(name, ex, rc, blocks):
     """A directory entry of user 0."""
     return bytes([0]) + name + bytes([ex, 0, 0, rc]) + bytes(blocks) + bytes(16 - len(blocks))
@@ -32,12 +37,13 @@ def shown(lent):
 class Script:
     """What replay reads, and what it must print."""
 
-    def __init__(self, block_bytes, blocks, directory_blocks):
-        """A volume of this geometry, all E5H."""
+    def __init__(self, block_bytes, blocks, directory_blocks, first=b""):
+        """A volume of this geometry, all E5H but for the bytes that stand first."""
         self.bytes = bytearray()
         for number in (block_bytes, blocks, directory_blocks):
             self.bytes += number.to_bytes(2, "little")
-        self.bytes += (block_bytes * blocks).to_bytes(4, "little") + bytes([0xE5]) * (block_bytes * blocks)
+        length = block_bytes * blocks
+        self.bytes += length.to_bytes(4, "little") + first + bytes([0xE5]) * (length - len(first))
         self.lines = []
 
     def call(self, function, answer, *, parameter=0, value=0, block=b"", buffer=b"", block_after=None, buffer_after=None):

@@ -4,7 +4,7 @@ use mathlib.Core.List.{List, [], _∷_}
 use Prim.Native.Nat.{ℕ}
 use lib.Dec.{eqb}
 use Rattle.answers.specs.declared.Refusal.{Refusal}
-use Rattle.answers.specs.declared.Refusal.the-variants.{None, NotServed, Closed, VolumeLength, BlockLength, BufferLength, DriveCode, UserCode, Name, Position, Beyond, BadSlot, Protected, NoMatch, NoFile, ReadOnly, Exists, NoGroup, Absent, Outside, NoSlot, NoRoom, NoBlock}
+use Rattle.answers.specs.declared.Refusal.the-variants.{None, NotServed, Closed, VolumeLength, BlockLength, BufferLength, DriveCode, UserCode, Name, Untypeable, Position, Beyond, BadSlot, Protected, NoMatch, NoFile, ReadOnly, Exists, NoGroup, Absent, Outside, NoSlot, NoRoom, NoBlock}
 
 abbrev pub refusalNumber : Refusal → ℕ
 refusalNumber None = 0
@@ -22,6 +22,8 @@ refusalNumber DriveCode = 42
 refusalNumber UserCode = 44
 -- a name outside the inspection's byte rule
 refusalNumber Name = 39
+-- make, rename: a (new) name that can't be typed
+refusalNumber Untypeable = 45
 -- ex, s2 or cr too large where used
 refusalNumber Position = 40
 -- random: r2 not 0; sequential reads and writes: position 65,536

@@ -19,7 +19,7 @@ use Rattle.volume.specs.Record.{recordAt}
 use Rattle.volume.proofs.FindLaws.{found-fits, not-found}
 use Rattle.volume.proofs.GeometryLaws.{bounds}
 use Rattle.volume.proofs.DirectoryLaws.{putSlot-length, slot-putSlot, slot-putSlot-other, record-putSlot}
-use Rattle.answers.specs.declared.Refusal.the-variants.{Closed, VolumeLength, BlockLength, DriveCode, Name, Position, Protected, Exists, NoRoom}
+use Rattle.answers.specs.declared.Refusal.the-variants.{Closed, VolumeLength, BlockLength, DriveCode, Name, Untypeable, Position, Protected, Exists, NoRoom}
 use Rattle.answers.specs.Refusal.{isNone, firstMet}
 use Rattle.answers.proofs.Ladder.{unmet}
 use Rattle.naming.specs.Make.{makeTests, freshEntry}
@@ -50,7 +50,8 @@ ready d v f h =
     let block = unmet BlockLength _ _ refl (volume .1) in
     let drive = unmet DriveCode _ _ refl (block .1) in
     let name = unmet Name _ _ refl (drive .1) in
-    let position = unmet Position _ _ refl (name .1) in
+    let typing = unmet Untypeable _ _ refl (name .1) in
+    let position = unmet Position _ _ refl (typing .1) in
     let protection = unmet Protected _ _ refl (position .1) in
     let exists = unmet Exists _ _ refl (protection .1) in
     let full = unmet NoRoom _ _ refl (exists .1) in

@@ -16,7 +16,7 @@ use Rattle.volume.specs.Entry.{Entry, ofFile}
 use Rattle.volume.specs.Directory.{slotAt, findSlot}
 use Rattle.volume.proofs.FindLaws.{not-found}
 use Rattle.control.specs.Block.{newName}
-use Rattle.answers.specs.declared.Refusal.the-variants.{Closed, VolumeLength, BlockLength, DriveCode, Name, Protected, NoMatch, ReadOnly, Exists}
+use Rattle.answers.specs.declared.Refusal.the-variants.{Closed, VolumeLength, BlockLength, DriveCode, Name, Untypeable, Protected, NoMatch, ReadOnly, Exists}
 use Rattle.answers.specs.Refusal.{isNone, firstMet}
 use Rattle.answers.proofs.Ladder.{unmet}
 use Rattle.naming.specs.declared.Edit.the-variants.{Rename}
@@ -45,7 +45,8 @@ ready d v f h =
     let drive = unmet DriveCode _ _ refl (block .1) in
     let name = unmet Name _ _ refl (drive .1) in
     let new = unmet Name _ _ refl (name .1) in
-    let protection = unmet Protected _ _ refl (new .1) in
+    let typing = unmet Untypeable _ _ refl (new .1) in
+    let protection = unmet Protected _ _ refl (typing .1) in
     let match = unmet NoMatch _ _ refl (protection .1) in
     let read-only = unmet ReadOnly _ _ refl (match .1) in
     let exists = unmet Exists _ _ refl (read-only .1) in

@@ -13,13 +13,14 @@ use Rattle.volume.specs.declared.Wanted.{Wanted}
 use Rattle.volume.specs.declared.Wanted.the-variants.{File, ReadOnlyFile}
 use Rattle.volume.specs.Geometry.{lawful, bytes, slots}
 use Rattle.volume.specs.Name.{strip, nameAt, same, goodName}
+use Rattle.volume.specs.Typing.{typeable}
 use Rattle.volume.specs.Entry.{Entry, readOnly, ofFile}
 use Rattle.volume.specs.Directory.{slotAt, slotFits, findSlot, mapSlots}
 use Rattle.volume.proofs.NameLaws.{same-refl, byte-strip}
 use Rattle.volume.proofs.FindLaws.{found-fits, not-found, find-low}
 use Rattle.volume.proofs.DirectoryLaws.{slot-length}
 use Rattle.volume.proofs.SweepLaws.{mapSlots-length, mapSlots-slot}
-use Rattle.answers.specs.declared.Refusal.the-variants.{Closed, VolumeLength, BlockLength, DriveCode, Name, Protected, NoMatch, ReadOnly, Exists}
+use Rattle.answers.specs.declared.Refusal.the-variants.{Closed, VolumeLength, BlockLength, DriveCode, Name, Untypeable, Protected, NoMatch, ReadOnly, Exists}
 use Rattle.answers.specs.declared.Answer.the-variants.{Done}
 use Rattle.naming.specs.declared.Edit.the-variants.{Rename}
 use Rattle.naming.specs.Sweep.{renamed, changed}
@@ -61,6 +62,7 @@ pub record Granted (d : Drive) (v f old new : List ℕ) : Type 0 where
   pub not-protected : d .protected ≡ false
   pub old-permitted : goodName false old ≡ true
   pub new-permitted : goodName false new ≡ true
+  pub new-typeable : typeable new ≡ true
   pub old-exists : exists d v old ≡ true
   pub not-read-only : anyReadOnly d v old ≡ false
   pub new-free : exists d v new ≡ false
@@ -84,6 +86,7 @@ module _ {d : Drive} {v f old new : List ℕ} (r : Granted d v f old new) where
       ∙ goes-by DriveCode _ _ _ (le-ltb 1 (byte f 0) (r .asks .drive-code))
       ∙ goes-by Name _ _ _ (ap not (r .old-permitted))
       ∙ goes-by Name _ _ _ (ap not (r .new-permitted))
+      ∙ goes-by Untypeable _ _ _ (ap not (r .new-typeable))
       ∙ goes-by Protected _ _ _ (r .not-protected)
       ∙ goes-by NoMatch _ _ _ (lt-leb _ _ found)
       ∙ goes-by ReadOnly _ _ _ (r .not-read-only)
@@ -177,14 +180,15 @@ module _ {d : Drive} {v f old new : List ℕ} (r : Granted d v f old new) where
       at j j< false other = rw (after-slot j j<, rename-miss (d .user) old (part f 17 11) (slotAt (d .geometry) v j) other) (free j j< other)
 
   -- ---- so a rename from the new name to one that is then free is granted
-  pub granted-next : {h last : List ℕ} → Asks h new last → goodName false last ≡ true → exists d (after d v f old) last ≡ false → Granted d (after d v f old) h new last
-  granted-next asks′ permitted free = record {
+  pub granted-next : {h last : List ℕ} → Asks h new last → goodName false last ≡ true → typeable last ≡ true → exists d (after d v f old) last ≡ false → Granted d (after d v f old) h new last
+  granted-next asks′ permitted typed free = record {
     asks = asks′;
     state-open = r .state-open;
     volume-length = after-length;
     not-protected = r .not-protected;
     old-permitted = r .new-permitted;
     new-permitted = permitted;
+    new-typeable = typed;
     old-exists = new-exists;
     not-read-only = new-not-read-only;
     new-free = free;

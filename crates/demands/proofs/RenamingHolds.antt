@@ -9,6 +9,7 @@ use lib.ListN.{length}
 use Rattle.lists.specs.Bytes.{part}
 use Rattle.volume.specs.Geometry.{slots}
 use Rattle.volume.specs.Name.{same, goodName}
+use Rattle.volume.specs.Typing.{typeable}
 use Rattle.volume.specs.Entry.{Entry, ofFile}
 use Rattle.volume.specs.Directory.{slotAt}
 use Rattle.volume.proofs.NameLaws.{same-refl, same-true}
@@ -20,7 +21,7 @@ use Rattle.filecalls.specs.declared.Drive.{Drive}
 use Rattle.filecalls.specs.Outcome.{Outcome}
 use Rattle.filecalls.proofs.StateLaws.{is-open}
 use Rattle.demands.specs.Renaming.{exists, Drafts, PassesInspection, Asks, SameAttributes, ByThird, ThereAndBack, NoTraces, ByThirdAlways}
-use Rattle.demands.specs.RenamingOnV.{stateV, volumeV, draft, temporary, finished, there, on, direct, back, inspected, drafts, asks-there, asks-on, asks-direct, asks-back}
+use Rattle.demands.specs.RenamingOnV.{stateV, volumeV, draft, temporary, finished, there, on, direct, back, inspected, drafts, draft-typeable, asks-there, asks-on, asks-direct, asks-back}
 use Rattle.demands.proofs.Files.{is-of, file-live}
 use Rattle.demands.proofs.RenameKeeps.{rename-hit, rename-miss}
 use Rattle.demands.proofs.RenamingSweeps.{mapSlots-same, mapSlots-leaves}
@@ -48,33 +49,34 @@ attributes-kept u old new n11 e e32 = go (ofFile u old e) refl
 
 -- ---- what is asked grants the renames
 module _ {d : Drive} {v first second third : List ℕ} (given : Drafts d v first second third) where
-  from-first : {f new : List ℕ} → Asks f first new → goodName false new ≡ true → exists d v new ≡ false → Granted d v f first new
-  from-first asks permitted free = record {
+  from-first : {f new : List ℕ} → Asks f first new → goodName false new ≡ true → typeable new ≡ true → exists d v new ≡ false → Granted d v f first new
+  from-first asks permitted typed free = record {
     asks = asks;
     state-open = given .is-open;
     volume-length = given .volume-length;
     not-protected = given .not-protected;
     old-permitted = given .first-permitted;
     new-permitted = permitted;
+    new-typeable = typed;
     old-exists = given .first-exists;
     not-read-only = given .not-read-only;
     new-free = free;
   }
 
   to-second : {f : List ℕ} → Asks f first second → Granted d v f first second
-  to-second asks = from-first asks (given .second-permitted) (given .second-free)
+  to-second asks = from-first asks (given .second-permitted) (given .second-typeable) (given .second-free)
 
   to-third : {f : List ℕ} → Asks f first third → Granted d v f first third
-  to-third asks = from-first asks (given .third-permitted) (given .third-free)
+  to-third asks = from-first asks (given .third-permitted) (given .third-typeable) (given .third-free)
 
   module _ {f : List ℕ} (asks : Asks f first second) where
     then-third : {h : List ℕ} → Asks h second third → Granted d (after d v f first) h second third
     then-third asks′ =
-        granted-next (to-second asks) asks′ (given .third-permitted)
+        granted-next (to-second asks) asks′ (given .third-permitted) (given .third-typeable)
         (still-free (to-second asks) third (different second third (given .second-not-third)) (λ j j< other. none-of d v third (given .third-free) j j<))
 
-    then-first : {h : List ℕ} → Asks h second first → Granted d (after d v f first) h second first
-    then-first asks′ = granted-next (to-second asks) asks′ (given .first-permitted) (still-free (to-second asks) first (given .first-not-second) (λ j j< other. other))
+    then-first : {h : List ℕ} → typeable first ≡ true → Asks h second first → Granted d (after d v f first) h second first
+    then-first typed asks′ = granted-next (to-second asks) asks′ (given .first-permitted) typed (still-free (to-second asks) first (given .first-not-second) (λ j j< other. other))
 
 -- ---- on to the third
 module _ {d : Drive} {v f h k first second third : List ℕ} (r : Granted d v f first second) (s : Granted d (after d v f first) h second third) (t : Granted d v k first third) where
@@ -145,9 +147,11 @@ module _ {d : Drive} {v f h first second : List ℕ} (inspected : PassesInspecti
 pub no-traces : NoTraces
 no-traces d v first second third inspected given there on direct back asks-there asks-on asks-direct asks-back = (
   by-third d v first second third given there on direct asks-there asks-on asks-direct,
-  there-and-back inspected (to-second given asks-there) (then-first given asks-there asks-back),
+  (λ typed. there-and-back inspected (to-second given asks-there) (then-first given asks-there typed asks-back)),
 )
 
 -- on V
 pub no-traces-on-v : ByThird stateV (volumeV draft) there on direct × ThereAndBack stateV (volumeV draft) there back
-no-traces-on-v = no-traces stateV (volumeV draft) draft temporary finished inspected drafts there on direct back asks-there asks-on asks-direct asks-back
+no-traces-on-v =
+    let n = no-traces stateV (volumeV draft) draft temporary finished inspected drafts there on direct back asks-there asks-on asks-direct asks-back in
+    (n .0, n .1 draft-typeable)

@@ -66,4 +66,4 @@ pub record Demand1 : Type 0 where
   pub tests-are : (g : Geometry) (k : Call) (p : ℕ) (d : Drive) (v f b : List ℕ) → reasons (testsOf g k p d v f b) ≡ refusalsOf k
   pub in-table-order : (k : Call) → k ≢ Unserved → inOrder (refusalsOf k) paperTable ≡ true
   pub table-numbers : numbersOf paperTable
-      ≡ 32 ∷ 33 ∷ 34 ∷ 35 ∷ 42 ∷ 44 ∷ 39 ∷ 40 ∷ 6 ∷ 36 ∷ 37 ∷ 255 ∷ 3 ∷ 38 ∷ 43 ∷ 4 ∷ 1 ∷ 41 ∷ 5 ∷ 255 ∷ 2 ∷ []
+      ≡ 32 ∷ 33 ∷ 34 ∷ 35 ∷ 42 ∷ 44 ∷ 39 ∷ 45 ∷ 40 ∷ 6 ∷ 36 ∷ 37 ∷ 255 ∷ 3 ∷ 38 ∷ 43 ∷ 4 ∷ 1 ∷ 41 ∷ 5 ∷ 255 ∷ 2 ∷ []

@@ -8,7 +8,7 @@ use Rattle.volume.specs.declared.Geometry.{Geometry}
 use Rattle.volume.specs.Name.{nameOf}
 use Rattle.control.specs.Block.{position, random}
 use Rattle.answers.specs.declared.Refusal.{Refusal}
-use Rattle.answers.specs.declared.Refusal.the-variants.{None, NotServed, Closed, VolumeLength, BlockLength, BufferLength, DriveCode, UserCode, Name, Position, Beyond, BadSlot, Protected, NoMatch, NoFile, ReadOnly, Exists, NoGroup, Absent, Outside, NoSlot, NoRoom, NoBlock}
+use Rattle.answers.specs.declared.Refusal.the-variants.{None, NotServed, Closed, VolumeLength, BlockLength, BufferLength, DriveCode, UserCode, Name, Untypeable, Position, Beyond, BadSlot, Protected, NoMatch, NoFile, ReadOnly, Exists, NoGroup, Absent, Outside, NoSlot, NoRoom, NoBlock}
 use Rattle.answers.specs.Refusal.{refusalNumber, Test, test}
 use Rattle.reading.specs.Read.{readTests}
 use Rattle.filecalls.specs.declared.Drive.{Drive}
@@ -22,11 +22,11 @@ use Rattle.filecalls.specs.Small.{protectTests, userTests, setRandomTests}
 use Rattle.bdos.specs.declared.Call.{Call}
 use Rattle.bdos.specs.declared.Call.the-variants.{LogIn, Open, Close, SearchFirst, SearchNext, Delete, ReadSequential, WriteSequential, Make, Rename, Protect, Attributes, User, ReadRandom, WriteRandom, Size, SetRandom, EmptyRecord, Unserved}
 
--- the paper's table from top to bottom; "5 .. make answers 255 here" is two cases of one row
+-- the paper's table from top to bottom, 45 "straight after 39"; "5 .. make answers 255 here" is two cases of one row
 abbrev pub paperTable : List Refusal
 paperTable =
-    Closed ∷ VolumeLength ∷ BlockLength ∷ BufferLength ∷ DriveCode ∷ UserCode ∷ Name ∷ Position ∷ Beyond ∷ BadSlot ∷ Protected
-    ∷ NoMatch ∷ NoFile ∷ ReadOnly ∷ Exists ∷ NoGroup ∷ Absent ∷ Outside ∷ NoSlot ∷ NoRoom ∷ NoBlock ∷ []
+    Closed ∷ VolumeLength ∷ BlockLength ∷ BufferLength ∷ DriveCode ∷ UserCode ∷ Name ∷ Untypeable ∷ Position ∷ Beyond ∷ BadSlot
+    ∷ Protected ∷ NoMatch ∷ NoFile ∷ ReadOnly ∷ Exists ∷ NoGroup ∷ Absent ∷ Outside ∷ NoSlot ∷ NoRoom ∷ NoBlock ∷ []
 
 -- the numbers of refusals, and those that tests give
 abbrev pub numbersOf : List Refusal → List ℕ
@@ -48,20 +48,21 @@ caseOf BufferLength = 5
 caseOf DriveCode = 6
 caseOf UserCode = 7
 caseOf Name = 8
-caseOf Position = 9
-caseOf Beyond = 10
-caseOf BadSlot = 11
-caseOf Protected = 12
-caseOf NoMatch = 13
-caseOf NoFile = 14
-caseOf ReadOnly = 15
-caseOf Exists = 16
-caseOf NoGroup = 17
-caseOf Absent = 18
-caseOf Outside = 19
-caseOf NoSlot = 20
-caseOf NoRoom = 21
-caseOf NoBlock = 22
+caseOf Untypeable = 9
+caseOf Position = 10
+caseOf Beyond = 11
+caseOf BadSlot = 12
+caseOf Protected = 13
+caseOf NoMatch = 14
+caseOf NoFile = 15
+caseOf ReadOnly = 16
+caseOf Exists = 17
+caseOf NoGroup = 18
+caseOf Absent = 19
+caseOf Outside = 20
+caseOf NoSlot = 21
+caseOf NoRoom = 22
+caseOf NoBlock = 23
 
 -- down the table: the tests at the front that stand in a row are passed (rename tests two names in one row), and at the
 -- end none is left
@@ -112,8 +113,8 @@ refusalsOf ReadSequential =
 refusalsOf WriteSequential =
     Closed ∷ VolumeLength ∷ BlockLength ∷ BufferLength ∷ DriveCode ∷ Name ∷ Position ∷ Beyond ∷ Protected ∷ NoFile ∷ ReadOnly ∷ Outside
     ∷ NoSlot ∷ NoBlock ∷ []
-refusalsOf Make = Closed ∷ VolumeLength ∷ BlockLength ∷ DriveCode ∷ Name ∷ Position ∷ Protected ∷ Exists ∷ NoRoom ∷ []
-refusalsOf Rename = Closed ∷ VolumeLength ∷ BlockLength ∷ DriveCode ∷ Name ∷ Name ∷ Protected ∷ NoMatch ∷ ReadOnly ∷ Exists ∷ []
+refusalsOf Make = Closed ∷ VolumeLength ∷ BlockLength ∷ DriveCode ∷ Name ∷ Untypeable ∷ Position ∷ Protected ∷ Exists ∷ NoRoom ∷ []
+refusalsOf Rename = Closed ∷ VolumeLength ∷ BlockLength ∷ DriveCode ∷ Name ∷ Name ∷ Untypeable ∷ Protected ∷ NoMatch ∷ ReadOnly ∷ Exists ∷ []
 refusalsOf Protect = Closed ∷ []
 refusalsOf Attributes = Closed ∷ VolumeLength ∷ BlockLength ∷ DriveCode ∷ Name ∷ Protected ∷ NoMatch ∷ []
 refusalsOf User = Closed ∷ UserCode ∷ []

@@ -15,6 +15,7 @@ use Rattle.lists.specs.Bytes.{byte}
 use Rattle.volume.specs.declared.Wanted.the-variants.{File, ReadOnlyFile}
 use Rattle.volume.specs.Geometry.{bytes, slots}
 use Rattle.volume.specs.Name.{topBit, nameOf, same, goodName}
+use Rattle.volume.specs.Typing.{typeable}
 use Rattle.volume.specs.Entry.{Entry}
 use Rattle.volume.specs.Directory.{slotAt, findSlot}
 use Rattle.control.specs.Block.{newName}
@@ -43,7 +44,8 @@ abbrev pub anyReadOnly : Drive → List ℕ → List ℕ → Bool
 anyReadOnly d v name = ltb (findSlot (d .geometry) v (d .user) name ReadOnlyFile) (slots (d .geometry))
 
 -- An open state, whose geometry is the volume's; "not protected .., a file that is not read-only, and three different
--- permitted names of which only the first exists". Permitted is what 39 lets through, 3FH not among it.
+-- permitted names of which only the first exists". Permitted is what 39 lets through, 3FH not among it, and of a new name
+-- also what 45 lets through. The first name is none here: it may be one that can't be typed.
 pub record Drafts (d : Drive) (v first second third : List ℕ) : Type 0 where
   pub is-open : isOpen d ≡ true
   pub volume-length : length v ≡ bytes (d .geometry)
@@ -51,6 +53,8 @@ pub record Drafts (d : Drive) (v first second third : List ℕ) : Type 0 where
   pub first-permitted : goodName false first ≡ true
   pub second-permitted : goodName false second ≡ true
   pub third-permitted : goodName false third ≡ true
+  pub second-typeable : typeable second ≡ true
+  pub third-typeable : typeable third ≡ true
   pub first-not-second : same first second ≡ false
   pub first-not-third : same first third ≡ false
   pub second-not-third : same second third ≡ false
@@ -96,12 +100,12 @@ pub record ThereAndBack (d : Drive) (v there back : List ℕ) : Type 0 where
   pub old-bytes : thenRename (rename d v there) back .volume ≡ v
   pub old-state : thenRename (rename d v there) back .drive ≡ d
 
--- the request
+-- the request; on the way back the first name is a new one, so it has to be one that can be typed
 abbrev pub NoTraces : Type 0
 NoTraces =
     (d : Drive) (v first second third : List ℕ) → PassesInspection d v → Drafts d v first second third
     → (there on direct back : List ℕ) → Asks there first second → Asks on second third → Asks direct first third → Asks back second first
-    → ByThird d v there on direct × ThereAndBack d v there back
+    → ByThird d v there on direct × (typeable first ≡ true → ThereAndBack d v there back)
 
 -- its first half needs no inspection: it holds on altered volumes too
 abbrev pub ByThirdAlways : Type 0

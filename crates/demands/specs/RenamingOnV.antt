@@ -3,6 +3,7 @@
 -- file of the user, and a file of the same name that is another user's. Then an altered volume, on which renaming there and
 -- back leaves a trace.
 use mathlib.Core.Path.{_≡_, refl}
+use mathlib.Core.Bool.{true}
 use mathlib.Core.List.{List, [], _∷_, _++_}
 use Prim.Native.Nat.{ℕ, _+_}
 use native.Mathlib.Omega.{arith}
@@ -12,6 +13,7 @@ use Rattle.lists.specs.Bytes.{byte, part, put, all}
 use Rattle.volume.specs.declared.Geometry.{Geometry}
 use Rattle.volume.specs.Geometry.{lawful, start, slotStart, groupOf, inside}
 use Rattle.volume.specs.Name.{strip, nameAt, same, goodName}
+use Rattle.volume.specs.Typing.{typeableByte, blankBefore, typeable}
 use Rattle.volume.specs.Entry.{Entry, places, blockIn, ofFile, ofGroup}
 use Rattle.volume.specs.Directory.{slotAt, putSlot, findSlot, mapSlot}
 use Rattle.blocks.specs.Held.{digit, holds, wordOf, wordsOf, freeCount}
@@ -92,7 +94,7 @@ unfolding lowestBad goodSlot goodFields goodTopBits goodPlace inPlaces names nam
 inspected = refl
 
 pub drafts : Drafts stateV (volumeV draft) draft temporary finished
-unfolding isOpen lawful goodName all same findSlot lowFrom ofFile strip nameAt part slotAt slotStart start
+unfolding isOpen lawful goodName typeable typeableByte blankBefore all same findSlot lowFrom ofFile strip nameAt part slotAt slotStart start
 drafts = record {
   is-open = refl;
   volume-length = refl;
@@ -100,6 +102,8 @@ drafts = record {
   first-permitted = refl;
   second-permitted = refl;
   third-permitted = refl;
+  second-typeable = refl;
+  third-typeable = refl;
   first-not-second = refl;
   first-not-third = refl;
   second-not-third = refl;
@@ -108,6 +112,10 @@ drafts = record {
   third-free = refl;
   not-read-only = refl;
 }
+
+pub draft-typeable : typeable draft ≡ true
+unfolding typeable typeableByte blankBefore all part
+draft-typeable = refl
 
 pub asks-there : Asks there draft temporary
 unfolding strip nameAt part
@@ -138,7 +146,7 @@ pub record OnV : Type 0 where
   pub back-is : rename stateV (volumeV temporary) back ≡ done stateV back (volumeV draft)
 
 pub on-v : OnV
-unfolding outcome unless firstMet stored storedAll changedState renameAct renameLadder renameTests renamed changed isOpen lawful goodName all same findSlot lowFrom fold mapSlot putSlot put ofFile strip nameAt part slotAt slotStart start
+unfolding outcome unless firstMet stored storedAll changedState renameAct renameLadder renameTests renamed changed isOpen lawful goodName typeable typeableByte blankBefore all same findSlot lowFrom fold mapSlot putSlot put ofFile strip nameAt part slotAt slotStart start
 on-v = record { there-is = refl; on-is = refl; direct-is = refl; back-is = refl }
 
 -- ---- an altered volume: B 1,024, T 2, D 1, and an entry with a top bit on byte 1. All is met but inspection, and renaming
@@ -157,7 +165,7 @@ unfolding lowestBad goodSlot goodFields goodTopBits goodPlace inPlaces names nam
 refused-altered = refl
 
 pub drafts-altered : Drafts stateAltered (volumeAltered topped1) draft temporary finished
-unfolding isOpen lawful goodName all same findSlot lowFrom ofFile strip nameAt part slotAt slotStart start
+unfolding isOpen lawful goodName typeable typeableByte blankBefore all same findSlot lowFrom ofFile strip nameAt part slotAt slotStart start
 drafts-altered = record {
   is-open = refl;
   volume-length = refl;
@@ -165,6 +173,8 @@ drafts-altered = record {
   first-permitted = refl;
   second-permitted = refl;
   third-permitted = refl;
+  second-typeable = refl;
+  third-typeable = refl;
   first-not-second = refl;
   first-not-third = refl;
   second-not-third = refl;
@@ -175,5 +185,5 @@ drafts-altered = record {
 }
 
 pub altered-trace : thenRename (rename stateAltered (volumeAltered topped1) there) back ≡ done stateAltered back (volumeAltered (entry 0 draft 0 0 0 0))
-unfolding outcome unless firstMet stored storedAll changedState renameAct renameLadder renameTests renamed changed isOpen lawful goodName all same findSlot lowFrom fold mapSlot putSlot put ofFile strip nameAt part slotAt slotStart start
+unfolding outcome unless firstMet stored storedAll changedState renameAct renameLadder renameTests renamed changed isOpen lawful goodName typeable typeableByte blankBefore all same findSlot lowFrom fold mapSlot putSlot put ofFile strip nameAt part slotAt slotStart start
 altered-trace = refl

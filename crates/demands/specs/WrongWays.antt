@@ -12,6 +12,7 @@ use Rattle.lists.specs.Bytes.{byte, part, put, all}
 use Rattle.volume.specs.declared.Geometry.{Geometry}
 use Rattle.volume.specs.Geometry.{lawful, start, slots, slotStart, recordStart, groupOf, placeOf, inside}
 use Rattle.volume.specs.Name.{strip, nameAt, nameOf, same, like, goodName}
+use Rattle.volume.specs.Typing.{typeableByte, blankBefore, typeable}
 use Rattle.volume.specs.Entry.{isEmpty, places, blockIn, withBlock, countOf, ofFile, ofGroup, matches}
 use Rattle.volume.specs.Directory.{slotAt, putSlot, findSlot, mapSlot}
 use Rattle.volume.specs.Record.{recordSlot, counted, present, recordAt, putRecord}
@@ -172,7 +173,7 @@ twoFiles = logsIn ∷ makes nameA ∷ writes nameA 0 7 ∷ makes nameB ∷ write
 -- demand 2: after its write record 0 of A has the bytes written, and it keeps them through what other files and other
 -- records are given
 unfoldable pub keepsRecord : Way → Bool
-unfolding ran lowFrom anyFrom everyFrom countFrom fold part put all lawful start slotStart recordStart groupOf placeOf inside strip nameAt same like goodName places blockIn withBlock countOf ofFile ofGroup matches slotAt putSlot findSlot mapSlot recordSlot counted present recordAt putRecord digit holds hold release wordOf wordsOf lowestFree freeCount random setTo made firstMet goodFields goodTopBits inPlaces names namedBelow goodPlace seenBelow goodSlot lowestBad named heldOf readBlock readTests readBytes changed deleteTests freePlace freeEntry freeSlot freeMatches makeTests freshEntry alloc likeEntry grown writeSlot baseEntry needsBlock writeBlock writtenEntry writeTests isOpen outcome unless stored storedAll changedState logIn logInTests refusedLogIn deleteLadder deleteAct makeLadder makeAct randomTests writeEntry writeChange writeDone writeRandomAct callOf does step
+unfolding ran lowFrom anyFrom everyFrom countFrom fold part put all lawful start slotStart recordStart groupOf placeOf inside strip nameAt same like goodName typeable typeableByte blankBefore places blockIn withBlock countOf ofFile ofGroup matches slotAt putSlot findSlot mapSlot recordSlot counted present recordAt putRecord digit holds hold release wordOf wordsOf lowestFree freeCount random setTo made firstMet goodFields goodTopBits inPlaces names namedBelow goodPlace seenBelow goodSlot lowestBad named heldOf readBlock readTests readBytes changed deleteTests freePlace freeEntry freeSlot freeMatches makeTests freshEntry alloc likeEntry grown writeSlot baseEntry needsBlock writeBlock writtenEntry writeTests isOpen outcome unless stored storedAll changedState logIn logInTests refusedLogIn deleteLadder deleteAct makeLadder makeAct randomTests writeEntry writeChange writeDone writeRandomAct callOf does step
 keepsRecord way =
     let o : Outcome = ran way twoFiles (from emptyVolume) in
     present small (o .volume) 0 nameA 0 && same (readBytes small (o .volume) 0 nameA 0) (bytesOf 7)

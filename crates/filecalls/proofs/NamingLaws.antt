@@ -1,12 +1,12 @@
 -- The calls that name a file and are lent no buffer: what is lent refuses, or the tests that follow decide all that is left.
 use mathlib.Core.Path.{_≡_, sym, ap, _∙_}
 use mathlib.Core.Bool.{Bool, true, false, not, cond}
-use mathlib.Core.List.{List, [], _∷_, _++_}
+use mathlib.Core.List.{List, [], _++_}
 use Prim.Native.Nat.{ℕ}
 use Rattle.answers.specs.declared.Refusal.{Refusal}
 use Rattle.answers.specs.declared.Answer.the-variants.{Done, Refused}
-use Rattle.answers.specs.Refusal.{Test, test, isNone, refusing, first, firstMet}
-use Rattle.answers.proofs.Ladder.{ladder-append, ladder-two}
+use Rattle.answers.specs.Refusal.{Test, isNone, first, firstMet}
+use Rattle.answers.proofs.Ladder.{ladder-append}
 use Rattle.filecalls.specs.declared.Drive.{Drive}
 use Rattle.filecalls.specs.declared.Reply.{Reply}
 use Rattle.filecalls.specs.Outcome.{Change, Store, Act, done, unless, outcome, left, withHeld, changedState, storedAll}
@@ -14,16 +14,9 @@ use Rattle.filecalls.specs.Lent.{namedTests, plainTests}
 use Rattle.filecalls.proofs.OutcomeLaws.{passes, either, refused-at, decided}
 use Rattle.filecalls.proofs.StateLaws.{Named, no-buffer}
 
--- one test and two tests of the state or the control block, asked before a group
-pub after-one : {why b : Refusal} (w : Refusal) (m : Bool) (ts : List Test) → b ≡ refusing w m → why ≡ first b (firstMet ts) → why ≡ firstMet (test w m ∷ ts)
-unfolding firstMet
-after-one w m ts e p = rw e at p
-
-pub after-two : {why b x y : Refusal} (w z : Refusal) (m n : Bool) (ts : List Test) → isNone z ≡ false
-    → x ≡ refusing w m → y ≡ refusing z n → b ≡ first x y → why ≡ first b (firstMet ts) → why ≡ firstMet (test w m ∷ test z n ∷ ts)
-after-two {y = y} w z m n ts h ex ey eb p =
-    let two = eb ∙ ap (λ (u : Refusal). first u y) ex ∙ ap (first (refusing w m)) ey ∙ ladder-two w z m n h in
-    p ∙ ap (λ (u : Refusal). first u (firstMet ts)) two ∙ sym (ladder-append (test w m ∷ test z n ∷ []) ts)
+-- tests of the state or the control block, asked before a group
+pub after : {why b : Refusal} (xs ts : List Test) → b ≡ firstMet xs → why ≡ first b (firstMet ts) → why ≡ firstMet (xs ++ ts)
+after xs ts e p = p ∙ ap (λ (u : Refusal). first u (firstMet ts)) e ∙ sym (ladder-append xs ts)
 
 -- the state with other held blocks, or as it was
 pub held-or : (d : Drive) (t : Bool) {h : List ℕ} (k : List ℕ) → h ≡ cond t k (d .held) → withHeld d h ≡ cond t (withHeld d k) d

@@ -1,4 +1,5 @@
--- The calls on names: delete (19), make (22), rename (23), attributes (30).
+-- The calls on names: delete (19), make (22), rename (23), attributes (30). "Make, and rename for its new name, refuse" a
+-- name that can't be typed, "straight after 39".
 use mathlib.Core.Bool.{Bool, true, false, not}
 use mathlib.Core.List.{List, [], _∷_, _++_}
 use Prim.Native.Nat.{ℕ, _%_}
@@ -17,7 +18,7 @@ use Rattle.naming.specs.Delete.{deleteTests}
 use Rattle.naming.specs.Make.{makeTests, freshEntry}
 use Rattle.naming.specs.Rename.{renameTests}
 use Rattle.filecalls.specs.declared.Drive.{Drive}
-use Rattle.filecalls.specs.Tests.{closedState, volumeLength, blockLength, driveCode, badName, tooLarge, protectedDrive}
+use Rattle.filecalls.specs.Tests.{closedState, volumeLength, blockLength, driveCode, badName, untypeable, tooLarge, protectedDrive}
 use Rattle.filecalls.specs.Outcome.{keeps, frees, entryTo, eachEntry, Act, done, unless}
 
 -- "byte 0 of all matching entries of the user (3FH allowed) becomes E5H, their blocks are free"
@@ -34,7 +35,7 @@ deleteAct d v f =
 -- "the lowest empty slot gets user, name without top bits, all else 0. Control block 1..11 likewise, 12..31 become 0."
 unfoldable pub makeLadder : Drive → List ℕ → List ℕ → List Test
 makeLadder d v f =
-    closedState d ∷ volumeLength d v ∷ blockLength f ∷ driveCode f ∷ badName false f 1 ∷ tooLarge (eqb (byte f 12) 0) ∷ protectedDrive d
+    closedState d ∷ volumeLength d v ∷ blockLength f ∷ driveCode f ∷ badName false f 1 ∷ untypeable f 1 ∷ tooLarge (eqb (byte f 12) 0) ∷ protectedDrive d
     ∷ makeTests (d .geometry) v (d .user) (nameOf f)
 
 unfoldable pub makeAct : Drive → List ℕ → List ℕ → Act
@@ -46,7 +47,7 @@ makeAct d v f =
 -- "old name in 1..11, new in 17..27; all entries of the file take the new one"
 unfoldable pub renameLadder : Drive → List ℕ → List ℕ → List Test
 renameLadder d v f =
-    closedState d ∷ volumeLength d v ∷ blockLength f ∷ driveCode f ∷ badName false f 1 ∷ badName false f 17 ∷ protectedDrive d
+    closedState d ∷ volumeLength d v ∷ blockLength f ∷ driveCode f ∷ badName false f 1 ∷ badName false f 17 ∷ untypeable f 17 ∷ protectedDrive d
     ∷ renameTests (d .geometry) v (d .user) (nameOf f) (newName f)
 
 unfoldable pub renameAct : Drive → List ℕ → List ℕ → Act

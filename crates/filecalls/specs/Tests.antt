@@ -7,7 +7,8 @@ use lib.ListN.{length}
 use Rattle.lists.specs.Bytes.{byte}
 use Rattle.volume.specs.Geometry.{bytes}
 use Rattle.volume.specs.Name.{nameAt, goodName}
-use Rattle.answers.specs.declared.Refusal.the-variants.{Closed, VolumeLength, BlockLength, BufferLength, DriveCode, Name, Position, Beyond, Protected}
+use Rattle.volume.specs.Typing.{typeable}
+use Rattle.answers.specs.declared.Refusal.the-variants.{Closed, VolumeLength, BlockLength, BufferLength, DriveCode, Name, Untypeable, Position, Beyond, Protected}
 use Rattle.answers.specs.Refusal.{Test, test}
 use Rattle.filecalls.specs.declared.Drive.{Drive}
 use Rattle.filecalls.specs.State.{isOpen}
@@ -33,6 +34,10 @@ driveCode f = test DriveCode (ltb 1 (byte f 0))
 -- 39: "a name outside the inspection's byte rule; 3FH allowed in open, search, delete only": the name from byte a on
 abbrev pub badName : Bool → List ℕ → ℕ → Test
 badName pattern f a = test Name (not (goodName pattern (nameAt f a)))
+
+-- 45: a name that can't be typed, from byte a on
+abbrev pub untypeable : List ℕ → ℕ → Test
+untypeable f a = test Untypeable (not (typeable (nameAt f a)))
 
 -- 40: "ex, s2 or cr too large where used"
 abbrev pub tooLarge : Bool → Test

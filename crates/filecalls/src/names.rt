@@ -35,9 +35,11 @@ impl Drive {
         if !answers::is_none(why) {
             return self.refused(why);
         }
+        let typeable = volume::typing::typeable_name(&f[1..12]);
+        let untypeable = answers::refuse(Refusal::Untypeable, !typeable);
         let position = answers::refuse(Refusal::Position, f[12] != 0);
         let protected = answers::refuse(Refusal::Protected, self.protected);
-        let before = answers::first_of(position, protected);
+        let before = answers::first_of(untypeable, answers::first_of(position, protected));
         let g = self.geometry;
         let made = naming::make::make_file(g, volume, f, self.user, before);
         let why = made.why;
@@ -52,8 +54,7 @@ impl Drive {
         if !answers::is_none(why) {
             return self.refused(why);
         }
-        let good = volume::names::good_name(false, &f[17..28]);
-        let name = answers::refuse(Refusal::Name, !good);
+        let name = naming::rename::new_name_why(&f[17..28]);
         let protected = answers::refuse(Refusal::Protected, self.protected);
         let before = answers::first_of(name, protected);
         let g = self.geometry;

@@ -1,14 +1,15 @@
-// Rename and attributes: the tests that look at the directory, and the changes in the file's entries.
+// Rename and attributes: the tests of the new name and of the directory, and the changes in the file's entries.
 ghost use mathlib.Core.Path.{_≡_};
-ghost use mathlib.Core.Bool.{true, cond};
+ghost use mathlib.Core.Bool.{true, false, not, cond};
 ghost use mathlib.Core.List.{List, [], _∷_};
 ghost use lib.Dec.{leb};
 ghost use lib.ListN.{length};
 ghost use Rattle.volume.specs.declared.Wanted.the-variants.{File};
 ghost use Rattle.volume.specs.Geometry.{lawful, bytes, slots};
-ghost use Rattle.volume.specs.Name.{strip};
+ghost use Rattle.volume.specs.Name.{strip, goodName};
+ghost use Rattle.volume.specs.Typing.{typeable};
 ghost use Rattle.volume.specs.Directory.{findSlot, mapSlots};
-ghost use Rattle.answers.specs.declared.Refusal.the-variants.{NoMatch};
+ghost use Rattle.answers.specs.declared.Refusal.the-variants.{Name, Untypeable, NoMatch};
 ghost use Rattle.answers.specs.Refusal.{test, isNone, first, firstMet};
 ghost use Rattle.naming.specs.declared.Edit.the-variants.{Rename, Attributes};
 ghost use Rattle.naming.specs.Sweep.{changed};
@@ -19,6 +20,18 @@ use answers::Refusal;
 use volume::Geometry;
 use volume::Wanted;
 use volume::directory;
+use volume::names;
+use volume::typing;
+
+// Why a name can't be a file's new one, whatever the directory holds: 39, then 45.
+pub fn new_name_why(new: &[u8]) -> Refusal
+    requires { ⌜ length (now new) ≡ 11 ⌝ }
+    ensures { λ r. ⌜ r ≡ firstMet (test Name (not (goodName false (strip (now (new .entry))))) ∷ test Untypeable (not (typeable (strip (now (new .entry))))) ∷ []) ⌝ }
+{
+    let bad = answers::refuse(Refusal::Name, !names::good_name(false, new));
+    let untypeable = answers::refuse(Refusal::Untypeable, !typing::typeable_name(new));
+    answers::first_of(bad, untypeable)
+}
 
 // Why the file can't be renamed. A read-only entry is sought from the file's first on.
 fn rename_why(g: Geometry, volume: &[u8], user: u8, name: &[u8], new: &[u8]) -> Refusal

@@ -5,4 +5,5 @@ pub mod DirectoryLaws
 pub mod SweepLaws
 pub mod FindLaws
 pub mod NameLaws
+pub mod TypingLaws
 pub mod EntryLaws

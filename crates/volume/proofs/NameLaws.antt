@@ -32,7 +32,7 @@ strip-strip (x ∷ xs) = let z : x % 128 % 128 ≡ x % 128 = omega arith in rw (
 
 -- ---- byte by byte is place by place
 -- the places one further on
-shift : (p : ℕ → Bool) (i n : ℕ) → everyFrom p (suc i) n ≡ everyFrom (λ k. p (suc k)) i n
+pub shift : (p : ℕ → Bool) (i n : ℕ) → everyFrom p (suc i) n ≡ everyFrom (λ k. p (suc k)) i n
 unfolding everyFrom
 shift p i zero = refl
 shift p i (suc n) = rw (shift p (suc i) n)

@@ -2,6 +2,7 @@
 pub mod Geometry
 pub mod Shift
 pub mod Name
+pub mod Typing
 pub mod Entry
 pub mod Directory
 pub mod Record

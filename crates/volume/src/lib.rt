@@ -9,6 +9,7 @@ ghost use Rattle.volume.specs.Shift.{bsh, blm};
 pub mod directory;
 pub mod entry;
 pub mod names;
+pub mod typing;
 
 // How the volume is cut up: B, T and D of the paper.
 pub struct Geometry {

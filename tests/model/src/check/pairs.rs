@@ -61,6 +61,8 @@ const REFUSALS: &[Given] = &[
     (44, &[32]),
     // All that are lent a control block but 36, which examines no name.
     (39, &[15, 16, 17, 19, 20, 21, 22, 23, 30, 33, 34, 35, 40]),
+    // Those that give a file a name.
+    (45, &[22, 23]),
     // Delete, rename, attributes, size and the random calls use none of ex, s2, cr.
     (40, &[15, 16, 17, 20, 21, 22, 36]),
     // Not 36: it shows position 65,536.

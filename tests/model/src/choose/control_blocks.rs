@@ -1,7 +1,7 @@
 //! Control blocks for a call, in order as far as can be seen.
 
 use super::aims::{aim, Aim, View};
-use super::pool::name_of_pool;
+use super::pool::{name_hard_to_type, name_of_pool};
 use super::random::Random;
 use crate::paper::calls::*;
 use crate::paper::control::{self, CONTROL_BYTES, CR, DR, EX};
@@ -86,17 +86,20 @@ fn put_wildcards(r: &mut Random, control: &mut [u8]) {
 }
 
 fn fit_make(r: &mut Random, view: &View, control: &mut [u8]) {
-    if r.percent(88) {
-        control[1..12].copy_from_slice(&view.new_name(r));
+    match r.below(100) {
+        0..=7 => control[1..12].copy_from_slice(&name_hard_to_type(r)),
+        8..=88 => control[1..12].copy_from_slice(&view.new_name(r)),
+        _ => {}
     }
     control[EX] = 0;
 }
 
 fn fit_rename(r: &mut Random, view: &View, old: Name, control: &mut [u8]) {
-    let new = match r.below(10) {
+    let new = match r.below(11) {
         0..=6 => view.new_name(r),
         7 => old,
         8 => aim(r, view, false).name,
+        9 => name_hard_to_type(r),
         _ => name_of_pool(r),
     };
     control[17..28].copy_from_slice(&new);

@@ -68,4 +68,7 @@ fn put_name_out_of_order(r: &mut Random, function: u8, control: &mut [u8]) {
     if r.percent(30) {
         control[name] = r.pick(&[0x20, 0xA0, 0x7F, 0x3F]);
     }
+    if r.percent(30) {
+        control[name + r.below(11)] = r.pick(&[0x20, 0xA0, 0x2A, 0x3D, 0xBD, 0x61, 0xFA]);
+    }
 }

@@ -25,6 +25,22 @@ pub fn is_pattern(bytes: &[u8]) -> bool {
     name.iter().all(|byte| (0x20..=0x7E).contains(byte)) && name[0] != 0x20
 }
 
+/// The characters that (iv) of the requests forbids in a new name.
+const FORBIDDEN: &[u8] = b"<>.,;:=*[]";
+
+/// Whether the command line could name it, top bits ignored: no small letter, no
+/// forbidden character, and no blank before a later non-blank within the name or
+/// within the type.
+pub fn can_be_typed(bytes: &[u8]) -> bool {
+    let name = without_top_bits(bytes);
+    let refused = |byte: &u8| byte.is_ascii_lowercase() || FORBIDDEN.contains(byte);
+    !name.iter().any(refused) && blanks_stand_last(&name[..8]) && blanks_stand_last(&name[8..])
+}
+
+fn blanks_stand_last(field: &[u8]) -> bool {
+    field.iter().skip_while(|&&byte| byte != b' ').all(|&byte| byte == b' ')
+}
+
 /// Whether a name in the directory matches; only the pattern's 3FH is a
 /// wildcard.
 pub fn matches(pattern: &[u8], name: &[u8]) -> bool {

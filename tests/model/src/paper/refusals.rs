@@ -5,7 +5,7 @@
 use super::calls::*;
 use super::control::{self, CONTROL_BYTES, CR, DR, EX, R2, S2};
 use super::geometry::RECORD;
-use super::names::{is_name, is_pattern, ANY};
+use super::names::{can_be_typed, is_name, is_pattern, ANY};
 use super::state::State;
 
 /// The first of these rows that is met. A row below 34 looks into the control
@@ -29,6 +29,9 @@ pub fn first_down_to_37(state: &State, function: u8, parameter: u8, lent: &Lent)
     }
     if !names_allowed(function, control) {
         return Some(39);
+    }
+    if !new_name_allowed(function, control) {
+        return Some(45);
     }
     if !positions_allowed(function, control) {
         return Some(40);
@@ -60,6 +63,15 @@ fn names_allowed(function: u8, control: &[u8]) -> bool {
         OPEN | SEARCH_FIRST | DELETE => is_pattern(control::name(control)),
         RENAME => is_name(control::name(control)) && is_name(control::new_name(control)),
         _ => is_name(control::name(control)),
+    }
+}
+
+/// 45, straight after 39: the name of a new file, or a file's new name, can be typed.
+fn new_name_allowed(function: u8, control: &[u8]) -> bool {
+    match function {
+        MAKE => can_be_typed(control::name(control)),
+        RENAME => can_be_typed(control::new_name(control)),
+        _ => true,
     }
 }
 

@@ -16,6 +16,7 @@ mod refused_by_record;
 mod refused_by_state_and_lengths;
 mod replay;
 mod seam;
+mod typing;
 
 use bench::{control_for, name, Bench};
 

@@ -1,9 +1,11 @@
 -- What is lent refuses, or the delete of the matches decides.
-use Rattle.filecalls.proofs.NamingLaws.{held-or, named-no, named-decided, after-one}
+use Rattle.filecalls.proofs.NamingLaws.{held-or, named-no, named-decided, after}
+use Rattle.filecalls.specs.Tests.{protectedDrive}
 use Rattle.filecalls.specs.Names.{deleteAct, deleteLadder}
 use Rattle.filecalls.specs.Outcome.{frees, eachEntry, changedState, stored, storedAll}
 use Rattle.answers.specs.Refusal.{isNone}
 use Rattle.answers.specs.declared.Refusal.the-variants.{Protected}
+use Rattle.answers.proofs.Ladder.{ladder-one}
 use Rattle.naming.specs.declared.Edit.the-variants.{Erase}
 use Rattle.naming.specs.Sweep.{changed}
 use Rattle.naming.specs.Delete.{deleteTests, freeMatches}
@@ -15,6 +17,7 @@ use Rattle.volume.specs.Name.{nameAt, nameOf}
 use denote.Ref.{now}
 use native.Mathlib.Omega.{arith}
 use mathlib.Core.List.{[], _∷_}
+use mathlib.Core.Path.{refl, _∙_}
 use borrow.Author.Needs.{needs}
 use Rattle.filecalls.proofs.Drive.delete.Statement.{statement}
 use Rattle.filecalls.proofs.Drive.delete.Tie as tie
@@ -70,7 +73,7 @@ returns-2 c =
     let m = c .before .before .before .before .delete-matches in
     let t = isNone (m .result .why) in
     named-decided (a .self) (now (a .volume)) (now (a .f)) (clear (c .before .before .before .before .before .before .before .before .before .before)) 0 (frees (a .self .user) name) (eachEntry (changed Erase (a .self .user) name []) ∷ []) (now (a .f)) _
-    (after-one Protected (a .self .protected) (deleteTests (a .self .geometry) (now (a .volume)) (a .self .user) name) (c .before .before .before .before .before .before .before .before .before .refuse .ensures) (m .ensures .0))
+    (after (protectedDrive (a .self) ∷ []) (deleteTests (a .self .geometry) (now (a .volume)) (a .self .user) name) (c .before .before .before .before .before .before .before .before .before .refuse .ensures ∙ ladder-one Protected (a .self .protected) refl) (m .ensures .0))
     (held-or (a .self) t (freeMatches (a .self .geometry) (now (a .volume)) (a .self .user) name (a .self .held)) (m .ensures .1 .0)) (m .ensures .1 .1) (either t (now (a .f))) (c .answered .ensures)
 
 pub delete-spec : {M : Type 1} → statement M

@@ -1,20 +1,24 @@
--- What is lent refuses, or the making of the file decides, after the position and the protection.
-use Rattle.filecalls.proofs.NamingLaws.{after-two, named-no, named-decided}
+-- What is lent refuses, or the making of the file decides, after whether the name can be typed, the position and the
+-- protection.
+use Rattle.filecalls.proofs.NamingLaws.{after, named-no, named-decided}
 use Rattle.filecalls.specs.Names.{makeAct, makeLadder}
+use Rattle.filecalls.specs.Tests.{untypeable, tooLarge, protectedDrive}
 use Rattle.filecalls.specs.Outcome.{entryTo, keeps, changedState, stored, storedAll}
 use Rattle.answers.specs.Refusal.{isNone}
-use Rattle.answers.specs.declared.Refusal.the-variants.{Position, Protected}
+use Rattle.answers.specs.declared.Refusal.the-variants.{Untypeable, Position, Protected}
+use Rattle.answers.proofs.Ladder.{ladder-three}
 use Rattle.naming.specs.Make.{makeTests, freshEntry}
 use Rattle.control.specs.Block.{made}
 use Rattle.volume.specs.Directory.{findSlot}
 use Rattle.volume.specs.declared.Wanted.the-variants.{Empty}
-use Rattle.lists.specs.Bytes.{byte}
+use Rattle.lists.specs.Bytes.{byte, part}
 use lib.Dec.{eqb}
 use Prim.Native.Nat.{_%_}
 use mathlib.Core.Bool.{false, not}
 use Rattle.filecalls.proofs.OutcomeLaws.{either}
 use Rattle.filecalls.proofs.StateLaws.{Named, named}
-use Rattle.volume.specs.Name.{nameOf}
+use Rattle.volume.specs.Name.{nameAt, nameOf}
+use Rattle.volume.specs.Typing.{typeable}
 use denote.Ref.{now}
 use native.Mathlib.Omega.{arith}
 use mathlib.Core.List.{[], _∷_}
@@ -48,20 +52,38 @@ returns c =
     let a = c .before .before .before .before .before .before .before .before .args in
     named-no (a .self) (now (a .volume)) (now (a .f)) false _ _ (c .before .before .before .named-why .ensures) (c .before .before .is-none .ensures) (c .before .if1 .taken) (c .refused .ensures)
 
-slice-read-refuse : tie.Need-slice-read-refuse
-slice-read-refuse c = omega (arith, clear (c .before) .lent .block)
+sub-typeable-name : tie.Need-sub-typeable-name
+sub-typeable-name c = search needs
+
+part-typeable-name-start : tie.Need-part-typeable-name-start
+part-typeable-name-start c = search needs
+
+part-typeable-name-end : tie.Need-part-typeable-name-end
+part-typeable-name-end c = omega (arith, clear (c .before) .lent .block)
+
+typeable-name-requires : tie.Need-typeable-name-requires
+typeable-name-requires c κs = search needs
 
 refuse-requires : tie.Need-refuse-requires
 refuse-requires c κs = search needs
 
+slice-read-refuse : tie.Need-slice-read-refuse
+slice-read-refuse c = omega (arith, clear (c .before .before .before .before .before) .lent .block)
+
 refuse-requires-2 : tie.Need-refuse-requires-2
 refuse-requires-2 c κs = search needs
+
+refuse-requires-3 : tie.Need-refuse-requires-3
+refuse-requires-3 c κs = search needs
 
 first-of-requires : tie.Need-first-of-requires
 first-of-requires c κs = search needs
 
+first-of-requires-2 : tie.Need-first-of-requires-2
+first-of-requires-2 c κs = search needs
+
 make-file-requires : tie.Need-make-file-requires
-make-file-requires c κs = let l = clear (c .before .before .before .before .before .before .before) .lent in (l .state .law, (l .volume, l .block))
+make-file-requires c κs = let l = clear (c .before .before .before .before .before .before .before .before .before .before .before .before) .lent in (l .state .law, (l .volume, l .block))
 
 cast-answered : tie.Need-cast-answered
 cast-answered c = search needs
@@ -76,9 +98,9 @@ same-length-4 : tie.Need-same-length-4
 same-length-4 c = search needs
 
 returns-2 : tie.Need-returns-2
-unfolding makeAct makeLadder changedState stored storedAll
+unfolding makeAct makeLadder changedState stored storedAll nameAt part
 returns-2 c =
-    let a = c .before .before .before .before .before .before .before .before .before .before .before .before .before .before .before .before .before .before .before .before .before .args in
+    let a = c .before .before .before .before .before .before .before .before .before .before .before .before .before .before .before .before .before .before .before .before .before .before .before .before .before .before .args in
     let d = a .self in
     let v = now (a .volume) in
     let f = now (a .f) in
@@ -86,8 +108,12 @@ returns-2 c =
     let t = isNone (m .result .why) in
     let slot = findSlot (d .geometry) v (d .user) (nameOf f) Empty in
     let e : m .result .slot ≡ slot = m .ensures .1 .0 in
-    named-decided d v f (clear (c .before .before .before .before .before .before .before .before .before .before .before .before .before .before)) (slot % 4) keeps (entryTo slot (freshEntry (d .user) (nameOf f)) ∷ []) (made f (nameOf f)) _
-    (after-two Position Protected (not (eqb (byte f 12) 0)) (d .protected) (makeTests (d .geometry) v (d .user) (nameOf f)) refl (c .before .before .before .before .before .before .before .before .before .before .before .before .refuse .ensures) (c .before .before .before .before .before .before .before .before .before .before .before .refuse2 .ensures) (c .before .before .before .before .before .before .before .before .before .before .first-of .ensures) (m .ensures .0))
+    named-decided d v f (clear (c .before .before .before .before .before .before .before .before .before .before .before .before .before .before .before .before .before .before .before)) (slot % 4) keeps (entryTo slot (freshEntry (d .user) (nameOf f)) ∷ []) (made f (nameOf f)) _
+    (after (untypeable f 1 ∷ tooLarge (eqb (byte f 12) 0) ∷ protectedDrive d ∷ []) (makeTests (d .geometry) v (d .user) (nameOf f))
+    (c .before .before .before .before .before .before .before .before .before .before .first-of2 .ensures
+    ∙ rw (c .before .before .before .before .before .before .before .before .before .before .before .first-of .ensures, c .before .before .before .before .before .before .before .before .before .before .before .before .before .before .before .refuse .ensures, c .before .before .before .before .before .before .before .before .before .before .before .before .before .before .before .before .typeable-name .ensures, c .before .before .before .before .before .before .before .before .before .before .before .before .before .refuse2 .ensures, c .before .before .before .before .before .before .before .before .before .before .before .before .refuse3 .ensures)
+    (ladder-three Untypeable Position Protected (not (typeable (nameAt f 1))) (not (eqb (byte f 12) 0)) (d .protected) refl))
+    (m .ensures .0))
     (either t d) (rw (← e) (m .ensures .1 .1 .0)) (m .ensures .1 .1 .1) (c .answered .ensures ∙ rw e)
 
 pub make-spec : {M : Type 1} → statement M
@@ -100,10 +126,16 @@ make-spec =
     same-length
     same-length-2
     returns
-    slice-read-refuse
+    sub-typeable-name
+    part-typeable-name-start
+    part-typeable-name-end
+    typeable-name-requires
     refuse-requires
+    slice-read-refuse
     refuse-requires-2
+    refuse-requires-3
     first-of-requires
+    first-of-requires-2
     make-file-requires
     cast-answered
     answered-requires

@@ -1,17 +1,19 @@
 -- What is lent refuses, or the renaming of the file decides, after the new name and the protection.
-use Rattle.filecalls.proofs.NamingLaws.{after-two, named-no, named-decided}
+use Rattle.filecalls.proofs.NamingLaws.{after, named-no, named-decided}
 use Rattle.filecalls.specs.Names.{renameAct, renameLadder}
-use Rattle.answers.specs.Refusal.{isNone, refusing}
-use Rattle.answers.specs.declared.Refusal.the-variants.{Name, Protected}
+use Rattle.answers.specs.Refusal.{isNone, first}
+use Rattle.answers.specs.declared.Refusal.the-variants.{Protected}
+use Rattle.answers.proofs.Ladder.{ladder-one}
 use Rattle.naming.specs.declared.Edit.the-variants.{Rename}
 use Rattle.naming.specs.Sweep.{changed}
 use Rattle.naming.specs.Rename.{renameTests}
 use Rattle.control.specs.Block.{newName}
-use Rattle.volume.specs.Name.{goodName, nameAt, nameOf}
+use Rattle.volume.specs.Name.{nameAt, nameOf}
 use Rattle.lists.specs.Bytes.{part}
-use mathlib.Core.Bool.{Bool, false, not}
+use mathlib.Core.Bool.{false}
 use Rattle.filecalls.proofs.OutcomeLaws.{either}
 use Rattle.filecalls.proofs.StateLaws.{Named, named}
+use Rattle.filecalls.specs.Tests.{badName, untypeable, protectedDrive}
 use Rattle.filecalls.specs.Outcome.{keeps, eachEntry, changedState, stored, storedAll}
 use denote.Ref.{now}
 use native.Mathlib.Omega.{arith}
@@ -43,23 +45,20 @@ returns c =
     let a = c .before .before .before .before .before .before .before .args in
     named-no (a .self) (now (a .volume)) (now (a .f)) false _ _ (c .before .before .before .named-why .ensures) (c .before .before .is-none .ensures) (c .before .if1 .taken) (c .refused .ensures)
 
-sub-good-name : tie.Need-sub-good-name
-sub-good-name c = search needs
+sub-new-name-why : tie.Need-sub-new-name-why
+sub-new-name-why c = search needs
 
-part-good-name-start : tie.Need-part-good-name-start
-part-good-name-start c = search needs
+part-new-name-why-start : tie.Need-part-new-name-why-start
+part-new-name-why-start c = search needs
 
-part-good-name-end : tie.Need-part-good-name-end
-part-good-name-end c = omega (arith, clear c .lent .block)
+part-new-name-why-end : tie.Need-part-new-name-why-end
+part-new-name-why-end c = omega (arith, clear c .lent .block)
 
-good-name-requires : tie.Need-good-name-requires
-good-name-requires c κs = search needs
+new-name-why-requires : tie.Need-new-name-why-requires
+new-name-why-requires c κs = search needs
 
 refuse-requires : tie.Need-refuse-requires
 refuse-requires c κs = search needs
-
-refuse-requires-2 : tie.Need-refuse-requires-2
-refuse-requires-2 c κs = search needs
 
 first-of-requires : tie.Need-first-of-requires
 first-of-requires c κs = search needs
@@ -71,7 +70,7 @@ part-rename-file-start : tie.Need-part-rename-file-start
 part-rename-file-start c = search needs
 
 part-rename-file-end : tie.Need-part-rename-file-end
-part-rename-file-end c = omega (arith, clear (c .before .before .before .before .before .before .before) .lent .block)
+part-rename-file-end c = omega (arith, clear (c .before .before .before .before .before .before) .lent .block)
 
 sub-rename-file-2 : tie.Need-sub-rename-file-2
 sub-rename-file-2 c = search needs
@@ -80,10 +79,10 @@ part-rename-file-start-2 : tie.Need-part-rename-file-start-2
 part-rename-file-start-2 c = search needs
 
 part-rename-file-end-2 : tie.Need-part-rename-file-end-2
-part-rename-file-end-2 c = omega (arith, clear (c .before .before .before .before .before .before .before .before) .lent .block)
+part-rename-file-end-2 c = omega (arith, clear (c .before .before .before .before .before .before .before) .lent .block)
 
 rename-file-requires : tie.Need-rename-file-requires
-rename-file-requires c κs = let l = clear (c .before .before .before .before .before .before .before .before .before) .lent in ((l .state .law, l .volume), (search needs, search needs))
+rename-file-requires c κs = let l = clear (c .before .before .before .before .before .before .before .before) .lent in ((l .state .law, l .volume), (search needs, search needs))
 
 answered-requires : tie.Need-answered-requires
 answered-requires c κs = search needs
@@ -94,14 +93,17 @@ same-length-2 c = search needs
 returns-2 : tie.Need-returns-2
 unfolding renameAct renameLadder changedState stored storedAll nameAt part
 returns-2 c =
-    let a = c .before .before .before .before .before .before .before .before .before .before .before .before .before .before .before .before .before .before .before .args in
+    let a = c .before .before .before .before .before .before .before .before .before .before .before .before .before .before .before .before .before .before .args in
     let d = a .self in
     let v = now (a .volume) in
     let f = now (a .f) in
     let m = c .before .before .before .rename-file in
     let t = isNone (m .result) in
-    named-decided d v f (clear (c .before .before .before .before .before .before .before .before .before .before .before .before .before)) 0 keeps (eachEntry (changed Rename (d .user) (nameOf f) (part f 17 11)) ∷ []) f _
-    (after-two Name Protected (not (goodName false (nameAt f 17))) (d .protected) (renameTests (d .geometry) v (d .user) (nameOf f) (newName f)) refl (c .before .before .before .before .before .before .before .before .before .before .refuse .ensures ∙ ap (λ (x : Bool). refusing Name (not x)) (c .before .before .before .before .before .before .before .before .before .before .before .good-name .ensures)) (c .before .before .before .before .before .before .before .before .before .refuse2 .ensures) (c .before .before .before .before .before .before .before .before .first-of .ensures) (m .ensures .0))
+    named-decided d v f (clear (c .before .before .before .before .before .before .before .before .before .before .before .before)) 0 keeps (eachEntry (changed Rename (d .user) (nameOf f) (part f 17 11)) ∷ []) f _
+    (after (badName false f 17 ∷ untypeable f 17 ∷ protectedDrive d ∷ []) (renameTests (d .geometry) v (d .user) (nameOf f) (newName f))
+    (after (badName false f 17 ∷ untypeable f 17 ∷ []) (protectedDrive d ∷ []) (c .before .before .before .before .before .before .before .before .before .before .new-name-why .ensures)
+    (c .before .before .before .before .before .before .before .before .first-of .ensures ∙ ap (first (c .before .before .before .before .before .before .before .before .before .before .new-name-why .result)) (c .before .before .before .before .before .before .before .before .before .refuse .ensures ∙ ladder-one Protected (d .protected) refl)))
+    (m .ensures .0))
     (either t d) (m .ensures .1) (either t f) (c .answered .ensures)
 
 pub rename-spec : {M : Type 1} → statement M
@@ -113,12 +115,11 @@ rename-spec =
     refused-requires
     same-length
     returns
-    sub-good-name
-    part-good-name-start
-    part-good-name-end
-    good-name-requires
+    sub-new-name-why
+    part-new-name-why-start
+    part-new-name-why-end
+    new-name-why-requires
     refuse-requires
-    refuse-requires-2
     first-of-requires
     sub-rename-file
     part-rename-file-start

@@ -1,7 +1,9 @@
 -- What is lent refuses, or the marking of the file decides, after the protection.
+use Rattle.filecalls.specs.Tests.{protectedDrive}
 use Rattle.filecalls.specs.Names.{attributesAct, attributesLadder}
 use Rattle.answers.specs.Refusal.{test, isNone}
 use Rattle.answers.specs.declared.Refusal.the-variants.{Protected, NoMatch}
+use Rattle.answers.proofs.Ladder.{ladder-one}
 use Rattle.naming.specs.declared.Edit.the-variants.{Attributes}
 use Rattle.naming.specs.Sweep.{changed}
 use Rattle.volume.specs.Directory.{findSlot}
@@ -10,7 +12,7 @@ use Rattle.volume.specs.declared.Wanted.the-variants.{File}
 use Rattle.lists.specs.Bytes.{part}
 use lib.Dec.{leb}
 use mathlib.Core.Bool.{false}
-use Rattle.filecalls.proofs.NamingLaws.{named-no, named-decided, after-one}
+use Rattle.filecalls.proofs.NamingLaws.{named-no, named-decided, after}
 use Rattle.filecalls.proofs.OutcomeLaws.{either}
 use Rattle.filecalls.proofs.StateLaws.{Named, named}
 use Rattle.filecalls.specs.Outcome.{keeps, eachEntry, changedState, stored, storedAll}
@@ -18,6 +20,7 @@ use Rattle.volume.specs.Name.{nameAt, nameOf}
 use denote.Ref.{now}
 use native.Mathlib.Omega.{arith}
 use mathlib.Core.List.{[], _∷_}
+use mathlib.Core.Path.{refl, _∙_}
 use borrow.Author.Needs.{needs}
 use Rattle.filecalls.proofs.Drive.set_attributes.Statement.{statement}
 use Rattle.filecalls.proofs.Drive.set_attributes.Tie as tie
@@ -75,7 +78,7 @@ returns-2 c =
     let m = c .before .before .before .mark-file in
     let t = isNone (m .result) in
     named-decided d v f (clear (c .before .before .before .before .before .before .before .before)) 0 keeps (eachEntry (changed Attributes (d .user) (nameOf f) (part f 1 11)) ∷ []) f _
-    (after-one Protected (d .protected) (test NoMatch (leb (slots (d .geometry)) (findSlot (d .geometry) v (d .user) (nameOf f) File)) ∷ []) (c .before .before .before .before .before .before .before .refuse .ensures) (m .ensures .0))
+    (after (protectedDrive d ∷ []) (test NoMatch (leb (slots (d .geometry)) (findSlot (d .geometry) v (d .user) (nameOf f) File)) ∷ []) (c .before .before .before .before .before .before .before .refuse .ensures ∙ ladder-one Protected (d .protected) refl) (m .ensures .0))
     (either t d) (m .ensures .1) (either t f) (c .answered .ensures)
 
 pub set-attributes-spec : {M : Type 1} → statement M
