@@ -396,9 +396,9 @@ static uint32_t position_of(const uint8_t *fcb)
 }
 
 // The record of a sequential or random call.
-static uint32_t test_record(const struct work *w, int lent, bool sequential, uint32_t *n)
+static uint32_t test_record(const struct work *w, bool sequential, uint32_t *n)
 {
-    uint32_t why = test_named(w, lent, false);
+    uint32_t why = test_named(w, VOLUME_LENT | FCB_LENT | BUFFER_LENT, false);
     if (why != 0)
         return why;
     if (!sequential) {
@@ -615,7 +615,7 @@ static uint32_t set_attributes(const struct work *w)
 
 static uint32_t read_record(const struct work *w, bool sequential)
 {
-    uint32_t n = 0, why = test_record(w, VOLUME_LENT | FCB_LENT | BUFFER_LENT, sequential, &n);
+    uint32_t n = 0, why = test_record(w, sequential, &n);
     if (why != 0)
         return why;
     uint32_t slot = find_group(w, w->fcb + 1, n / 128 >> w->g.extent_shift);
@@ -650,9 +650,10 @@ static void grow(uint8_t *e, uint32_t n)
 }
 
 // One pass over the directory finds the file's lowest entry, the group's entry, the lowest empty slot, and a read-only entry.
-static uint32_t write_record(const struct work *w, bool sequential, const uint8_t *bytes, int lent)
+// Function 40 fills a block that it gives.
+static uint32_t write_record(const struct work *w, bool sequential, bool fills)
 {
-    uint32_t n = 0, why = test_record(w, lent, sequential, &n);
+    uint32_t n = 0, why = test_record(w, sequential, &n);
     if (why != 0)
         return why;
     if (w->drive[D_PROTECTED])
@@ -681,7 +682,9 @@ static uint32_t write_record(const struct work *w, bool sequential, const uint8_
         return NO_SLOT;
     if (fresh && (block = free_block(w)) == w->g.total)
         return NO_BLOCK;
-    memcpy(w->volume + record_at(&w->g, block, n), bytes, RECORD);
+    if (fresh && fills)
+        memset(w->volume + record_at(&w->g, block, 0), 0, w->g.block);
+    memcpy(w->volume + record_at(&w->g, block, n), w->buffer, RECORD);
     if (own == NULL) {
         own = empty;
         memcpy(own, first, EX);
@@ -749,7 +752,6 @@ static uint32_t protect(const struct work *w)
 uint32_t plain_call(uint8_t function, uint8_t parameter, uint8_t *drive, size_t drive_bytes, uint8_t *volume,
                     size_t volume_bytes, uint8_t *fcb, size_t fcb_bytes, uint8_t *buffer, size_t buffer_bytes)
 {
-    static const uint8_t zeros[RECORD];
     struct work w = {.volume = volume, .fcb = fcb, .buffer = buffer,
                      .volume_bytes = volume_bytes, .fcb_bytes = fcb_bytes, .buffer_bytes = buffer_bytes};
     if (!take_drive(&w, drive, drive_bytes))
@@ -763,17 +765,17 @@ uint32_t plain_call(uint8_t function, uint8_t parameter, uint8_t *drive, size_t 
     case 18: return search_next(&w);
     case 19: return delete_files(&w);
     case 20: return read_record(&w, true);
-    case 21: return write_record(&w, true, buffer, VOLUME_LENT | FCB_LENT | BUFFER_LENT);
+    case 21: return write_record(&w, true, false);
     case 22: return make_file(&w);
     case 23: return rename_file(&w);
     case 28: return protect(&w);
     case 30: return set_attributes(&w);
     case 32: return user_code(&w, parameter);
     case 33: return read_record(&w, false);
-    case 34: return write_record(&w, false, buffer, VOLUME_LENT | FCB_LENT | BUFFER_LENT);
+    case 34: return write_record(&w, false, false);
     case 35: return file_size(&w);
     case 36: return set_random_record(&w);
-    case 40: return write_record(&w, false, zeros, VOLUME_LENT | FCB_LENT);
+    case 40: return write_record(&w, false, true);
     default: return NOT_SERVED;
     }
 }

@@ -46,7 +46,7 @@ enum {
     CHURAWEL_SIZE = 35,
     CHURAWEL_SET_RANDOM = 36,
     CHURAWEL_RESET_DRIVE = 37,      /* as 13 */
-    CHURAWEL_EMPTY_RECORD = 40
+    CHURAWEL_WRITE_ZERO_FILL = 40   /* as 34, but a block given for the first time is first filled with zeros */
 };
 
 /*

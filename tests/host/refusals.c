@@ -9,7 +9,7 @@ static void lengths(void)
 {
     static const uint8_t volume[] = {15, 16, 17, 18, 19, 20, 21, 22, 23, 30, 33, 34, 35, 40};
     static const uint8_t block[] = {15, 16, 17, 19, 20, 21, 22, 23, 30, 33, 34, 35, 36, 40};
-    static const uint8_t buffer[] = {17, 18, 20, 21, 33, 34};
+    static const uint8_t buffer[] = {17, 18, 20, 21, 33, 34, 40};
     some_files();
     block_for(DRAFT);
     now.fcb[0] = 9;
@@ -55,7 +55,7 @@ static void not_lent(void)
     int good = 1;
     for (size_t i = 0; i < sizeof no_buffer; i++)
         good &= holds(no_buffer[i], 0, 255);
-    verdict("15, 16, 19, 23, 30 and 35 look at no buffer", good && holds(40, 0, 3));
+    verdict("15, 16, 19, 23, 30 and 35 look at no buffer", good);
     lent.fcb = 0;
     verdict("13 and 37 look at no control block and no buffer", holds(13, 0, 20u << 16) && holds(37, 0, 20u << 16));
     lent.buffer = RECORD;

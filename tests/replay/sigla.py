@@ -41,13 +41,17 @@ call(20, 0, block=fcb(cr=1), buffer=ZERO, block_after=fcb(rc=21, blocks=[1, 0, 2
 # Sequential write with cr 128: record 128. 129 is 40.
 call(21, 0, block=fcb(cr=128), buffer=D, block_after=fcb(ex=1, rc=1, blocks=[3], cr=1), buffer_after=D)
 refused(21, 40, fcb(cr=129), D)
-# Function 40: record 129 becomes zeros and counts as written; no buffer is lent.
-call(40, 0, block=fcb(r=129), buffer=B, block_after=fcb(ex=1, rc=2, blocks=[3], cr=1, r=129))
+# Function 40 writes record 129 in block 3, which was given before: its other records stay.
+refused(40, 35, fcb(r=129), B[:127])
+call(40, 0, block=fcb(r=129), buffer=B, block_after=fcb(ex=1, rc=2, blocks=[3], cr=1, r=129), buffer_after=B)
+# It writes record 138, for which block 4 is given: the block's other records become zeros. Read 137: present.
+call(40, 0, block=fcb(r=138), buffer=A, block_after=fcb(ex=1, rc=11, blocks=[3, 4], cr=10, r=138), buffer_after=A)
+call(33, 0, block=fcb(r=137), buffer=D, block_after=fcb(ex=1, rc=11, blocks=[3, 4], cr=9, r=137), buffer_after=ZERO)
 # Set random record: 128 + 2. Close of extent 1: slot 1.
 call(36, 0, block=fcb(ex=1, cr=2), block_after=fcb(ex=1, cr=2, r=130))
 call(16, 1, block=fcb(ex=1), block_after=fcb(ex=1))
 # Search: both entries stand in directory record 0, next is lent no control block, and then there is none.
-directory = entry(SIGLA, 0, 21, [1, 0, 2]) + entry(SIGLA, 1, 2, [3]) + bytes([0xE5]) * 64
+directory = entry(SIGLA, 0, 21, [1, 0, 2]) + entry(SIGLA, 1, 11, [3, 4]) + bytes([0xE5]) * 64
 pattern = fcb(name=b"????????TXT", ex=0x3F)
 call(17, 0, block=pattern, buffer=ZERO, block_after=pattern, buffer_after=directory)
 call(18, 1, buffer=ZERO, buffer_after=directory)
@@ -63,10 +67,10 @@ locked = b"SIGLA   \xD4XT"
 call(30, 0, block=fcb(name=locked), block_after=fcb(name=locked))
 refused(34, 38, fcb(), A)
 refused(19, 38, fcb(name=b"???????????"))
-# Protected until the next log-in, which finds three blocks held.
+# Protected until the next log-in, which finds four blocks held.
 call(28, 0)
 refused(22, 37, fcb(name=b"LEMMATA TXT"))
-call(37, 0, value=36)
+call(37, 0, value=35)
 # Lengths, drive code, name.
 refused(15, 34, fcb()[:35])
 refused(33, 35, fcb(), ZERO[:127])
@@ -75,13 +79,18 @@ refused(15, 39, fcb(name=b" IGLA   TXT"))
 # Nothing lent at all.
 call(15, 34, block_after=b"")
 
-# What the run has changed. Bytes at 1,024 are record 8, at 2,560 record 20, block 3 is record 24 and those behind it.
+# What the run has changed. Bytes at 1,024 are record 8, at 2,560 record 20, block 3 is record 24 and those behind it, block
+# 4 records 32 to 39.
 changed = {
-    0: entry(locked, 0, 21, [1, 0, 2]) + entry(locked, 1, 2, [3]) + bytes([0xE5]) * 64,
+    0: entry(locked, 0, 21, [1, 0, 2]) + entry(locked, 1, 11, [3, 4]) + bytes([0xE5]) * 64,
     8: A,
     20: B,
     24: D,
-    25: ZERO,
+    25: B,
+    32: ZERO,
+    33: ZERO,
+    34: A,
+    **{number: ZERO for number in range(35, 40)},
     319: EMPTY[:127] + b"Y",
 }
 sigla.end(changed)

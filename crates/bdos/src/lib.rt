@@ -26,7 +26,7 @@ pub enum Call {
     WriteRandom,
     Size,
     SetRandom,
-    EmptyRecord,
+    WriteZeroFill,
     Unserved,
 }
 
@@ -52,7 +52,7 @@ fn call_of(function: u8) -> Call
         34 => Call::WriteRandom,
         35 => Call::Size,
         36 => Call::SetRandom,
-        40 => Call::EmptyRecord,
+        40 => Call::WriteZeroFill,
         _ => Call::Unserved,
     }
 }
@@ -87,7 +87,7 @@ fn serve(
         Call::WriteRandom => drive.write_random(volume, f, buffer),
         Call::Size => drive.file_size(volume, f),
         Call::SetRandom => drive.set_random(f),
-        Call::EmptyRecord => drive.empty_record(volume, f),
+        Call::WriteZeroFill => drive.write_zero_fill(volume, f, buffer),
         Call::Unserved => drive.refused(Refusal::NotServed),
     }
 }

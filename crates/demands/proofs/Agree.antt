@@ -1,6 +1,7 @@
 -- Two states that differ in the held blocks alone, and hold the same of the blocks from D to T-1, answer every call alike
 -- and leave the same volume: a call looks at the held blocks only where a write is given a block.
 use mathlib.Core.Path.{_≡_, refl}
+use mathlib.Core.Bool.{Bool}
 use mathlib.Core.List.{List, []}
 use Prim.Native.Nat.{ℕ, _≤_, _<_}
 use Rattle.volume.specs.declared.Geometry.{Geometry}
@@ -17,11 +18,11 @@ use Rattle.filecalls.specs.Open.{openTests, openAct, closeTests, closeAct, size
 use Rattle.filecalls.specs.Search.{firstTests, searchFirstAct, newSearch, shown, nextTests, searchNextAct}
 use Rattle.filecalls.specs.Names.{deleteLadder, deleteAct, makeLadder, makeAct, renameLadder, renameAct, attributesLadder, attributesAct}
 use Rattle.filecalls.specs.Read.{sequentialTests, randomTests, readDone, readSequentialAct, readRandomAct}
-use Rattle.filecalls.specs.Write.{writeEntry, writeChange, writeDone, writeSequentialAct, writeRandomAct, emptyTests, emptyRecordAct}
+use Rattle.filecalls.specs.Write.{writeEntry, writeChange, writeDone, writeSequentialAct, writeRandomAct, writeZeroFillAct}
 use Rattle.filecalls.specs.Small.{protectTests, protectAct, userTests, userAct, setRandomTests, setRandomAct}
 use Rattle.filecalls.specs.Outcome.{Change, keeps, takes, frees, protects, becomes, searches, Act, deny, done, changedState, withHeld, Outcome, outcome}
 use Rattle.bdos.specs.declared.Call.{Call}
-use Rattle.bdos.specs.declared.Call.the-variants.{LogIn, Open, Close, SearchFirst, SearchNext, Delete, ReadSequential, WriteSequential, Make, Rename, Protect, Attributes, User, ReadRandom, WriteRandom, Size, SetRandom, EmptyRecord, Unserved}
+use Rattle.bdos.specs.declared.Call.the-variants.{LogIn, Open, Close, SearchFirst, SearchNext, Delete, ReadSequential, WriteSequential, Make, Rename, Protect, Attributes, User, ReadRandom, WriteRandom, Size, SetRandom, WriteZeroFill, Unserved}
 use Rattle.bdos.specs.Step.{keepsBuffer, keepsBlock, keepsVolume, does}
 
 -- two outcomes alike, but for the held blocks
@@ -61,9 +62,9 @@ module _ (d : Drive) (k v : List ℕ) (same : (b : ℕ) → d .geometry .directo
   unfolding writeTests
   tests-alike u name n = rw (given (baseEntry (d .geometry) v u name n) (placeOf (d .geometry) n))
 
-  done-alike : (f : List ℕ) (n cr : ℕ) (r b : List ℕ) → writeDone (withHeld d k) v f n cr r b ≡ writeDone d v f n cr r b
+  done-alike : (f : List ℕ) (n cr : ℕ) (fills : Bool) (b : List ℕ) → writeDone (withHeld d k) v f n cr fills b ≡ writeDone d v f n cr fills b
   unfolding writeDone writeEntry writeChange
-  done-alike f n cr r b = rw (block-alike (d .user) (nameOf f) n)
+  done-alike f n cr fills b = rw (block-alike (d .user) (nameOf f) n)
 
   sequential-alike : (f b : List ℕ) → writeSequentialAct (withHeld d k) v f b ≡ writeSequentialAct d v f b
   unfolding writeSequentialAct sequentialTests isOpen
@@ -73,9 +74,9 @@ module _ (d : Drive) (k v : List ℕ) (same : (b : ℕ) → d .geometry .directo
   unfolding writeRandomAct randomTests isOpen
   random-alike f b = simp (done-alike, tests-alike)
 
-  empty-alike : (f : List ℕ) → emptyRecordAct (withHeld d k) v f ≡ emptyRecordAct d v f
-  unfolding emptyRecordAct emptyTests isOpen
-  empty-alike f = simp (done-alike, tests-alike)
+  zero-fill-alike : (f b : List ℕ) → writeZeroFillAct (withHeld d k) v f b ≡ writeZeroFillAct d v f b
+  unfolding writeZeroFillAct randomTests isOpen
+  zero-fill-alike f b = simp (done-alike, tests-alike)
 
 -- ---- every call
 module _ (d : Drive) (k v f b : List ℕ) where
@@ -168,5 +169,5 @@ module _ (d : Drive) (k v f b : List ℕ) where
     does-alike g WriteRandom p = by-act v f b (random-alike d k v same f b)
     does-alike g Size p = buffer-kept (by-act v f [] size-alike)
     does-alike g SetRandom p = volume-kept (buffer-kept (by-act [] f [] set-random-alike))
-    does-alike g EmptyRecord p = buffer-kept (by-act v f [] (empty-alike d k v same f))
+    does-alike g WriteZeroFill p = by-act v f b (zero-fill-alike d k v same f b)
     does-alike g Unserved p = outcome-alike d k v f b (deny NotServed)

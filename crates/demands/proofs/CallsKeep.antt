@@ -29,7 +29,7 @@ use Rattle.filecalls.specs.Read.{sequentialTests, randomTests, readDone, readSe
 use Rattle.filecalls.specs.Small.{protectTests, protectAct, userTests, userAct, setRandomTests, setRandomAct}
 use Rattle.filecalls.specs.Outcome.{keeps, protects, becomes, Store, Act, deny, done, unless, changedState, Outcome, outcome, left}
 use Rattle.bdos.specs.declared.Call.{Call}
-use Rattle.bdos.specs.declared.Call.the-variants.{LogIn, Open, Close, SearchFirst, SearchNext, Delete, ReadSequential, WriteSequential, Make, Rename, Protect, Attributes, User, ReadRandom, WriteRandom, Size, SetRandom, EmptyRecord, Unserved}
+use Rattle.bdos.specs.declared.Call.the-variants.{LogIn, Open, Close, SearchFirst, SearchNext, Delete, ReadSequential, WriteSequential, Make, Rename, Protect, Attributes, User, ReadRandom, WriteRandom, Size, SetRandom, WriteZeroFill, Unserved}
 use Rattle.bdos.specs.Step.{keepsBuffer, keepsBlock, keepsVolume}
 use Rattle.bdos.specs.Step as door
 use Rattle.demands.specs.Demand3.{Bytes, names}
@@ -37,7 +37,7 @@ use Rattle.demands.proofs.Orderly.{Orderly}
 use Rattle.demands.proofs.Inspected.{sound-accepted, held-of}
 use Rattle.demands.proofs.Acts.{Consistent, Keeps, denied, does, keeps-unless, still, still-search, StepKeeps, outcome-keeps, leaves-all}
 use Rattle.demands.proofs.MakeKeeps.{make-keeps}
-use Rattle.demands.proofs.WritesKeep.{write-sequential-keeps, write-random-keeps, empty-record-keeps}
+use Rattle.demands.proofs.WritesKeep.{write-sequential-keeps, write-random-keeps, write-zero-fill-keeps}
 use Rattle.demands.proofs.DeleteKeeps.{delete-keeps}
 use Rattle.demands.proofs.RenameKeeps.{rename-keeps}
 use Rattle.demands.proofs.AttributesKeep.{attributes-keep}
@@ -162,5 +162,5 @@ module _ (g : Geometry) (p : ℕ) (d : Drive) (v f b : List ℕ) (same : d .geom
   does-keeps WriteRandom = outcome-keeps _ d v f b _ c (write-random-keeps d v f b c small)
   does-keeps Size = buffer-kept b (outcome-keeps Nothing d v f [] (sizeAct d v f) c (size-keeps d v f b c))
   does-keeps SetRandom = buffer-kept b (small-keeps Nothing d v [] f [] (setRandomAct d f) c (set-random-small d f))
-  does-keeps EmptyRecord = buffer-kept b (outcome-keeps _ d v f [] _ c (empty-record-keeps d v f b c small))
+  does-keeps WriteZeroFill = outcome-keeps _ d v f b _ c (write-zero-fill-keeps d v f b c small)
   does-keeps Unserved = outcome-keeps Nothing d v f b (deny NotServed) c denied

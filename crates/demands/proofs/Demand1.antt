@@ -30,11 +30,11 @@ use Rattle.filecalls.specs.Open.{openTests, openAct, closeTests, closeAct, size
 use Rattle.filecalls.specs.Search.{firstTests, searchFirstAct, nextTests, searchNextAct, shown}
 use Rattle.filecalls.specs.Names.{deleteLadder, deleteAct, makeLadder, makeAct, renameLadder, renameAct, attributesLadder, attributesAct}
 use Rattle.filecalls.specs.Read.{sequentialTests, randomTests, readDone, readSequentialAct, readRandomAct}
-use Rattle.filecalls.specs.Write.{emptyTests, writeDone, writeSequentialAct, writeRandomAct, emptyRecordAct}
+use Rattle.filecalls.specs.Write.{writeDone, writeSequentialAct, writeRandomAct, writeZeroFillAct}
 use Rattle.filecalls.specs.Small.{protectTests, protectAct, userTests, userAct, setRandomTests, setRandomAct}
 use Rattle.filecalls.proofs.StateLaws.{is-open}
 use Rattle.bdos.specs.declared.Call.{Call}
-use Rattle.bdos.specs.declared.Call.the-variants.{LogIn, Open, Close, SearchFirst, SearchNext, Delete, ReadSequential, WriteSequential, Make, Rename, Protect, Attributes, User, ReadRandom, WriteRandom, Size, SetRandom, EmptyRecord, Unserved}
+use Rattle.bdos.specs.declared.Call.the-variants.{LogIn, Open, Close, SearchFirst, SearchNext, Delete, ReadSequential, WriteSequential, Make, Rename, Protect, Attributes, User, ReadRandom, WriteRandom, Size, SetRandom, WriteZeroFill, Unserved}
 use Rattle.bdos.specs.Step.{Asked, does, step}
 use Rattle.demands.specs.Order.{paperTable, numbersOf, reasons, inOrder, testsOf, refusalsOf, codesOf}
 use Rattle.demands.specs.Demand1.{call, tests, answer, Leaves, among, Demand1}
@@ -87,9 +87,7 @@ call-kept g Size p d v f b n h =
 call-kept g SetRandom p d v f b n h =
     let k = kept d [] f [] (setRandomAct d f) h in
     record { state-is = k .state-is; volume-kept = refl; block-kept = k .block-kept; buffer-kept = refl }
-call-kept g EmptyRecord p d v f b n h =
-    let k = kept d v f [] (emptyRecordAct d v f) h in
-    record { state-is = k .state-is; volume-kept = k .volume-kept; block-kept = k .block-kept; buffer-kept = refl }
+call-kept g WriteZeroFill p d v f b n h = kept d v f b (writeZeroFillAct d v f b) h
 call-kept g Unserved p d v f b n h = kept d v f b (deny NotServed) h
 
 -- ---- a refused log-in
@@ -153,7 +151,7 @@ unserved-says d v f b = record { met = λ e. (refl, refl); none = λ e. absurd (
 
 module _ (g : Geometry) (p : ℕ) (d : Drive) (v f b : List ℕ) where
   pub call-says : (k : Call) → Says (does g k p d v f b .answer) (testsOf g k p d v f b) (codesOf k)
-  unfolding does openAct closeAct sizeAct searchFirstAct searchNextAct shown deleteAct makeAct renameAct attributesAct readSequentialAct readRandomAct readDone writeSequentialAct writeRandomAct emptyRecordAct writeDone protectAct setRandomAct
+  unfolding does openAct closeAct sizeAct searchFirstAct searchNextAct shown deleteAct makeAct renameAct attributesAct readSequentialAct readRandomAct readDone writeSequentialAct writeRandomAct writeZeroFillAct writeDone protectAct setRandomAct
   call-says LogIn = log-in-says g v
   call-says Open = says d v f [] (testsOf g Open p d v f b) 4 _ _ _ _ _ (λ e. code-lt _)
   call-says Close = says d v f [] (testsOf g Close p d v f b) 4 _ _ _ _ _ (λ e. code-lt _)
@@ -171,7 +169,7 @@ module _ (g : Geometry) (p : ℕ) (d : Drive) (v f b : List ℕ) where
   call-says WriteRandom = says d v f b (testsOf g WriteRandom p d v f b) 1 _ _ _ _ _ (λ e. omega arith)
   call-says Size = says d v f [] (testsOf g Size p d v f b) 1 _ _ _ _ _ (λ e. omega arith)
   call-says SetRandom = says d [] f [] (testsOf g SetRandom p d v f b) 1 _ _ _ _ _ (λ e. omega arith)
-  call-says EmptyRecord = says d v f [] (testsOf g EmptyRecord p d v f b) 1 _ _ _ _ _ (λ e. omega arith)
+  call-says WriteZeroFill = says d v f b (testsOf g WriteZeroFill p d v f b) 1 _ _ _ _ _ (λ e. omega arith)
   call-says Unserved = unserved-says d v f b
 
 -- the first test that is met is one of the tests
@@ -190,7 +188,7 @@ number-among (t ∷ ts) h = go (t .met) (isNone (t .why)) refl h (number-among t
 
 -- ---- the order of tests, by computation
 tests-are : (g : Geometry) (k : Call) (p : ℕ) (d : Drive) (v f b : List ℕ) → reasons (testsOf g k p d v f b) ≡ refusalsOf k
-unfolding logInTests openTests closeTests sizeTests firstTests nextTests deleteLadder deleteTests makeLadder makeTests renameLadder renameTests attributesLadder sequentialTests randomTests readTests emptyTests writeTests protectTests userTests setRandomTests
+unfolding logInTests openTests closeTests sizeTests firstTests nextTests deleteLadder deleteTests makeLadder makeTests renameLadder renameTests attributesLadder sequentialTests randomTests readTests writeTests protectTests userTests setRandomTests
 tests-are g LogIn p d v f b = refl
 tests-are g Open p d v f b = refl
 tests-are g Close p d v f b = refl
@@ -208,7 +206,7 @@ tests-are g ReadRandom p d v f b = refl
 tests-are g WriteRandom p d v f b = refl
 tests-are g Size p d v f b = refl
 tests-are g SetRandom p d v f b = refl
-tests-are g EmptyRecord p d v f b = refl
+tests-are g WriteZeroFill p d v f b = refl
 tests-are g Unserved p d v f b = refl
 
 in-table-order : (k : Call) → k ≢ Unserved → inOrder (refusalsOf k) paperTable ≡ true
@@ -229,7 +227,7 @@ in-table-order ReadRandom n = refl
 in-table-order WriteRandom n = refl
 in-table-order Size n = refl
 in-table-order SetRandom n = refl
-in-table-order EmptyRecord n = refl
+in-table-order WriteZeroFill n = refl
 in-table-order Unserved n = absurd (n refl)
 
 -- ---- all together

@@ -38,14 +38,13 @@ use Rattle.filecalls.specs.Outcome.{Outcome, left}
 use Rattle.filecalls.specs.State.{isOpen, loggedIn}
 use Rattle.filecalls.specs.LogIn.{logInTests, logIn}
 use Rattle.filecalls.specs.Read.{sequentialTests, randomTests}
-use Rattle.filecalls.specs.Write.{emptyTests}
 use Rattle.filecalls.proofs.StateLaws.{is-open}
 use Rattle.bdos.specs.declared.Call.{Call}
 use Rattle.bdos.specs.declared.Call.the-variants.{LogIn}
 use Rattle.bdos.specs.Step.{Asked, does, step}
 use Rattle.demands.specs.Order.{testsOf, codesOf}
 use Rattle.demands.specs.Demand1.{call, tests, answer}
-use Rattle.demands.specs.Demand2.{Writes, sequential, direct, empty, Reads, earlier, NoneFree, Sound, Present, Same, Demand2}
+use Rattle.demands.specs.Demand2.{Writes, sequential, direct, zero-filling, Reads, earlier, NoneFree, Sound, Present, Same, Demand2}
 use Rattle.demands.proofs.Demand1.{log-in-says, step-says, was-none}
 use Rattle.demands.proofs.Demand2Apart.{Apart, inspected}
 use Rattle.demands.proofs.Demand2Writes.{stores, others}
@@ -72,21 +71,21 @@ noneLeft d v f n =
 module _ (g : Geometry) (p : ℕ) (d : Drive) (v f b : List ℕ) where
   last-test : {k : Call} {n : ℕ} {r : List ℕ} → Writes f b k n r
       → testsOf g k p d v f b ≡ earlier (testsOf g k p d v f b) ++ (test NoBlock (noneLeft d v f n) ∷ [])
-  unfolding sequentialTests randomTests emptyTests writeTests
+  unfolding sequentialTests randomTests writeTests
   last-test sequential = refl
   last-test direct = refl
-  last-test empty = refl
+  last-test zero-filling = refl
 
   open-state : {k : Call} {n : ℕ} {r : List ℕ} → Writes f b k n r → isNone (firstMet (earlier (testsOf g k p d v f b))) ≡ true → isOpen d ≡ true
-  unfolding sequentialTests randomTests emptyTests writeTests
+  unfolding sequentialTests randomTests writeTests
   open-state sequential e = not-false (isOpen d) (unmet Closed _ _ refl e .0)
   open-state direct e = not-false (isOpen d) (unmet Closed _ _ refl e .0)
-  open-state empty e = not-false (isOpen d) (unmet Closed _ _ refl e .0)
+  open-state zero-filling e = not-false (isOpen d) (unmet Closed _ _ refl e .0)
 
   one-code : {k : Call} {n : ℕ} {r : List ℕ} → Writes f b k n r → codesOf k ≡ 1
   one-code sequential = refl
   one-code direct = refl
-  one-code empty = refl
+  one-code zero-filling = refl
 
   -- where the tests before it pass, the last decides
   last-decides : {k : Call} {n : ℕ} {r : List ℕ} → Writes f b k n r → isNone (firstMet (earlier (testsOf g k p d v f b))) ≡ true

@@ -132,9 +132,9 @@ module _ (g : Geometry) (held v : List ℕ) (u : ℕ) (name : List ℕ) (n : ℕ
         go false e = other (a .once i p (writeSlot g v u name n) (placeOf g n) at (has-group e .place-at) nz (q ∙ own-block e))
 
     -- ---- after the write
-    module _ (r : List ℕ) (r128 : length r ≡ 128) where
+    module _ (fills : Bool) (r : List ℕ) (r128 : length r ≡ 128) where
       abbrev after : List ℕ
-      after = volumeAfter g held v u name n r
+      after = volumeAfter g held v u name n fills r
 
       abbrev before : ℕ → ℕ → ℕ
       before i p = blockIn g (slotAt g v i) p
@@ -143,7 +143,7 @@ module _ (g : Geometry) (held v : List ℕ) (u : ℕ) (name : List ℕ) (n : ℕ
       now i p = blockIn g (slotAt g after i) p
 
       here : now (writeSlot g v u name n) (placeOf g n) ≡ writeBlock g held v u name n
-      here = ap (λ (e : Entry). blockIn g e (placeOf g n)) (after-slot g held v u name n good size passed r r128) ∙ after-block g held v u name n good size passed
+      here = ap (λ (e : Entry). blockIn g e (placeOf g n)) (after-slot g held v u name n good size passed fills r r128) ∙ after-block g held v u name n good size passed
 
       -- a place that is as it was
       record Kept (i p : ℕ) : Type 0 where
@@ -160,7 +160,7 @@ module _ (g : Geometry) (held v : List ℕ) (u : ℕ) (name : List ℕ) (n : ℕ
             where
               grown-same : now i p ≡ blockIn g (baseEntry g v u name n) p
               grown-same =
-                  ap (λ (j : ℕ). now j p) e ∙ ap (λ (x : Entry). blockIn g x p) (after-slot g held v u name n good size passed r r128)
+                  ap (λ (j : ℕ). now j p) e ∙ ap (λ (x : Entry). blockIn g x p) (after-slot g held v u name n good size passed fills r r128)
                   ∙ written-other g (baseEntry g v u name n) n (writeBlock g held v u name n) p k
 
               at-group : (t : Bool) → hasGroup g v u name n ≡ t → Kept i p
@@ -176,7 +176,7 @@ module _ (g : Geometry) (held v : List ℕ) (u : ℕ) (name : List ℕ) (n : ℕ
 
           elsewhere : i ≢ writeSlot g v u name n → Kept i p
           elsewhere k =
-              let s = after-slot-other g held v u name n good size passed r r128 i (at .slot) k in
+              let s = after-slot-other g held v u name n good size passed fills r r128 i (at .slot) k in
               record {
                 at = record { slot = at .slot; used = sym (ap isEmpty s) ∙ at .used; place = at .place };
                 same = ap (λ (e : Entry). blockIn g e p) s;
@@ -253,5 +253,5 @@ module _ (g : Geometry) (held v : List ℕ) (u : ℕ) (name : List ℕ) (n : ℕ
           kept : Kept i p → holds (heldAfter g held v u name n) (now i p) ≡ true
           kept k = still-held (now i p) (kept-apart i p nz k) (ap (holds held) (k .same) ∙ a .held-is i p (k .at) (λ z. nz (k .same ∙ z)))
 
-      pub apart-after : Apart g (heldAfter g held v u name n) (volumeAfter g held v u name n r)
+      pub apart-after : Apart g (heldAfter g held v u name n) (volumeAfter g held v u name n fills r)
       apart-after = record { four = still-four; range = range-after; once = once-after; held-is = held-after }

@@ -60,17 +60,17 @@ pub record Stays (g : Geometry) (v w : List ℕ) (u : ℕ) (name : List ℕ) (m 
   pub same-bytes : readBytes g w u name m ≡ readBytes g v u name m
 
 module _ (g : Geometry) (held v : List ℕ) (u : ℕ) (name : List ℕ) (n : ℕ) (good : lawful g ≡ true) (size : length v ≡ bytes g) (u15 : u ≤ 15)
-    (passed : isNone (firstMet (writeTests g held v u name n)) ≡ true) (r : List ℕ) (r128 : length r ≡ 128) where
+    (passed : isNone (firstMet (writeTests g held v u name n)) ≡ true) (fills : Bool) (r : List ℕ) (r128 : length r ≡ 128) where
   abbrev after : List ℕ
-  after = volumeAfter g held v u name n r
+  after = volumeAfter g held v u name n fills r
 
   -- the record that is written
   pub bytes-after : readBytes g after u name n ≡ r
   unfolding readBytes readBlock
   bytes-after =
-      let s = ap (slotAt g after) (after-recordSlot g held v u name n good size passed r r128) ∙ after-slot g held v u name n good size passed r r128 in
+      let s = ap (slotAt g after) (after-recordSlot g held v u name n good size passed fills r r128) ∙ after-slot g held v u name n good size passed fills r r128 in
       let b : recordBlock g (slotAt g after (recordSlot g after u name n)) n ≡ writeBlock g held v u name n = ap (λ (e : Entry). recordBlock g e n) s ∙ after-block g held v u name n good size passed in
-      ap (λ (x : ℕ). recordAt g after x n) b ∙ after-record g held v u name n good size passed r r128
+      ap (λ (x : ℕ). recordAt g after x n) b ∙ after-record g held v u name n good size passed fills r r128
 
   module _ (a : Apart g held v) (m : ℕ) (ne : m ≢ n) (p : Present g v u name m) where
     abbrev i : ℕ
@@ -97,7 +97,7 @@ module _ (g : Geometry) (held v : List ℕ) (u : ℕ) (name : List ℕ) (n : ℕ
         → recordAt g after (recordBlock g (slotAt g v i) m) m ≡ recordAt g v (recordBlock g (slotAt g v i) m) m
     other-block k =
         let l = a .range i (placeOf g m) at not-zero in
-        after-record-other g held v u name n good size passed r r128 (recordBlock g (slotAt g v i) m) m (l .0) (l .1)
+        after-record-other g held v u name n good size passed fills r r128 (recordBlock g (slotAt g v i) m) m (l .0) (l .1)
         (block-apart g held v u name n good size u15 passed a i (placeOf g m) at not-zero k)
 
     -- ---- a record of the same group: of the same entry
@@ -116,10 +116,10 @@ module _ (g : Geometry) (held v : List ℕ) (u : ℕ) (name : List ℕ) (n : ℕ
       entry-is = own g held v u name n good size u15 passed has .entry-is ∙ ap (slotAt g v) (sym (same-slot v))
 
       slot-now : recordSlot g after u name m ≡ writeSlot g v u name n
-      slot-now = same-slot after ∙ after-recordSlot g held v u name n good size passed r r128
+      slot-now = same-slot after ∙ after-recordSlot g held v u name n good size passed fills r r128
 
       entry-now : slotAt g after (recordSlot g after u name m) ≡ entryAfter g held v u name n
-      entry-now = ap (slotAt g after) slot-now ∙ after-slot g held v u name n good size passed r r128
+      entry-now = ap (slotAt g after) slot-now ∙ after-slot g held v u name n good size passed fills r r128
 
       count-now : m % 128 < countOf (slotAt g after (recordSlot g after u name m)) (m / 128)
       count-now =
@@ -155,7 +155,9 @@ module _ (g : Geometry) (held v : List ℕ) (u : ℕ) (name : List ℕ) (n : ℕ
             ∙ ap (λ (j : ℕ). blockIn g (slotAt g v j) (placeOf g n)) (sym slot-is) ∙ ap (blockIn g (slotAt g v i)) (sym q)
 
         within : recordAt g after (recordBlock g (slotAt g v i) m) m ≡ recordAt g v (recordBlock g (slotAt g v i) m) m
-        within = rw (← block-is) (after-record-within g held v u name n good size passed r r128 m (λ z. ne (same-record g good m n e q z)))
+        within =
+            rw (← block-is)
+            (after-record-within g held v u name n good size passed fills r r128 m (λ z. ne (same-record g good m n e q z)) ∙ rw (no-need, and-false))
 
         same-place : Stays g v after u name m
         same-place =
@@ -191,7 +193,7 @@ module _ (g : Geometry) (held v : List ℕ) (u : ℕ) (name : List ℕ) (n : ℕ
                   rw s (found-fits g v u name Empty (omega (arith, s, write-passed g held v u name n passed .slot-in)))
 
       entry-same : slotAt g after i ≡ slotAt g v i
-      entry-same = after-slot-other g held v u name n good size passed r r128 i (p .slot) other-slot
+      entry-same = after-slot-other g held v u name n good size passed fills r r128 i (p .slot) other-slot
 
       written-group : groupOf g (extent (entryAfter g held v u name n)) ≡ groupOf g (n / 128)
       unfolding ofGroup
@@ -209,8 +211,8 @@ module _ (g : Geometry) (held v : List ℕ) (u : ℕ) (name : List ℕ) (n : ℕ
       unfolding recordSlot
       none-before j h = elim (ℕ-discrete j (writeSlot g v u name n)) [
         | yes z ↦ ap (λ (x : ℕ). ofGroup g u name (groupOf g (m / 128)) (slotAt g after x)) z
-            ∙ ap (ofGroup g u name (groupOf g (m / 128))) (after-slot g held v u name n good size passed r r128) ∙ not-written
-        | no z ↦ ap (ofGroup g u name (groupOf g (m / 128))) (after-slot-other g held v u name n good size passed r r128 j (omega (arith, p .slot)) z)
+            ∙ ap (ofGroup g u name (groupOf g (m / 128))) (after-slot g held v u name n good size passed fills r r128) ∙ not-written
+        | no z ↦ ap (ofGroup g u name (groupOf g (m / 128))) (after-slot-other g held v u name n good size passed fills r r128 j (omega (arith, p .slot)) z)
             ∙ found-first g v u name (Group (groupOf g (m / 128))) j h
       ]
 

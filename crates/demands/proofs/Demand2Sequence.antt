@@ -1,7 +1,7 @@
 -- Sequential writes one after another: each leaves the next position of the same file, what is written below the position
 -- stays, and so all records stand at the end.
 use mathlib.Core.Path.{_≡_, refl, ap, _∙_}
-use mathlib.Core.Bool.{true}
+use mathlib.Core.Bool.{true, false}
 use mathlib.Core.Logic.{_≢_}
 use mathlib.Core.List.{List, [], _∷_}
 use Prim.Native.Nat.{ℕ, zero, suc, _+_, _%_, _<_}
@@ -44,7 +44,7 @@ module _ (g : Geometry) (p : ℕ) (d : Drive) (v f r : List ℕ) where
   block-is : isNone (firstMet (testsOf g WriteSequential p d v f r)) ≡ true
       → does g WriteSequential p d v f r .block ≡ setTo f (entryAfter (d .geometry) (d .held) v (d .user) (nameOf f) (position f)) (position f) (position f % 128 + 1)
   unfolding does writeSequentialAct
-  block-is e = block-left d v f r (position f) (position f % 128 + 1) r r (testsOf g WriteSequential p d v f r) e
+  block-is e = block-left d v f (position f) (position f % 128 + 1) false r (testsOf g WriteSequential p d v f r) e
 
   next-call : succeeded (does g WriteSequential p d v f r .answer) ≡ true → Next d v f r (does g WriteSequential p d v f r)
   next-call h =

@@ -3,13 +3,13 @@
 use mathlib.Core.Path.{_≡_, refl, sym, ap, _∙_}
 use mathlib.Core.Bool.{Bool, true, false, cond}
 use mathlib.Core.Logic.{_⊎_, inl, inr, _≢_}
-use mathlib.Core.List.{List, [], _++_}
+use mathlib.Core.List.{List, _++_}
 use Prim.Native.Nat.{ℕ, _+_, _/_, _%_, _≤_}
 use native.Mathlib.Omega.{arith}
-use lib.ListN.{length, set, replicate, length-set, length-replicate}
+use lib.ListN.{length, set, length-set}
 use lib.Seq.{getD-set-same, getD-set-other}
-use Rattle.lists.specs.Bytes.{byte, part, put}
-use Rattle.lists.proofs.PartLaws.{length-part, byte-part, part-apart, part-part}
+use Rattle.lists.specs.Bytes.{byte, part}
+use Rattle.lists.proofs.PartLaws.{length-part, byte-out, part-apart, part-part}
 use Rattle.volume.specs.declared.Geometry.{Geometry}
 use Rattle.volume.specs.Geometry.{bytes}
 use Rattle.volume.specs.Name.{strip, nameAt, nameOf}
@@ -29,17 +29,17 @@ use Rattle.filecalls.specs.Outcome.{keeps, takes, unless, Outcome, outcome, wit
 use Rattle.filecalls.specs.Ready.{Open, Lent}
 use Rattle.filecalls.specs.Lent.{namedTests, sequentialLent, randomLent}
 use Rattle.filecalls.specs.Read.{sequentialTests, randomTests}
-use Rattle.filecalls.specs.Write.{writeEntry, writeChange, writeDone, directoryTests, emptyTests, writeSequentialAct, writeRandomAct, emptyRecordAct}
+use Rattle.filecalls.specs.Write.{writeEntry, writeChange, writeDone, directoryTests, writeSequentialAct, writeRandomAct, writeZeroFillAct}
 use Rattle.filecalls.proofs.LentLaws.{sequential-lent, random-lent}
 use Rattle.filecalls.proofs.OutcomeLaws as laws
 use Rattle.filecalls.proofs.StateLaws.{both-clear, named-clear}
-use Rattle.filecalls.proofs.WriteLaws.{empty-lent, leaves}
+use Rattle.filecalls.proofs.WriteLaws.{leaves}
 use Rattle.bdos.specs.declared.Call.{Call}
-use Rattle.bdos.specs.declared.Call.the-variants.{WriteSequential, WriteRandom, EmptyRecord}
+use Rattle.bdos.specs.declared.Call.the-variants.{WriteSequential, WriteRandom, WriteZeroFill}
 use Rattle.bdos.specs.Step.{does}
 use Rattle.demands.specs.Order.{testsOf}
 use Rattle.demands.specs.Demand1.{answer}
-use Rattle.demands.specs.Demand2.{Writes, sequential, direct, empty, Present}
+use Rattle.demands.specs.Demand2.{Writes, sequential, direct, zero-filling, Present}
 use Rattle.demands.proofs.Demand2Apart.{Apart, apart-after}
 use Rattle.demands.proofs.Demand2Others.{is-present, Stays, bytes-after, others-stay}
 
@@ -65,7 +65,7 @@ module _ (d : Drive) (v f : List ℕ) where
       let l = named-clear d v f (length b) false (both-clear (namedTests d v f (length b) false) _ q .0) in
       clear b (position f) l (l .buffer) (p .1)
 
-  clear-random : (b : List ℕ) → isNone (firstMet (randomTests d v f b ++ directoryTests d v f (random f))) ≡ true → Clear d v f b (random f)
+  pub clear-random : (b : List ℕ) → isNone (firstMet (randomTests d v f b ++ directoryTests d v f (random f))) ≡ true → Clear d v f b (random f)
   unfolding randomLent
   clear-random b e =
       let p = both-clear (randomTests d v f b) (directoryTests d v f (random f)) e in
@@ -73,25 +73,17 @@ module _ (d : Drive) (v f : List ℕ) where
       let l = named-clear d v f (length b) false (both-clear (namedTests d v f (length b) false) _ q .0) in
       clear b (random f) l (l .buffer) (p .1)
 
-  clear-empty : isNone (firstMet (emptyTests d v f ++ directoryTests d v f (random f))) ≡ true → Clear d v f (replicate 128 0) (random f)
-  unfolding randomLent
-  clear-empty e =
-      let p = both-clear (emptyTests d v f) (directoryTests d v f (random f)) e in
-      let q : isNone (firstMet (randomLent d v f 128)) ≡ true = ap isNone (empty-lent d v f) ∙ p .0 in
-      let l = named-clear d v f 128 false (both-clear (namedTests d v f 128 false) _ q .0) in
-      clear (replicate 128 0) (random f) l (length-replicate {A = ℕ} 128 0) (p .1)
-
 -- ---- what a write leaves
-pub record Wrote (d : Drive) (v f : List ℕ) (n : ℕ) (r : List ℕ) (o : Outcome) : Type 0 where
+pub record Wrote (d : Drive) (v f : List ℕ) (n : ℕ) (fills : Bool) (r : List ℕ) (o : Outcome) : Type 0 where
   pub geometry-is : o .drive .geometry ≡ d .geometry
   pub user-is : o .drive .user ≡ d .user
   pub held-is : o .drive .held ≡ heldAfter (d .geometry) (d .held) v (d .user) (nameOf f) n
-  pub volume-is : o .volume ≡ volumeAfter (d .geometry) (d .held) v (d .user) (nameOf f) n r
+  pub volume-is : o .volume ≡ volumeAfter (d .geometry) (d .held) v (d .user) (nameOf f) n fills r
 
-module _ (d : Drive) (v f b : List ℕ) (n cr : ℕ) (r c : List ℕ) where
-  wrote : (ts : List Test) → isNone (firstMet ts) ≡ true → Wrote d v f n r (outcome d v f b (unless ts (writeDone d v f n cr r c)))
+module _ (d : Drive) (v f : List ℕ) (n cr : ℕ) (fills : Bool) (b : List ℕ) where
+  wrote : (ts : List Test) → isNone (firstMet ts) ≡ true → Wrote d v f n fills b (outcome d v f b (unless ts (writeDone d v f n cr fills b)))
   wrote ts e =
-      let z = ap (outcome d v f b) (laws.does ts (writeDone d v f n cr r c) e) ∙ leaves d v f b n cr r c in
+      let z = ap (outcome d v f b) (laws.does ts (writeDone d v f n cr fills b) e) ∙ leaves d v f n cr fills b in
       record {
         geometry-is = ap (λ (o : Outcome). o .drive .geometry) z;
         user-is = ap (λ (o : Outcome). o .drive .user) z;
@@ -100,23 +92,28 @@ module _ (d : Drive) (v f b : List ℕ) (n cr : ℕ) (r c : List ℕ) where
       }
 
   pub block-left : (ts : List Test) → isNone (firstMet ts) ≡ true
-      → outcome d v f b (unless ts (writeDone d v f n cr r c)) .block ≡ setTo f (entryAfter (d .geometry) (d .held) v (d .user) (nameOf f) n) n cr
-  block-left ts e = ap (λ (o : Outcome). o .block) (ap (outcome d v f b) (laws.does ts (writeDone d v f n cr r c) e) ∙ leaves d v f b n cr r c)
+      → outcome d v f b (unless ts (writeDone d v f n cr fills b)) .block ≡ setTo f (entryAfter (d .geometry) (d .held) v (d .user) (nameOf f) n) n cr
+  block-left ts e = ap (λ (o : Outcome). o .block) (ap (outcome d v f b) (laws.does ts (writeDone d v f n cr fills b) e) ∙ leaves d v f n cr fills b)
 
 -- ---- the three writes
+-- does it fill a block that it gives?
+abbrev filling : {f b : List ℕ} {k : Call} {n : ℕ} {r : List ℕ} → Writes f b k n r → Bool
+filling sequential = false
+filling direct = false
+filling zero-filling = true
+
 module _ (g : Geometry) (p : ℕ) (d : Drive) (v f b : List ℕ) where
   pub call-clear : {k : Call} {n : ℕ} {r : List ℕ} → Writes f b k n r → isNone (firstMet (testsOf g k p d v f b)) ≡ true → Clear d v f r n
   call-clear sequential e = clear-sequential d v f b e
   call-clear direct e = clear-random d v f b e
-  call-clear empty e = clear-empty d v f e
+  call-clear zero-filling e = clear-random d v f b e
 
-  pub call-wrote : {k : Call} {n : ℕ} {r : List ℕ} → Writes f b k n r → isNone (firstMet (testsOf g k p d v f b)) ≡ true → Wrote d v f n r (does g k p d v f b)
-  unfolding does writeSequentialAct writeRandomAct emptyRecordAct
-  call-wrote sequential e = wrote d v f b (position f) (position f % 128 + 1) b b (testsOf g WriteSequential p d v f b) e
-  call-wrote direct e = wrote d v f b (random f) (random f % 128) b b (testsOf g WriteRandom p d v f b) e
-  call-wrote empty e =
-      let w = wrote d v f [] (random f) (random f % 128) (replicate 128 0) [] (testsOf g EmptyRecord p d v f b) e in
-      record { geometry-is = w .geometry-is; user-is = w .user-is; held-is = w .held-is; volume-is = w .volume-is }
+  pub call-wrote : {k : Call} {n : ℕ} {r : List ℕ} (w : Writes f b k n r) → isNone (firstMet (testsOf g k p d v f b)) ≡ true
+      → Wrote d v f n (filling w) r (does g k p d v f b)
+  unfolding does writeSequentialAct writeRandomAct writeZeroFillAct
+  call-wrote sequential e = wrote d v f (position f) (position f % 128 + 1) false b (testsOf g WriteSequential p d v f b) e
+  call-wrote direct e = wrote d v f (random f) (random f % 128) false b (testsOf g WriteRandom p d v f b) e
+  call-wrote zero-filling e = wrote d v f (random f) (random f % 128) true b (testsOf g WriteZeroFill p d v f b) e
 
   -- ---- one write: its record, the others, and blocks that stand apart
   module _ {k : Call} {n : ℕ} {r : List ℕ} (w : Writes f b k n r) (e : isNone (firstMet (testsOf g k p d v f b)) ≡ true) where
@@ -125,8 +122,8 @@ module _ (g : Geometry) (p : ℕ) (d : Drive) (v f b : List ℕ) where
         let c = call-clear w e in
         rw (call-wrote w e .volume-is)
         (record {
-          is-present = after-present (d .geometry) (d .held) v (d .user) (nameOf f) n (c .state .law) (c .size) (c .passed) r (c .record128);
-          has-bytes = bytes-after (d .geometry) (d .held) v (d .user) (nameOf f) n (c .state .law) (c .size) (c .state .user15) (c .passed) r (c .record128);
+          is-present = after-present (d .geometry) (d .held) v (d .user) (nameOf f) n (c .state .law) (c .size) (c .passed) (filling w) r (c .record128);
+          has-bytes = bytes-after (d .geometry) (d .held) v (d .user) (nameOf f) n (c .state .law) (c .size) (c .state .user15) (c .passed) (filling w) r (c .record128);
         })
 
     module _ (a : Apart (d .geometry) (d .held) v) where
@@ -134,23 +131,16 @@ module _ (g : Geometry) (p : ℕ) (d : Drive) (v f b : List ℕ) where
       others m ne h =
           let c = call-clear w e in
           rw (call-wrote w e .volume-is)
-          (others-stay (d .geometry) (d .held) v (d .user) (nameOf f) n (c .state .law) (c .size) (c .state .user15) (c .passed) r (c .record128) a m ne
+          (others-stay (d .geometry) (d .held) v (d .user) (nameOf f) n (c .state .law) (c .size) (c .state .user15) (c .passed) (filling w) r (c .record128) a m ne
           (is-present (d .geometry) v (d .user) (nameOf f) m h))
 
       pub still-apart : Apart (d .geometry) (does g k p d v f b .drive .held) (does g k p d v f b .volume)
       still-apart =
           let c = call-clear w e in
           rw (call-wrote w e .held-is, call-wrote w e .volume-is)
-          (apart-after (d .geometry) (d .held) v (d .user) (nameOf f) n (c .state .law) (c .size) (c .state .user15) (c .passed) a r (c .record128))
+          (apart-after (d .geometry) (d .held) v (d .user) (nameOf f) n (c .state .law) (c .size) (c .state .user15) (c .passed) a (filling w) r (c .record128))
 
 -- ---- the control block after a sequential write: the same file, and the next position
-byte-apart : (l : List ℕ) (a m : ℕ) (new : List ℕ) (k : ℕ) → a + m ≤ length l → length new ≡ m → (k + 1 ≤ a) ⊎ (a + m ≤ k) → byte (put l a m new) k ≡ byte l k
-byte-apart l a m new k fits e s =
-    let z : k + 0 ≡ k = omega arith in
-    let q = byte-part (put l a m new) k 1 0 (omega arith) in
-    let t = byte-part l k 1 0 (omega arith) in
-    ap (byte (put l a m new)) (sym z) ∙ sym q ∙ ap (λ (x : List ℕ). byte x 0) (part-apart l a m new k 1 fits e s) ∙ t ∙ ap (byte l) z
-
 module _ (f : List ℕ) (f36 : length f ≡ 36) (e : Entry) (e32 : length e ≡ 32) (n cr : ℕ) where
   abbrev ex : List ℕ
   ex = set f 12 (n / 128 % 32)
@@ -181,7 +171,7 @@ module _ (f : List ℕ) (f36 : length f ≡ 36) (e : Entry) (e32 : length e ≡ 
 
   byte-set : (k : ℕ) → (k + 1 ≤ 16) ⊎ (32 ≤ k) → byte (setTo f e n cr) k ≡ byte at-cr k
   unfolding setTo
-  byte-set k s = byte-apart at-cr 16 16 (part e 16 16) k (omega (arith, length-cr)) map16 s
+  byte-set k s = byte-out at-cr 16 16 (part e 16 16) (omega (arith, length-cr)) map16 k s
 
   byte-12 : byte (setTo f e n cr) 12 ≡ n / 128 % 32
   byte-12 =

@@ -34,3 +34,4 @@ pub mod RenamingEntries
 pub mod RenamingCalls
 pub mod RenamingTwice
 pub mod RenamingHolds
+pub mod ZeroFillHolds

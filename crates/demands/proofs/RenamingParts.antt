@@ -8,19 +8,7 @@ use native.Mathlib.Omega.{arith}
 use lib.ListN.{length}
 use lib.Seq.{ext-getD}
 use Rattle.lists.specs.Bytes.{byte, part, put}
-use Rattle.lists.proofs.PartLaws.{length-put, part-put, part-apart, byte-part}
-
--- ---- a byte after a part was replaced
-module _ (l : List ℕ) (a m : ℕ) (new : List ℕ) (fits : a + m ≤ length l) (size : length new ≡ m) where
-  byte-in : (k : ℕ) → k < m → byte (put l a m new) (a + k) ≡ byte new k
-  byte-in k h = sym (byte-part (put l a m new) a m k h) ∙ ap (λ (x : List ℕ). byte x k) (part-put l a m fits new size)
-
-  byte-out : (k : ℕ) → (k + 1 ≤ a) ⊎ (a + m ≤ k) → byte (put l a m new) k ≡ byte l k
-  byte-out k o =
-      let z : k + 0 ≡ k = omega arith in
-      let x : byte (part (put l a m new) k 1) 0 ≡ byte (put l a m new) k = rw z at (byte-part (put l a m new) k 1 0 (omega arith)) in
-      let y : byte (part l k 1) 0 ≡ byte l k = rw z at (byte-part l k 1 0 (omega arith)) in
-      sym x ∙ ap (λ (w : List ℕ). byte w 0) (part-apart l a m new k 1 fits size o) ∙ y
+use Rattle.lists.proofs.PartLaws.{length-put, byte-in, byte-out}
 
 -- ---- two parts that don't meet, replaced in either order
 module _ (l : List ℕ) (a m : ℕ) (x : List ℕ) (b n : ℕ) (y : List ℕ) (fits-a : a + m ≤ length l) (fits-b : b + n ≤ length l) (size-x : length x ≡ m) (size-y : length y ≡ n)

@@ -329,15 +329,15 @@ module _ (g : Geometry) (law : lawful g ≡ true) (v : List ℕ) (size : length 
       go (taken q y free) = rw q (anew-taken y)
 
   -- ---- the volume
-  module _ (r : List ℕ) (r128 : length r ≡ 128) where
+  module _ (fills : Bool) (r : List ℕ) (r128 : length r ≡ 128) where
     abbrev v′ : List ℕ
-    v′ = volumeAfter g h v u name n r
+    v′ = volumeAfter g h v u name n fills r
 
     laid : Laid g (slotAt g v) (slotAt g v′) i e
-    laid = record { here = after-slot g h v u name n law size passed r r128; there = after-slot-other g h v u name n law size passed r r128 }
+    laid = record { here = after-slot g h v u name n law size passed fills r r128; there = after-slot-other g h v u name n law size passed fills r r128 }
 
     pub write-size : length v′ ≡ bytes g
-    write-size = after-size g h v u name n law size passed r r128
+    write-size = after-size g h v u name n law size passed fills r r128
 
     pub write-sound : Orderly g (slotAt g v′)
     write-sound = sound-laid g (slotAt g v) (slotAt g v′) i e sound laid order fresh
@@ -367,5 +367,5 @@ module _ (g : Geometry) (law : lawful g ≡ true) (v : List ℕ) (size : length 
         record-there j p m j< p< mine nz =
             let c = file-block g v sound w other w15 j p j< p< mine nz in
             let ne : j ≢ i = λ z. true≢false (sym mine ∙ ap (λ (x : ℕ). ofFile w other (slotAt g v x)) z ∙ before from) in
-            after-record-other g h v u name n law size passed r r128 (blockIn g (slotAt g v j) p) m (c .0) (c .1)
+            after-record-other g h v u name n law size passed fills r r128 (blockIn g (slotAt g v j) p) m (c .0) (c .1)
             (not-elsewhere j p j< ne (file-live w other (slotAt g v j) w15 mine) p<)

@@ -1,11 +1,11 @@
 -- The three writes keep state and volume consistent and leave every file but the one that they name.
 use mathlib.Core.Path.{_≡_, refl, sym, ap, _∙_}
 use mathlib.Core.Bool.{Bool, true, false, not, cond, _&&_}
-use mathlib.Core.List.{List, [], _++_}
+use mathlib.Core.List.{List, _++_}
 use Prim.Native.Nat.{ℕ, _+_, _%_, _<_}
 use native.Mathlib.Omega.{arith}
 use lib.Dec.{eqb}
-use lib.ListN.{length, replicate}
+use lib.ListN.{length}
 use Rattle.volume.specs.Name.{nameOf, same}
 use Rattle.blocks.specs.Held.{hold}
 use Rattle.control.specs.Block.{position, random}
@@ -18,10 +18,9 @@ use Rattle.filecalls.specs.declared.Drive.{Drive}
 use Rattle.filecalls.specs.Ready.{Open}
 use Rattle.filecalls.specs.Outcome.{keeps, takes, stored, storedAll, changedState, withHeld}
 use Rattle.filecalls.specs.Read.{sequentialTests, randomTests}
-use Rattle.filecalls.specs.Write.{writeEntry, writeChange, writeDone, directoryTests, writeSequentialAct, writeRandomAct, emptyTests, emptyRecordAct}
+use Rattle.filecalls.specs.Write.{writeEntry, writeChange, writeDone, directoryTests, writeSequentialAct, writeDirectAct, writeRandomAct, writeZeroFillAct}
 use Rattle.filecalls.proofs.LentLaws.{sequential-lent, random-lent, sequential-passed, random-passed}
 use Rattle.filecalls.proofs.StateLaws.{both-clear}
-use Rattle.filecalls.proofs.WriteLaws.{empty-lent}
 use Rattle.demands.specs.Demand3.{Bytes}
 use Rattle.demands.proofs.Acts.{Consistent, Keeps, does, keeps-unless, leaves-apart}
 use Rattle.demands.proofs.WriteKeeps.{write-size, write-sound, write-held, write-apart}
@@ -34,27 +33,27 @@ taken d v false x = refl
 
 module _ (d : Drive) (v f : List ℕ) (c : Consistent d v) (o : Open d) where
   -- record n is written with the bytes r
-  module _ (n : ℕ) (r : List ℕ) (n< : n < 65536) (r128 : length r ≡ 128) (h : isNone (firstMet (directoryTests d v f n)) ≡ true) where
+  module _ (n : ℕ) (fills : Bool) (r : List ℕ) (n< : n < 65536) (r128 : length r ≡ 128) (h : isNone (firstMet (directoryTests d v f n)) ≡ true) where
     passed : isNone (firstMet (writeTests (d .geometry) (d .held) v (d .user) (nameOf f) n)) ≡ true
     passed = unmet Protected _ _ refl h .1
 
-    written : Consistent (changedState d v (writeChange d v f n)) (volumeAfter (d .geometry) (d .held) v (d .user) (nameOf f) n r)
+    written : Consistent (changedState d v (writeChange d v f n)) (volumeAfter (d .geometry) (d .held) v (d .user) (nameOf f) n fills r)
     unfolding writeChange
     written =
         let g = d .geometry in
         rw (taken d v (needsBlock g v (d .user) (nameOf f) n) (writeBlock g (d .held) v (d .user) (nameOf f) n)) (record {
           law = c .law;
-          size = write-size g (c .law) v (c .size) (c .sound) (d .held) (c .held) (d .user) (o .user15) (nameOf f) n n< passed r r128;
-          sound = write-sound g (c .law) v (c .size) (c .sound) (d .held) (c .held) (d .user) (o .user15) (nameOf f) n n< passed r r128;
-          held = write-held g (c .law) v (c .size) (c .sound) (d .held) (c .held) (d .user) (o .user15) (nameOf f) n n< passed r r128;
+          size = write-size g (c .law) v (c .size) (c .sound) (d .held) (c .held) (d .user) (o .user15) (nameOf f) n n< passed fills r r128;
+          sound = write-sound g (c .law) v (c .size) (c .sound) (d .held) (c .held) (d .user) (o .user15) (nameOf f) n n< passed fills r r128;
+          held = write-held g (c .law) v (c .size) (c .sound) (d .held) (c .held) (d .user) (o .user15) (nameOf f) n n< passed fills r r128;
         })
 
-    done-keeps : (cr : ℕ) (b : List ℕ) → Keeps (λ u name. eqb u (d .user) && same name (nameOf f)) d v (writeDone d v f n cr r b)
+    done-keeps : (cr : ℕ) → Keeps (λ u name. eqb u (d .user) && same name (nameOf f)) d v (writeDone d v f n cr fills r)
     unfolding writeDone writeEntry stored storedAll
-    done-keeps cr b = does (record {
+    done-keeps cr = does (record {
       consistent = written;
       others = λ u name u15 other. leaves-apart (d .geometry) (c .law) u name v _
-          (write-apart (d .geometry) (c .law) v (c .size) (c .sound) (d .held) (c .held) (d .user) (o .user15) (nameOf f) n n< passed r r128 u name u15 other);
+          (write-apart (d .geometry) (c .law) v (c .size) (c .sound) (d .held) (c .held) (d .user) (o .user15) (nameOf f) n n< passed fills r r128 u name u15 other);
     })
 
 random-low : (f : List ℕ) → Bytes f → random f < 65536
@@ -67,18 +66,18 @@ module _ (d : Drive) (v f b : List ℕ) (c : Consistent d v) where
   write-sequential-keeps = keeps-unless (sequentialTests d v f b ++ directoryTests d v f (position f)) _ (λ h.
       let p = both-clear (sequentialTests d v f b) (directoryTests d v f (position f)) h in
       let l = sequential-passed d v f (length b) refl refl (ap (λ t. not (isNone (firstMet t))) (sym (sequential-lent d v f b)) ∙ ap not (p .0)) in
-      done-keeps d v f c (l .lent .state) (position f) b (l .low) (l .lent .buffer) (p .1) (position f % 128 + 1) b)
+      done-keeps d v f c (l .lent .state) (position f) false b (l .low) (l .lent .buffer) (p .1) (position f % 128 + 1))
+
+  write-direct-keeps : (fills : Bool) → Bytes f → Keeps (λ u name. eqb u (d .user) && same name (nameOf f)) d v (writeDirectAct fills d v f b)
+  write-direct-keeps fills small = keeps-unless (randomTests d v f b ++ directoryTests d v f (random f)) _ (λ h.
+      let p = both-clear (randomTests d v f b) (directoryTests d v f (random f)) h in
+      let l = random-passed d v f (length b) refl refl (ap (λ t. not (isNone (firstMet t))) (sym (random-lent d v f b)) ∙ ap not (p .0)) in
+      done-keeps d v f c (l .lent .state) (random f) fills b (random-low f small) (l .lent .buffer) (p .1) (random f % 128))
 
   pub write-random-keeps : Bytes f → Keeps (λ u name. eqb u (d .user) && same name (nameOf f)) d v (writeRandomAct d v f b)
   unfolding writeRandomAct
-  write-random-keeps small = keeps-unless (randomTests d v f b ++ directoryTests d v f (random f)) _ (λ h.
-      let p = both-clear (randomTests d v f b) (directoryTests d v f (random f)) h in
-      let l = random-passed d v f (length b) refl refl (ap (λ t. not (isNone (firstMet t))) (sym (random-lent d v f b)) ∙ ap not (p .0)) in
-      done-keeps d v f c (l .lent .state) (random f) b (random-low f small) (l .lent .buffer) (p .1) (random f % 128) b)
+  write-random-keeps = write-direct-keeps false
 
-  pub empty-record-keeps : Bytes f → Keeps (λ u name. eqb u (d .user) && same name (nameOf f)) d v (emptyRecordAct d v f)
-  unfolding emptyRecordAct
-  empty-record-keeps small = keeps-unless (emptyTests d v f ++ directoryTests d v f (random f)) _ (λ h.
-      let p = both-clear (emptyTests d v f) (directoryTests d v f (random f)) h in
-      let l = random-passed d v f 128 refl refl (ap (λ t. not (isNone t)) (empty-lent d v f) ∙ ap not (p .0)) in
-      done-keeps d v f c (l .lent .state) (random f) (replicate 128 0) (random-low f small) refl (p .1) (random f % 128) [])
+  pub write-zero-fill-keeps : Bytes f → Keeps (λ u name. eqb u (d .user) && same name (nameOf f)) d v (writeZeroFillAct d v f b)
+  unfolding writeZeroFillAct
+  write-zero-fill-keeps = write-direct-keeps true

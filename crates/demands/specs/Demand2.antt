@@ -9,7 +9,7 @@ use mathlib.Core.Bool.{Bool, true, not, _&&_}
 use mathlib.Core.Logic.{_≢_}
 use mathlib.Core.List.{List, [], _∷_}
 use Prim.Native.Nat.{ℕ, _+_, _-_, _≤_, _<_}
-use lib.ListN.{length, getD, replicate}
+use lib.ListN.{length, getD}
 use Rattle.lists.specs.Search.{countFrom}
 use Rattle.volume.specs.declared.Geometry.{Geometry}
 use Rattle.volume.specs.Geometry.{lawful, bytes, slots}
@@ -28,7 +28,7 @@ use Rattle.filecalls.specs.declared.Reply.{Reply}
 use Rattle.filecalls.specs.Outcome.{left}
 use Rattle.filecalls.specs.Read.{sequentialTests, randomTests}
 use Rattle.bdos.specs.declared.Call.{Call}
-use Rattle.bdos.specs.declared.Call.the-variants.{LogIn, ReadSequential, WriteSequential, ReadRandom, WriteRandom, EmptyRecord}
+use Rattle.bdos.specs.declared.Call.the-variants.{LogIn, ReadSequential, WriteSequential, ReadRandom, WriteRandom, WriteZeroFill}
 use Rattle.bdos.specs.Step.{Asked, asked, step}
 use Rattle.demands.specs.Demand1.{call, tests, answer}
 
@@ -37,7 +37,7 @@ use Rattle.demands.specs.Demand1.{call, tests, answer}
 pub data Writes (f b : List ℕ) : Call → ℕ → List ℕ → Type 0 where
   sequential : Writes f b WriteSequential (position f) b
   direct : Writes f b WriteRandom (random f) b
-  empty : Writes f b EmptyRecord (random f) (replicate 128 0)
+  zero-filling : Writes f b WriteZeroFill (random f) b
 
 -- one of the reads: the record that it means, and its tests of what is lent
 pub data Reads (d : Drive) (v f b : List ℕ) : Call → ℕ → List Test → Type 0 where

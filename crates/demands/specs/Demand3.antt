@@ -28,7 +28,7 @@ use Rattle.inspection.specs.GoodSlot.{lowestBad}
 use Rattle.reading.specs.Read.{readBytes}
 use Rattle.filecalls.specs.declared.Drive.{Drive}
 use Rattle.bdos.specs.declared.Call.{Call}
-use Rattle.bdos.specs.declared.Call.the-variants.{LogIn, Open, Close, SearchFirst, SearchNext, Delete, ReadSequential, WriteSequential, Make, Rename, Protect, Attributes, User, ReadRandom, WriteRandom, Size, SetRandom, EmptyRecord, Unserved}
+use Rattle.bdos.specs.declared.Call.the-variants.{LogIn, Open, Close, SearchFirst, SearchNext, Delete, ReadSequential, WriteSequential, Make, Rename, Protect, Attributes, User, ReadRandom, WriteRandom, Size, SetRandom, WriteZeroFill, Unserved}
 use Rattle.bdos.specs.Step.{Asked, callOf, step}
 use Rattle.demands.specs.Run.{answers, final, plainStep}
 
@@ -46,7 +46,7 @@ names Delete w f u name = eqb u w && like name (nameOf f)
 names Make w f u name = eqb u w && same name (nameOf f)
 names WriteSequential w f u name = eqb u w && same name (nameOf f)
 names WriteRandom w f u name = eqb u w && same name (nameOf f)
-names EmptyRecord w f u name = eqb u w && same name (nameOf f)
+names WriteZeroFill w f u name = eqb u w && same name (nameOf f)
 names Attributes w f u name = eqb u w && same name (nameOf f)
 names Rename w f u name = eqb u w && (same name (nameOf f) || same name (newName f))
 names LogIn w f u name = false

@@ -9,3 +9,4 @@ pub mod Tie
 pub mod WrongWays
 pub mod Renaming
 pub mod RenamingOnV
+pub mod ZeroFill

@@ -17,10 +17,10 @@ use Rattle.filecalls.specs.Open.{openTests, closeTests, sizeTests}
 use Rattle.filecalls.specs.Search.{firstTests, nextTests}
 use Rattle.filecalls.specs.Names.{deleteLadder, makeLadder, renameLadder, attributesLadder}
 use Rattle.filecalls.specs.Read.{sequentialTests, randomTests}
-use Rattle.filecalls.specs.Write.{directoryTests, emptyTests}
+use Rattle.filecalls.specs.Write.{directoryTests}
 use Rattle.filecalls.specs.Small.{protectTests, userTests, setRandomTests}
 use Rattle.bdos.specs.declared.Call.{Call}
-use Rattle.bdos.specs.declared.Call.the-variants.{LogIn, Open, Close, SearchFirst, SearchNext, Delete, ReadSequential, WriteSequential, Make, Rename, Protect, Attributes, User, ReadRandom, WriteRandom, Size, SetRandom, EmptyRecord, Unserved}
+use Rattle.bdos.specs.declared.Call.the-variants.{LogIn, Open, Close, SearchFirst, SearchNext, Delete, ReadSequential, WriteSequential, Make, Rename, Protect, Attributes, User, ReadRandom, WriteRandom, Size, SetRandom, WriteZeroFill, Unserved}
 
 -- the paper's table from top to bottom, 45 "straight after 39"; "5 .. make answers 255 here" is two cases of one row
 abbrev pub paperTable : List Refusal
@@ -97,7 +97,7 @@ testsOf g ReadRandom p d v f b = randomTests d v f b ++ readTests (d .geometry) 
 testsOf g WriteRandom p d v f b = randomTests d v f b ++ directoryTests d v f (random f)
 testsOf g Size p d v f b = sizeTests d v f
 testsOf g SetRandom p d v f b = setRandomTests d f
-testsOf g EmptyRecord p d v f b = emptyTests d v f ++ directoryTests d v f (random f)
+testsOf g WriteZeroFill p d v f b = randomTests d v f b ++ directoryTests d v f (random f)
 testsOf g Unserved p d v f b = test NotServed true ∷ []
 
 -- the refusals of every call, as the paper's table gives them
@@ -125,8 +125,9 @@ refusalsOf WriteRandom =
     ∷ NoBlock ∷ []
 refusalsOf Size = Closed ∷ VolumeLength ∷ BlockLength ∷ DriveCode ∷ Name ∷ NoMatch ∷ []
 refusalsOf SetRandom = Closed ∷ BlockLength ∷ DriveCode ∷ Position ∷ []
-refusalsOf EmptyRecord =
-    Closed ∷ VolumeLength ∷ BlockLength ∷ DriveCode ∷ Name ∷ Beyond ∷ Protected ∷ NoFile ∷ ReadOnly ∷ Outside ∷ NoSlot ∷ NoBlock ∷ []
+refusalsOf WriteZeroFill =
+    Closed ∷ VolumeLength ∷ BlockLength ∷ BufferLength ∷ DriveCode ∷ Name ∷ Beyond ∷ Protected ∷ NoFile ∷ ReadOnly ∷ Outside ∷ NoSlot
+    ∷ NoBlock ∷ []
 refusalsOf Unserved = NotServed ∷ []
 
 -- how many codes, from 0 up, it answers with when it succeeds: a slot modulo 4, a user 0..15, or 0 alone
@@ -148,5 +149,5 @@ codesOf ReadRandom = 1
 codesOf WriteRandom = 1
 codesOf Size = 1
 codesOf SetRandom = 1
-codesOf EmptyRecord = 1
+codesOf WriteZeroFill = 1
 codesOf Unserved = 0

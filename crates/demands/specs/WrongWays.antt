@@ -15,7 +15,7 @@ use Rattle.volume.specs.Name.{strip, nameAt, nameOf, same, like, goodName}
 use Rattle.volume.specs.Typing.{typeableByte, blankBefore, typeable}
 use Rattle.volume.specs.Entry.{isEmpty, places, blockIn, withBlock, countOf, ofFile, ofGroup, matches}
 use Rattle.volume.specs.Directory.{slotAt, putSlot, findSlot, mapSlot}
-use Rattle.volume.specs.Record.{recordSlot, counted, present, recordAt, putRecord}
+use Rattle.volume.specs.Record.{recordSlot, counted, present, recordAt, putRecord, fillRecord, putFilled}
 use Rattle.blocks.specs.Held.{digit, holds, hold, release, wordOf, wordsOf, lowestFree, freeCount}
 use Rattle.control.specs.Block.{random, setTo, made}
 use Rattle.answers.specs.declared.Refusal.the-variants.{NotServed}
@@ -35,7 +35,7 @@ use Rattle.filecalls.specs.State.{isOpen, closed, loggedIn}
 use Rattle.filecalls.specs.LogIn.{logInTests, refusedLogIn, logIn}
 use Rattle.filecalls.specs.Names.{deleteLadder, deleteAct, makeLadder, makeAct}
 use Rattle.filecalls.specs.Read.{randomTests, readDone, readRandomAct}
-use Rattle.filecalls.specs.Write.{writeEntry, writeChange, writeDone, writeRandomAct}
+use Rattle.filecalls.specs.Write.{writeEntry, writeChange, writeDone, writeRandomAct, writeZeroFillAct}
 use Rattle.bdos.specs.Step.{Asked, asked, callOf, does, step}
 
 -- ---- a way to do the calls, and the wrong ones
@@ -84,6 +84,22 @@ storesNothing =
     let o = step g c d v in
     withVolume o
     (putRecord (d .geometry) (o .volume) (writtenTo c d v) (random (c .block)) (recordAt (d .geometry) v (writtenTo c d v) (random (c .block)))))
+
+-- function 40 fills no block: it is 34
+abbrev pub fillsNothing : Way
+fillsNothing = instead 40 (λ g c d v. step g (asked 34 (c .parameter) (c .block) (c .buffer)) d v)
+
+-- function 40 fills every block that it writes to
+abbrev pub fillsAlways : Way
+fillsAlways =
+    instead 40
+    (λ g c d v.
+    let o = step g c d v in
+    withVolume o (putFilled (d .geometry) true (o .volume) (writtenTo c d v) (random (c .block)) (c .buffer)))
+
+-- function 40 throws the program's bytes away and writes zeros
+abbrev pub throwsAway : Way
+throwsAway = instead 40 (λ g c d v. step g (asked 40 (c .parameter) (c .block) (replicate 128 0)) d v)
 
 -- an inspection overlooks a block that is named twice
 abbrev looksGood : Geometry → List ℕ → ℕ → Bool
@@ -151,6 +167,9 @@ makes name = asked 22 0 (fileBlock name 0) []
 abbrev pub writes : List ℕ → ℕ → ℕ → Asked
 writes name n x = asked 34 0 (fileBlock name n) (bytesOf x)
 
+abbrev pub fills : List ℕ → ℕ → ℕ → Asked
+fills name n x = asked 40 0 (fileBlock name n) (bytesOf x)
+
 abbrev pub deletes : List ℕ → Asked
 deletes name = asked 19 0 (fileBlock name 0) []
 
@@ -169,14 +188,26 @@ from v = record { answer = Refused NotServed; drive = closed; volume = v; block 
 abbrev pub twoFiles : List Asked
 twoFiles = logsIn ∷ makes nameA ∷ writes nameA 0 7 ∷ makes nameB ∷ writes nameB 0 9 ∷ deletes nameB ∷ writes nameA 8 9 ∷ []
 
+-- record 0 of A is written, and A is deleted; then records 5 and 2 of B are written by function 40, into A's old block
+abbrev pub oldBlock : List Asked
+oldBlock = logsIn ∷ makes nameA ∷ writes nameA 0 7 ∷ deletes nameA ∷ makes nameB ∷ fills nameB 5 8 ∷ fills nameB 2 9 ∷ []
+
 -- ---- what the demands say of these runs
 -- demand 2: after its write record 0 of A has the bytes written, and it keeps them through what other files and other
 -- records are given
 unfoldable pub keepsRecord : Way → Bool
-unfolding ran lowFrom anyFrom everyFrom countFrom fold part put all lawful start slotStart recordStart groupOf placeOf inside strip nameAt same like goodName typeable typeableByte blankBefore places blockIn withBlock countOf ofFile ofGroup matches slotAt putSlot findSlot mapSlot recordSlot counted present recordAt putRecord digit holds hold release wordOf wordsOf lowestFree freeCount random setTo made firstMet goodFields goodTopBits inPlaces names namedBelow goodPlace seenBelow goodSlot lowestBad named heldOf readBlock readTests readBytes changed deleteTests freePlace freeEntry freeSlot freeMatches makeTests freshEntry alloc likeEntry grown writeSlot baseEntry needsBlock writeBlock writtenEntry writeTests isOpen outcome unless stored storedAll changedState logIn logInTests refusedLogIn deleteLadder deleteAct makeLadder makeAct randomTests writeEntry writeChange writeDone writeRandomAct callOf does step
+unfolding ran lowFrom anyFrom everyFrom countFrom fold part put all lawful start slotStart recordStart groupOf placeOf inside strip nameAt same like goodName typeable typeableByte blankBefore places blockIn withBlock countOf ofFile ofGroup matches slotAt putSlot findSlot mapSlot recordSlot counted present recordAt putRecord putFilled digit holds hold release wordOf wordsOf lowestFree freeCount random setTo made firstMet goodFields goodTopBits inPlaces names namedBelow goodPlace seenBelow goodSlot lowestBad named heldOf readBlock readTests readBytes changed deleteTests freePlace freeEntry freeSlot freeMatches makeTests freshEntry alloc likeEntry grown writeSlot baseEntry needsBlock writeBlock writtenEntry writeTests isOpen outcome unless stored storedAll changedState logIn logInTests refusedLogIn deleteLadder deleteAct makeLadder makeAct randomTests writeEntry writeChange writeDone writeRandomAct callOf does step
 keepsRecord way =
     let o : Outcome = ran way twoFiles (from emptyVolume) in
     present small (o .volume) 0 nameA 0 && same (readBytes small (o .volume) 0 nameA 0) (bytesOf 7)
+
+-- demand 2 and request (iii): both records have the bytes written, and the block's other records are zeros
+unfoldable pub fillsOnce : Way → Bool
+unfolding keepsRecord fillRecord writeZeroFillAct
+fillsOnce way =
+    let o : Outcome = ran way oldBlock (from emptyVolume) in
+    same (readBytes small (o .volume) 0 nameB 0) (bytesOf 0) && same (readBytes small (o .volume) 0 nameB 2) (bytesOf 9)
+    && same (readBytes small (o .volume) 0 nameB 5) (bytesOf 8)
 
 -- demand 3: the volume passes inspection after every call, and so no block belongs to two entries
 unfoldable pub passesInspection : Way → List Asked → List ℕ → Bool
@@ -193,8 +224,8 @@ leavesBlock way =
     not (succeeded (o .answer)) && same (o .block) (fileBlock nameA 5)
 
 -- ---- the right way, and every wrong one
-pub right-way : keepsRecord step && passesInspection step twoFiles emptyVolume && passesInspection step (logsIn ∷ []) sharedVolume && leavesBlock step ≡ true
-unfolding keepsRecord passesInspection leavesBlock
+pub right-way : keepsRecord step && fillsOnce step && passesInspection step twoFiles emptyVolume && passesInspection step (logsIn ∷ []) sharedVolume && leavesBlock step ≡ true
+unfolding keepsRecord fillsOnce passesInspection leavesBlock
 right-way = refl
 
 pub held-not-updated : keepsRecord heldNotUpdated ≡ false
@@ -220,6 +251,18 @@ stores-elsewhere = refl
 pub stores-nothing : keepsRecord storesNothing ≡ false
 unfolding keepsRecord
 stores-nothing = refl
+
+pub fills-nothing : fillsOnce fillsNothing ≡ false
+unfolding fillsOnce
+fills-nothing = refl
+
+pub fills-always : fillsOnce fillsAlways ≡ false
+unfolding fillsOnce
+fills-always = refl
+
+pub throws-away : fillsOnce throwsAway ≡ false
+unfolding fillsOnce
+throws-away = refl
 
 pub overlooks-twice : passesInspection overlooksTwice (logsIn ∷ []) sharedVolume ≡ false
 unfolding passesInspection

@@ -29,7 +29,7 @@ use Rattle.filecalls.specs.Open.{openTests, openAct, closeTests, closeAct, size
 use Rattle.filecalls.specs.Search.{examined, hit, isKept, keptAt, newSearch, shown, firstTests, searchFirstAct, nextTests, searchNextAct}
 use Rattle.filecalls.specs.Names.{deleteLadder, deleteAct, makeLadder, makeAct, renameLadder, renameAct, attributesLadder, attributesAct}
 use Rattle.filecalls.specs.Read.{sequentialTests, randomTests, readDone, readSequentialAct, readRandomAct}
-use Rattle.filecalls.specs.Write.{directoryTests, emptyTests, writeChange, writeDone, writeSequentialAct, writeRandomAct, emptyRecordAct}
+use Rattle.filecalls.specs.Write.{directoryTests, writeChange, writeDone, writeSequentialAct, writeDirectAct, writeRandomAct, writeZeroFillAct}
 use Rattle.filecalls.specs.Small.{protectTests, protectAct, userTests, userAct, setRandomTests, setRandomAct}
 use Rattle.filecalls.proofs.StateLaws.{is-open}
 use Rattle.emulator.proofs.LastingLaws.{Lasts, Lasting, does, lasting-unless, held-lasts, protects-lasts, user-lasts, search-lasts, words-free, words-of, or-parts, hit-low, first-pattern}
@@ -52,13 +52,17 @@ module _ (d : Drive) (v f b : List ℕ) (l : Lasts d) where
   unfolding writeSequentialAct writeDone
   write-sequential-lasting = lasting-unless (sequentialTests d v f b ++ directoryTests d v f (position f)) _ (λ h. does (write-lasts (position f)))
 
-  pub write-random-lasting : Lasting d v (writeRandomAct d v f b)
-  unfolding writeRandomAct writeDone
-  write-random-lasting = lasting-unless (randomTests d v f b ++ directoryTests d v f (random f)) _ (λ h. does (write-lasts (random f)))
+  write-direct-lasting : (fills : Bool) → Lasting d v (writeDirectAct fills d v f b)
+  unfolding writeDone
+  write-direct-lasting fills = lasting-unless (randomTests d v f b ++ directoryTests d v f (random f)) _ (λ h. does (write-lasts (random f)))
 
-  pub empty-record-lasting : Lasting d v (emptyRecordAct d v f)
-  unfolding emptyRecordAct writeDone
-  empty-record-lasting = lasting-unless (emptyTests d v f ++ directoryTests d v f (random f)) _ (λ h. does (write-lasts (random f)))
+  pub write-random-lasting : Lasting d v (writeRandomAct d v f b)
+  unfolding writeRandomAct
+  write-random-lasting = write-direct-lasting false
+
+  pub write-zero-fill-lasting : Lasting d v (writeZeroFillAct d v f b)
+  unfolding writeZeroFillAct
+  write-zero-fill-lasting = write-direct-lasting true
 
   -- ---- the calls on names
   pub delete-lasting : Lasting d v (deleteAct d v f)

@@ -29,7 +29,7 @@ use Rattle.filecalls.specs.State.{isOpen, closed, loggedIn}
 use Rattle.filecalls.specs.Outcome.{Act, deny, done, Outcome, outcome}
 use Rattle.filecalls.specs.LogIn.{logInTests, refusedLogIn, logIn}
 use Rattle.bdos.specs.declared.Call.{Call}
-use Rattle.bdos.specs.declared.Call.the-variants.{LogIn, Open, Close, SearchFirst, SearchNext, Delete, ReadSequential, WriteSequential, Make, Rename, Protect, Attributes, User, ReadRandom, WriteRandom, Size, SetRandom, EmptyRecord, Unserved}
+use Rattle.bdos.specs.declared.Call.the-variants.{LogIn, Open, Close, SearchFirst, SearchNext, Delete, ReadSequential, WriteSequential, Make, Rename, Protect, Attributes, User, ReadRandom, WriteRandom, Size, SetRandom, WriteZeroFill, Unserved}
 use Rattle.bdos.specs.Step.{Asked, asked, keepsBuffer, keepsBlock, keepsVolume, callOf, does, step}
 use Rattle.drivebytes.specs.Layout.{encoded, decoded}
 use Rattle.drivebytes.specs.RoundTrip.{Carried}
@@ -37,7 +37,7 @@ use Rattle.drivebytes.proofs.RoundTripHolds.{decode-encode, encode-decode, read
 use Rattle.emulator.specs.Seam.{answered, sealed, through, atSeam, logInAtSeam}
 use Rattle.emulator.specs.Faithful.{LogInCarried, LogInOpens, CallCarried, CallStaysOpen, LogInFaithful, CallFaithful, RefusedLeavesAll, RefusedLogInCloses, RefusedResetCloses}
 use Rattle.emulator.proofs.LastingLaws.{Lasts, denied, outcome-lasts}
-use Rattle.emulator.proofs.CallsLast.{open-lasting, close-lasting, size-lasting, first-lasting, next-lasting, delete-lasting, make-lasting, rename-lasting, attributes-lasting, read-sequential-lasting, read-random-lasting, write-sequential-lasting, write-random-lasting, empty-record-lasting, protect-lasting, user-lasting, set-random-lasting}
+use Rattle.emulator.proofs.CallsLast.{open-lasting, close-lasting, size-lasting, first-lasting, next-lasting, delete-lasting, make-lasting, rename-lasting, attributes-lasting, read-sequential-lasting, read-random-lasting, write-sequential-lasting, write-random-lasting, write-zero-fill-lasting, protect-lasting, user-lasting, set-random-lasting}
 
 -- ---- log-in
 closed-carried : Carried closed
@@ -126,7 +126,7 @@ module _ (g : Geometry) (p : ℕ) (small : p < 256) (d : Drive) (l : Lasts d) (v
   call-lasts WriteRandom = inr (outcome-lasts d v f b _ l (write-random-lasting d v f b l))
   call-lasts Size = inr (outcome-lasts d v f [] _ l (size-lasting d v f b l))
   call-lasts SetRandom = inr (outcome-lasts d [] f [] _ l (set-random-lasting d [] f b l))
-  call-lasts EmptyRecord = inr (outcome-lasts d v f [] _ l (empty-record-lasting d v f b l))
+  call-lasts WriteZeroFill = inr (outcome-lasts d v f b _ l (write-zero-fill-lasting d v f b l))
   call-lasts Unserved = inr (outcome-lasts d v f b _ l denied)
 
 step-lasts : (d : Drive) → Carried d → isOpen d ≡ true → (c : Asked) → c .parameter < 256 → (v : List ℕ)
@@ -186,7 +186,7 @@ module _ (g : Geometry) (p : ℕ) (d : Drive) (v f b : List ℕ) where
   call-refused WriteRandom n e = outcome-refused d v f b _ e
   call-refused Size n e = ap (keepsBuffer b) (outcome-refused d v f [] _ e)
   call-refused SetRandom n e = ap (keepsVolume v) (ap (keepsBuffer b) (outcome-refused d [] f [] _ e))
-  call-refused EmptyRecord n e = ap (keepsBuffer b) (outcome-refused d v f [] _ e)
+  call-refused WriteZeroFill n e = outcome-refused d v f b _ e
   call-refused Unserved n e = outcome-refused d v f b _ e
 
 step-refused : (g : Geometry) (c : Asked) (d : Drive) (v : List ℕ) → (callOf (c .function) ≡ LogIn → ⊥) → succeeded (step g c d v .answer) ≡ false

@@ -24,7 +24,7 @@ use Rattle.filecalls.specs.State.{closed, loggedIn}
 use Rattle.filecalls.specs.Outcome.{Act, deny, done, outcome}
 use Rattle.filecalls.specs.LogIn.{logInTests, refusedLogIn, logIn}
 use Rattle.bdos.specs.declared.Call.{Call}
-use Rattle.bdos.specs.declared.Call.the-variants.{LogIn, Open, Close, SearchFirst, SearchNext, Delete, ReadSequential, WriteSequential, Make, Rename, Protect, Attributes, User, ReadRandom, WriteRandom, Size, SetRandom, EmptyRecord, Unserved}
+use Rattle.bdos.specs.declared.Call.the-variants.{LogIn, Open, Close, SearchFirst, SearchNext, Delete, ReadSequential, WriteSequential, Make, Rename, Protect, Attributes, User, ReadRandom, WriteRandom, Size, SetRandom, WriteZeroFill, Unserved}
 use Rattle.bdos.specs.Step.{Asked, callOf, does, step}
 
 free-le : (held : List ℕ) (d t : ℕ) → freeCount held d t ≤ t - d
@@ -91,7 +91,7 @@ call-value g ReadRandom p d v f b = act-value d v f b _
 call-value g WriteRandom p d v f b = act-value d v f b _
 call-value g Size p d v f b = act-value d v f [] _
 call-value g SetRandom p d v f b = act-value d [] f [] _
-call-value g EmptyRecord p d v f b = act-value d v f [] _
+call-value g WriteZeroFill p d v f b = act-value d v f b _
 call-value g Unserved p d v f b = act-value d v f b _
 
 pub step-value : (g : Geometry) (c : Asked) (d : Drive) (v : List ℕ) → valueOf (step g c d v .answer) < 65536

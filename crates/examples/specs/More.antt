@@ -15,7 +15,7 @@ use Rattle.finding.specs.declared.Kept.{Kept}
 use Rattle.finding.specs.declared.Kept.the-variants.{Nothing, Pattern, Everything}
 use Rattle.filecalls.specs.declared.Drive.{Drive}
 use Rattle.filecalls.specs.State.{isOpen}
-use Rattle.examples.specs.Script.{logIn, openFile, closeFile, searchFirst, searchNext, delete, readNext, writeNext, make, rename, protect, attributes, user, read, write, size, setRandom, emptyRecord, done, free, refused, badSlot, Line, call, altered, slotsAre, heldAre, volumeAt, blockAt, blockIs, bufferIs, Script, script, seen, told}
+use Rattle.examples.specs.Script.{logIn, openFile, closeFile, searchFirst, searchNext, delete, readNext, writeNext, make, rename, protect, attributes, user, read, write, size, setRandom, writeZeroFill, done, free, refused, badSlot, Line, call, altered, slotsAre, heldAre, volumeAt, blockAt, blockIs, bufferIs, Script, script, seen, told}
 use Rattle.examples.specs.Pieces.{sigla, lemmata, sized, entry, empty, control, fresh, recordOf, renaming, filled, old}
 use Rattle.examples.specs.Table.{block4in15, block1in12, volumeFull, geometryFull, extentsFrom}
 
@@ -54,7 +54,7 @@ onNames =
     ∷ call (read (fresh (from 0xBF)) (filled 0)) (refused 39)
     ∷ call (write (fresh (from 0xBF)) (filled 0)) (refused 39)
     ∷ call (size (fresh (from 0xBF))) (refused 39)
-    ∷ call (emptyRecord (fresh (from 0xBF))) (refused 39)
+    ∷ call (writeZeroFill (fresh (from 0xBF)) (filled 0)) (refused 39)
     -- "A0H first is 39 (it is 20H), FFH is 39 (it is 7FH). First not 20H holds for patterns too."
     ∷ call (openFile (fresh (from 0xA0))) (refused 39)
     ∷ call (searchFirst (fresh (from 0x20)) (filled 0)) (refused 39)
@@ -225,7 +225,7 @@ onPositions =
     ∷ call (writeNext (positionOf 31 15 128) (filled 0)) (refused 6)
     ∷ call (read (recordOf sigla 65536) (filled 0)) (refused 6)
     ∷ call (write (recordOf sigla 65536) (filled 0)) (refused 6)
-    ∷ call (emptyRecord (recordOf sigla 65536)) (refused 6)
+    ∷ call (writeZeroFill (recordOf sigla 65536) (filled 0)) (refused 6)
     -- "36 examines no name"
     ∷ call (setRandom (control (replicate 11 0) 31 15 0 [] 128 7)) (done 0)
     ∷ blockAt 33 (0 ∷ 0 ∷ 1 ∷ [])
@@ -261,28 +261,30 @@ onOneBlock =
     ∷ heldAre (2 ∷ 0 ∷ 0 ∷ 0 ∷ [])
     ∷ call (write (recordOf sigla 8) (filled 8)) (refused 2)
     ∷ call (writeNext (positionOf 0 0 8) (filled 8)) (refused 2)
-    ∷ call (emptyRecord (recordOf sigla 8)) (refused 2)
-    -- "random write of 128 zero bytes ..; the record counts as written"
-    ∷ call (emptyRecord (recordOf sigla 3)) (done 0)
-    ∷ volumeAt 0 (entry 0 sigla 0 0 4 (1 ∷ []) ++ empty 31 ++ filled 7 ++ old 1152 256 ++ filled 0 ++ old 1536 512)
+    ∷ call (writeZeroFill (recordOf sigla 8) (filled 8)) (refused 2)
+    -- "the random write, but a block given for the first time is first filled with zeros": this one was given before
+    ∷ call (writeZeroFill (recordOf sigla 3) (filled 5)) (done 0)
+    ∷ volumeAt 0 (entry 0 sigla 0 0 4 (1 ∷ []) ++ empty 31 ++ filled 7 ++ old 1152 256 ++ filled 5 ++ old 1536 512)
     ∷ blockIs (control sigla 0 0 4 (1 ∷ []) 3 3)
+    ∷ bufferIs (filled 5)
     ∷ call (read (recordOf sigla 3) (filled 1)) (done 0)
-    ∷ bufferIs (filled 0)
+    ∷ bufferIs (filled 5)
     -- "if equal, rc is the larger of both"
     ∷ call (write (recordOf sigla 2) (filled 9)) (done 0)
-    ∷ volumeAt 0 (entry 0 sigla 0 0 4 (1 ∷ []) ++ empty 31 ++ filled 7 ++ old 1152 128 ++ filled 9 ++ filled 0 ++ old 1536 512)
+    ∷ volumeAt 0 (entry 0 sigla 0 0 4 (1 ∷ []) ++ empty 31 ++ filled 7 ++ old 1152 128 ++ filled 9 ++ filled 5 ++ old 1536 512)
     -- a new group, an empty slot, no free block
     ∷ call (write (recordOf sigla 128) (filled 8)) (refused 2)
     -- "their blocks are free"; record 4,106 is in extent 32: ex 0, s2 1
     ∷ call (delete (fresh sigla)) (done 0)
     ∷ heldAre (0 ∷ 0 ∷ 0 ∷ 0 ∷ [])
     ∷ call (make (fresh lemmata)) (done 0)
-    ∷ call (emptyRecord (recordOf lemmata 4106)) (done 0)
+    ∷ call (writeZeroFill (recordOf lemmata 4106) (filled 6)) (done 0)
     ∷ volumeAt 0 (entry 0 lemmata 0 0 0 [] ++ entry 0 lemmata 0 1 11 (0 ∷ 1 ∷ []) ++ empty 30)
-    ∷ volumeAt 1280 (filled 0)
+    ∷ volumeAt 1024 (replicate 256 0 ++ filled 6 ++ replicate 640 0)
     ∷ blockIs (control lemmata 0 1 11 (0 ∷ 1 ∷ []) 10 4106)
     ∷ call (read (recordOf lemmata 4105) (filled 1)) (done 0)
     ∷ blockIs (control lemmata 0 1 11 (0 ∷ 1 ∷ []) 9 4105)
+    ∷ bufferIs (filled 0)
     ∷ []
 
 -- B 2,048: an entry has two extents. One file has record 200 alone, the other a block in its second extent, which is
@@ -357,7 +359,7 @@ onChanges =
     -- "writes, rename: any entry of the file is read-only"
     ∷ call (write (recordOf lemmata 0) (filled 7)) (refused 38)
     ∷ call (writeNext (recordOf lemmata 0) (filled 7)) (refused 38)
-    ∷ call (emptyRecord (recordOf lemmata 0)) (refused 38)
+    ∷ call (writeZeroFill (recordOf lemmata 0) (filled 0)) (refused 38)
     ∷ call (rename (renaming lemmata (from 85))) (refused 38)
     -- "top bits of control block bytes 9 and 10 go to all entries of the file"
     ∷ call (attributes (fresh lemmata)) (done 0)
@@ -386,7 +388,7 @@ onChanges =
     -- "user has no entry of that name"
     ∷ call (write (recordOf sigla 0) (filled 8)) (refused 3)
     ∷ call (writeNext (recordOf sigla 0) (filled 8)) (refused 3)
-    ∷ call (emptyRecord (recordOf sigla 0)) (refused 3)
+    ∷ call (writeZeroFill (recordOf sigla 0) (filled 0)) (refused 3)
     -- the blocks of other files stay held; an attribute that was set is there
     ∷ call (make (fresh sigla)) (done 0)
     ∷ call (write (recordOf sigla 0) (filled 9)) (done 0)
@@ -406,7 +408,7 @@ onChanges =
     ∷ call (write (recordOf sigla 0) (filled 8)) (refused 37)
     ∷ call (write (recordOf sigla 65536) (filled 8)) (refused 6)
     ∷ call (writeNext (recordOf sigla 0) (filled 8)) (refused 37)
-    ∷ call (emptyRecord (recordOf sigla 0)) (refused 37)
+    ∷ call (writeZeroFill (recordOf sigla 0) (filled 0)) (refused 37)
     ∷ call (read (recordOf lemmata 0) (filled 0)) (done 0)
     ∷ bufferIs (filled 8)
     ∷ call (read (recordOf sigla 0) (filled 0)) (refused 3)
@@ -628,7 +630,6 @@ lentBlock f number =
     ∷ call (rename f) (refused number)
     ∷ call (attributes f) (refused number)
     ∷ call (size f) (refused number)
-    ∷ call (emptyRecord f) (refused number)
     ∷ []
 
 abbrev pub lentBuffer : List ℕ → List ℕ → ℕ → List Line
@@ -638,6 +639,7 @@ lentBuffer f b number =
     ∷ call (writeNext f b) (refused number)
     ∷ call (read f b) (refused number)
     ∷ call (write f b) (refused number)
+    ∷ call (writeZeroFill f b) (refused number)
     ∷ []
 
 abbrev pub onLent : List Line

@@ -13,7 +13,7 @@ use Rattle.volume.specs.Name.{strip, nameAt, same, like, goodName}
 use Rattle.volume.specs.Typing.{typeableByte, blankBefore, typeable}
 use Rattle.volume.specs.Entry.{places, blockIn, withBlock, countOf, ofFile, ofGroup, matches}
 use Rattle.volume.specs.Directory.{slotAt, putSlot, findSlot, mapSlot}
-use Rattle.volume.specs.Record.{recordSlot, counted, present, recordAt, putRecord, slotRecord}
+use Rattle.volume.specs.Record.{recordSlot, counted, present, recordAt, putRecord, fillRecord, putFilled, slotRecord}
 use Rattle.blocks.specs.Held.{digit, holds, hold, release, wordOf, wordsOf, lowestFree, freeCount}
 use Rattle.control.specs.Block.{position, random, setTo, opened, made, withRandom}
 use Rattle.answers.specs.declared.Refusal.the-variants.{Closed}
@@ -40,7 +40,7 @@ use Rattle.filecalls.specs.Open.{openTests, openAct, closeTests, closeAct, size
 use Rattle.filecalls.specs.Search.{keptAt, newSearch, shown, firstTests, searchFirstAct, nextTests, searchNextAct}
 use Rattle.filecalls.specs.Names.{deleteLadder, deleteAct, makeLadder, makeAct, renameLadder, renameAct, attributesLadder, attributesAct}
 use Rattle.filecalls.specs.Read.{sequentialTests, randomTests, readDone, readSequentialAct, readRandomAct}
-use Rattle.filecalls.specs.Write.{writeEntry, writeChange, writeDone, writeSequentialAct, writeRandomAct, emptyTests, emptyRecordAct}
+use Rattle.filecalls.specs.Write.{writeEntry, writeChange, writeDone, writeSequentialAct, writeRandomAct, writeZeroFillAct}
 use Rattle.filecalls.specs.Small.{protectTests, protectAct, userTests, userAct, setRandomTests, setRandomAct}
 
 -- The calls that we serve, each with what it is lent beside the volume: a control block, a transfer buffer.
@@ -62,7 +62,7 @@ pub data Call : Type 0 where
   write : List ℕ → List ℕ → Call
   size : List ℕ → Call
   setRandom : List ℕ → Call
-  emptyRecord : List ℕ → Call
+  writeZeroFill : List ℕ → List ℕ → Call
 
 -- all that a call leaves, by its definition
 unfoldable pub perform : Call → Drive → List ℕ → Outcome
@@ -83,7 +83,7 @@ perform (read f b) d v = outcome d v f b (readRandomAct d v f b)
 perform (write f b) d v = outcome d v f b (writeRandomAct d v f b)
 perform (size f) d v = outcome d v f [] (sizeAct d v f)
 perform (setRandom f) d v = outcome d v f [] (setRandomAct d f)
-perform (emptyRecord f) d v = outcome d v f [] (emptyRecordAct d v f)
+perform (writeZeroFill f b) d v = outcome d v f b (writeZeroFillAct d v f b)
 
 -- What a call answers: whether it succeeded, the number, and the value beside it.
 abbrev pub answered : Answer → List ℕ
@@ -155,7 +155,7 @@ before v = record { answer = Refused Closed; drive = closed; volume = v; block =
 
 -- Both sides of a statement: what the scripts show, and what they say. To unfold `seen` is to unfold every definition.
 unfoldable pub seen : List Script → List (List (List ℕ))
-unfolding seenAfter perform lowFrom anyFrom everyFrom countFrom fold part put all lawful start slotStart recordStart groupOf placeOf inside strip nameAt same like goodName typeable typeableByte blankBefore places blockIn withBlock countOf ofFile ofGroup matches slotAt putSlot findSlot mapSlot recordSlot counted present recordAt putRecord slotRecord digit holds hold release wordOf wordsOf lowestFree freeCount position random setTo opened made withRandom firstMet goodFields goodTopBits inPlaces names namedBelow goodPlace seenBelow goodSlot lowestBad named heldOf openSlot closeSlot patternOf hitFrom entryEnd larger sizeOf readBlock readTests readBytes renamed attributed changed deleteTests freePlace freeEntry freeSlot freeMatches makeTests freshEntry renameTests alloc likeEntry grown writeSlot baseEntry needsBlock writeBlock writtenEntry writeTests isOpen outcome unless stored storedAll changedState logInReply logInTests refusedLogIn openTests openAct closeTests closeAct sizeTests sizeAct keptAt newSearch shown firstTests searchFirstAct nextTests searchNextAct deleteLadder deleteAct makeLadder makeAct renameLadder renameAct attributesLadder attributesAct sequentialTests randomTests readDone readSequentialAct readRandomAct writeEntry writeChange writeDone writeSequentialAct writeRandomAct emptyTests emptyRecordAct protectTests protectAct userTests userAct setRandomTests setRandomAct
+unfolding seenAfter perform lowFrom anyFrom everyFrom countFrom fold part put all lawful start slotStart recordStart groupOf placeOf inside strip nameAt same like goodName typeable typeableByte blankBefore places blockIn withBlock countOf ofFile ofGroup matches slotAt putSlot findSlot mapSlot recordSlot counted present recordAt putRecord fillRecord putFilled slotRecord digit holds hold release wordOf wordsOf lowestFree freeCount position random setTo opened made withRandom firstMet goodFields goodTopBits inPlaces names namedBelow goodPlace seenBelow goodSlot lowestBad named heldOf openSlot closeSlot patternOf hitFrom entryEnd larger sizeOf readBlock readTests readBytes renamed attributed changed deleteTests freePlace freeEntry freeSlot freeMatches makeTests freshEntry renameTests alloc likeEntry grown writeSlot baseEntry needsBlock writeBlock writtenEntry writeTests isOpen outcome unless stored storedAll changedState logInReply logInTests refusedLogIn openTests openAct closeTests closeAct sizeTests sizeAct keptAt newSearch shown firstTests searchFirstAct nextTests searchNextAct deleteLadder deleteAct makeLadder makeAct renameLadder renameAct attributesLadder attributesAct sequentialTests randomTests readDone readSequentialAct readRandomAct writeEntry writeChange writeDone writeSequentialAct writeRandomAct writeZeroFillAct protectTests protectAct userTests userAct setRandomTests setRandomAct
 seen [] = []
 seen (s ∷ ss) = seenAfter (before (s .volume)) (s .lines) ∷ seen ss
 

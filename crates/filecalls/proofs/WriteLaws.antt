@@ -15,14 +15,8 @@ use Rattle.writing.specs.WritePlan.{entryAfter, volumeAfter, heldAfter}
 use Rattle.filecalls.specs.declared.Drive.{Drive}
 use Rattle.filecalls.specs.declared.Reply.{Reply}
 use Rattle.filecalls.specs.Outcome.{keeps, takes, deny, unless, outcome, left, withHeld, changedState, stored, storedAll}
-use Rattle.filecalls.specs.Write.{writeEntry, writeChange, writeDone, directoryTests, emptyTests}
-use Rattle.filecalls.specs.Lent.{namedTests, randomLent}
+use Rattle.filecalls.specs.Write.{writeEntry, writeChange, writeDone, directoryTests}
 use Rattle.filecalls.proofs.OutcomeLaws.{goes-by, says-no, denies, does}
-
--- a random call that is lent no buffer passes the right length for one
-pub empty-lent : (d : Drive) (v f : List ℕ) → firstMet (randomLent d v f 128) ≡ firstMet (emptyTests d v f)
-unfolding randomLent emptyTests namedTests firstMet
-empty-lent d v f = refl
 
 -- the state where block x is taken if t
 taken : (d : Drive) (v : List ℕ) (t : Bool) (x : ℕ)
@@ -31,25 +25,25 @@ unfolding changedState
 taken d v true x = refl
 taken d v false x = refl
 
--- what the write of record n leaves, whatever buffer c it is to leave
-pub leaves : (d : Drive) (v f b : List ℕ) (n cr : ℕ) (r c : List ℕ) → outcome d v f b (writeDone d v f n cr r c)
+-- what the write of record n leaves
+pub leaves : (d : Drive) (v f : List ℕ) (n cr : ℕ) (fills : Bool) (b : List ℕ) → outcome d v f b (writeDone d v f n cr fills b)
     ≡ record {
       answer = Done 0;
       drive = withHeld d (heldAfter (d .geometry) (d .held) v (d .user) (nameOf f) n);
-      volume = volumeAfter (d .geometry) (d .held) v (d .user) (nameOf f) n r;
+      volume = volumeAfter (d .geometry) (d .held) v (d .user) (nameOf f) n fills b;
       block = setTo f (entryAfter (d .geometry) (d .held) v (d .user) (nameOf f) n) n cr;
-      buffer = c;
+      buffer = b;
     }
 unfolding outcome writeDone writeEntry writeChange stored storedAll
-leaves d v f b n cr r c =
+leaves d v f n cr fills b =
     rw (taken d v (needsBlock (d .geometry) v (d .user) (nameOf f) n) (writeBlock (d .geometry) (d .held) v (d .user) (nameOf f) n))
 
-module _ (d : Drive) (v f : List ℕ) (n cr : ℕ) (r b : List ℕ) where
+module _ (d : Drive) (v f : List ℕ) (n cr : ℕ) (fills : Bool) (b : List ℕ) where
   abbrev tests : List Test
   tests = writeTests (d .geometry) (d .held) v (d .user) (nameOf f) n
 
   abbrev volume : List ℕ
-  volume = volumeAfter (d .geometry) (d .held) v (d .user) (nameOf f) n r
+  volume = volumeAfter (d .geometry) (d .held) v (d .user) (nameOf f) n fills b
 
   abbrev block : List ℕ
   block = setTo f (entryAfter (d .geometry) (d .held) v (d .user) (nameOf f) n) n cr
@@ -61,25 +55,25 @@ module _ (d : Drive) (v f : List ℕ) (n cr : ℕ) (r b : List ℕ) where
   module _ {why : Refusal} {s : Reply} {v′ f′ : List ℕ}
       (p : d .protected ≡ false) (e : why ≡ firstMet tests) (ev : v′ ≡ cond (isNone why) volume v) (ef : f′ ≡ cond (isNone why) block f) where
     write-refused : isNone why ≡ false → s ≡ record { answer = Refused why; drive = d }
-        → left s v′ f′ b ≡ outcome d v f b (unless (directoryTests d v f n) (writeDone d v f n cr r b))
+        → left s v′ f′ b ≡ outcome d v f b (unless (directoryTests d v f n) (writeDone d v f n cr fills b))
     write-refused i q =
-        let u = goes-by Protected (d .protected) tests (writeDone d v f n cr r b) p
-        ∙ denies tests (writeDone d v f n cr r b) (ap isNone (sym e) ∙ i) ∙ ap deny (sym e) in
+        let u = goes-by Protected (d .protected) tests (writeDone d v f n cr fills b) p
+        ∙ denies tests (writeDone d v f n cr fills b) (ap isNone (sym e) ∙ i) ∙ ap deny (sym e) in
         rw (ev, ef, i) (says-no d v f b u q)
 
     write-done : {h′ : List ℕ} → h′ ≡ cond (isNone why) held (d .held) → isNone why ≡ true
         → s ≡ record { answer = Done 0; drive = withHeld d h′ }
-        → left s v′ f′ b ≡ outcome d v f b (unless (directoryTests d v f n) (writeDone d v f n cr r b))
+        → left s v′ f′ b ≡ outcome d v f b (unless (directoryTests d v f n) (writeDone d v f n cr fills b))
     write-done eh i q =
-        let u = goes-by Protected (d .protected) tests (writeDone d v f n cr r b) p
-        ∙ does tests (writeDone d v f n cr r b) (ap isNone (sym e) ∙ i) in
-        rw (q, ev, ef, eh, i) (sym (leaves d v f b n cr r b) ∙ ap (outcome d v f b) (sym u))
+        let u = goes-by Protected (d .protected) tests (writeDone d v f n cr fills b) p
+        ∙ does tests (writeDone d v f n cr fills b) (ap isNone (sym e) ∙ i) in
+        rw (q, ev, ef, eh, i) (sym (leaves d v f n cr fills b) ∙ ap (outcome d v f b) (sym u))
 
     pub write-decided : {h′ : List ℕ} → h′ ≡ cond (isNone why) held (d .held)
         → s ≡ record { answer = cond (isNone why) (Done 0) (Refused why); drive = withHeld d h′ }
-        → left s v′ f′ b ≡ outcome d v f b (unless (directoryTests d v f n) (writeDone d v f n cr r b))
+        → left s v′ f′ b ≡ outcome d v f b (unless (directoryTests d v f n) (writeDone d v f n cr fills b))
     write-decided {h′} eh q = go (isNone why) refl
       where
-        go : (t : Bool) → isNone why ≡ t → left s v′ f′ b ≡ outcome d v f b (unless (directoryTests d v f n) (writeDone d v f n cr r b))
+        go : (t : Bool) → isNone why ≡ t → left s v′ f′ b ≡ outcome d v f b (unless (directoryTests d v f n) (writeDone d v f n cr fills b))
         go true h = write-done eh h (q ∙ rw h)
         go false h = write-refused h (q ∙ rw (eh, h))

@@ -6,7 +6,7 @@ use Prim.Native.Nat.{ℕ}
 use Rattle.volume.specs.declared.Geometry.{Geometry}
 use Rattle.volume.specs.Entry.{Entry}
 use Rattle.volume.specs.Directory.{putSlot, mapSlots}
-use Rattle.volume.specs.Record.{putRecord}
+use Rattle.volume.specs.Record.{putFilled}
 use Rattle.blocks.specs.Held.{hold}
 use Rattle.answers.specs.declared.Refusal.{Refusal}
 use Rattle.answers.specs.declared.Answer.{Answer}
@@ -26,9 +26,10 @@ pub data Change : Type 0 where
   becomes : ℕ → Change
   searches : Search → Change
 
--- what is stored: record n in block b, an entry in a slot, every entry changed
+-- what is stored: record n in block b, with zeros in the block's other records or alone; an entry in a slot; every entry
+-- changed
 pub data Store : Type 0 where
-  recordTo : ℕ → ℕ → List ℕ → Store
+  recordTo : Bool → ℕ → ℕ → List ℕ → Store
   entryTo : ℕ → Entry → Store
   eachEntry : (Entry → Entry) → Store
 
@@ -42,7 +43,7 @@ unfoldable pub unless : List Test → Act → Act
 unless ts act = cond (isNone (firstMet ts)) act (deny (firstMet ts))
 
 unfoldable pub stored : Geometry → List ℕ → Store → List ℕ
-stored g v (recordTo b n r) = putRecord g v b n r
+stored g v (recordTo fills b n r) = putFilled g fills v b n r
 stored g v (entryTo i e) = putSlot g v i e
 stored g v (eachEntry f) = mapSlots g f v
 

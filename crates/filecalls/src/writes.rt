@@ -1,28 +1,46 @@
-// The writes: sequential (21), random (34), and the empty record (40).
+// The writes: sequential (21), random (34), and random with zero fill (40).
 ghost use mathlib.Core.Path.{_≡_};
-ghost use mathlib.Core.List.{List, []};
-ghost use Prim.Native.Nat.{ℕ, _<_};
+ghost use Prim.Native.Nat.{_<_};
 ghost use lib.ListN.{length};
 ghost use Rattle.filecalls.specs.Outcome.{unless, outcome, left};
-ghost use Rattle.filecalls.specs.Write.{directoryTests, writeDone, writeSequentialAct, writeRandomAct, emptyRecordAct};
+ghost use Rattle.filecalls.specs.Write.{directoryTests, writeDone, writeSequentialAct, writeDirectAct, writeRandomAct, writeZeroFillAct};
 ghost use Rattle.filecalls.specs.Ready.{Lent};
 use crate::Drive;
 use crate::Reply;
 use answers::Refusal;
 
 impl Drive {
-    // Writes record n, where the tests of what is lent have passed; the buffer, whatever is lent as one, stays.
-    fn write_at(self, volume: &mut [u8], f: &mut [u8], bytes: &[u8], n: usize, cr: u8) -> Reply
-        requires { ⌜ Lent self (length (now volume)) (length (now f)) (length (now bytes)) ⌝ }
+    // Writes record n, where the tests of what is lent have passed. If it `fills`, a block that it gives is first filled with
+    // zeros.
+    fn write_at(
+        self,
+        volume: &mut [u8],
+        f: &mut [u8],
+        buffer: &[u8],
+        n: usize,
+        cr: u8,
+        fills: bool,
+    ) -> Reply
+        requires { ⌜ Lent self (length (now volume)) (length (now f)) (length (now buffer)) ⌝ }
         requires { ⌜ n < 65536 ⌝ }
-        ensures { λ r. ⌜ ((b : List ℕ) → left r (now (volume .exit)) (now (f .exit)) b ≡ outcome self (now (volume .entry)) (now (f .entry)) b (unless (directoryTests self (now (volume .entry)) (now (f .entry)) n) (writeDone self (now (volume .entry)) (now (f .entry)) n cr (now (bytes .entry)) b))) ⌝ }
+        ensures { λ r. ⌜ left r (now (volume .exit)) (now (f .exit)) (now (buffer .entry)) ≡ outcome self (now (volume .entry)) (now (f .entry)) (now (buffer .entry)) (unless (directoryTests self (now (volume .entry)) (now (f .entry)) n) (writeDone self (now (volume .entry)) (now (f .entry)) n cr fills (now (buffer .entry)))) ⌝ }
     {
         if self.protected {
             return self.refused(Refusal::Protected);
         }
         let g = self.geometry;
         let held = self.held;
-        let written = writing::write::write_record(g, volume, f, bytes, self.user, held, n, cr);
+        let written = writing::write::write_record(
+            g,
+            fills,
+            volume,
+            f,
+            buffer,
+            self.user,
+            held,
+            n,
+            cr,
+        );
         let why = written.why;
         let next = written.held;
         let mut drive = self;
@@ -39,31 +57,32 @@ impl Drive {
             return self.refused(why);
         }
         let n = control::position_of(f);
-        self.write_at(volume, f, buffer, n, (n % 128 + 1) as u8)
+        self.write_at(volume, f, buffer, n, (n % 128 + 1) as u8, false)
     }
 
-    // Function 34: writes the record in r0 r1.
-    pub fn write_random(self, volume: &mut [u8], f: &mut [u8], buffer: &[u8]) -> Reply
-        ensures { λ r. ⌜ left r (now (volume .exit)) (now (f .exit)) (now (buffer .entry)) ≡ outcome self (now (volume .entry)) (now (f .entry)) (now (buffer .entry)) (writeRandomAct self (now (volume .entry)) (now (f .entry)) (now (buffer .entry))) ⌝ }
+    // Functions 34 and 40: writes the record in r0 r1.
+    fn write_direct(self, volume: &mut [u8], f: &mut [u8], buffer: &[u8], fills: bool) -> Reply
+        ensures { λ r. ⌜ left r (now (volume .exit)) (now (f .exit)) (now (buffer .entry)) ≡ outcome self (now (volume .entry)) (now (f .entry)) (now (buffer .entry)) (writeDirectAct fills self (now (volume .entry)) (now (f .entry)) (now (buffer .entry))) ⌝ }
     {
         let why = self.random_why(volume, f, buffer.len());
         if !answers::is_none(why) {
             return self.refused(why);
         }
         let n = control::random_of(f);
-        self.write_at(volume, f, buffer, n, (n % 128) as u8)
+        self.write_at(volume, f, buffer, n, (n % 128) as u8, fills)
     }
 
-    // Function 40: writes 128 zero bytes to the record in r0 r1.
-    pub fn empty_record(self, volume: &mut [u8], f: &mut [u8]) -> Reply
-        ensures { λ r. ⌜ left r (now (volume .exit)) (now (f .exit)) [] ≡ outcome self (now (volume .entry)) (now (f .entry)) [] (emptyRecordAct self (now (volume .entry)) (now (f .entry))) ⌝ }
+    // Function 34: writes the record in r0 r1.
+    pub fn write_random(self, volume: &mut [u8], f: &mut [u8], buffer: &[u8]) -> Reply
+        ensures { λ r. ⌜ left r (now (volume .exit)) (now (f .exit)) (now (buffer .entry)) ≡ outcome self (now (volume .entry)) (now (f .entry)) (now (buffer .entry)) (writeRandomAct self (now (volume .entry)) (now (f .entry)) (now (buffer .entry))) ⌝ }
     {
-        let why = self.random_why(volume, f, 128);
-        if !answers::is_none(why) {
-            return self.refused(why);
-        }
-        let n = control::random_of(f);
-        let zeros = [0u8; 128];
-        self.write_at(volume, f, &zeros, n, (n % 128) as u8)
+        self.write_direct(volume, f, buffer, false)
+    }
+
+    // Function 40: the same, and a block that the record's place is given is first filled with zeros.
+    pub fn write_zero_fill(self, volume: &mut [u8], f: &mut [u8], buffer: &[u8]) -> Reply
+        ensures { λ r. ⌜ left r (now (volume .exit)) (now (f .exit)) (now (buffer .entry)) ≡ outcome self (now (volume .entry)) (now (f .entry)) (now (buffer .entry)) (writeZeroFillAct self (now (volume .entry)) (now (f .entry)) (now (buffer .entry))) ⌝ }
+    {
+        self.write_direct(volume, f, buffer, true)
     }
 }

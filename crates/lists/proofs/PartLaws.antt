@@ -3,6 +3,7 @@ use mathlib.Core.Path.{_≡_, refl, sym, ap, _∙_}
 use mathlib.Core.Logic.{_⊎_, inl, inr}
 use mathlib.Core.List.{List, [], _∷_, _++_, append-assoc, append-nil}
 use Prim.Native.Nat.{ℕ, suc, _+_, _-_, _≤_, _<_}
+use native.Mathlib.Decide.{decLt}
 use native.Mathlib.Omega.{arith}
 use lib.ListN.{length, getD, take, drop, set, length-append, length-take, length-drop, length-set, take-append-drop}
 use lib.Seq.{drop-cons, take-take, take-add, drop-drop, drop-append-le, take-append-le, take-at, drop-at, set-split, length-take-le, drop-append-add, getD-take, getD-drop}
@@ -92,3 +93,28 @@ part-before l a m new b n fits h =
 pub part-apart : (l : List ℕ) (a m : ℕ) (new : List ℕ) (b n : ℕ) → a + m ≤ length l → length new ≡ m → (b + n ≤ a) ⊎ (a + m ≤ b) → part (put l a m new) b n ≡ part l b n
 part-apart l a m new b n fits e (inl h) = part-before l a m new b n fits h
 part-apart l a m new b n fits e (inr h) = unfold part in ap (take n) (drop-after l a m new b fits e h)
+
+-- a byte after a part was replaced: one of the part, and one outside it
+module _ (l : List ℕ) (a m : ℕ) (new : List ℕ) (fits : a + m ≤ length l) (size : length new ≡ m) where
+  pub byte-in : (k : ℕ) → k < m → byte (put l a m new) (a + k) ≡ byte new k
+  byte-in k h = sym (byte-part (put l a m new) a m k h) ∙ ap (λ (x : List ℕ). byte x k) (part-put l a m fits new size)
+
+  pub byte-out : (k : ℕ) → (k + 1 ≤ a) ⊎ (a + m ≤ k) → byte (put l a m new) k ≡ byte l k
+  byte-out k o =
+      let z : k + 0 ≡ k = omega arith in
+      let x : byte (part (put l a m new) k 1) 0 ≡ byte (put l a m new) k = rw z at (byte-part (put l a m new) k 1 0 (omega arith)) in
+      let y : byte (part l k 1) 0 ≡ byte l k = rw z at (byte-part l k 1 0 (omega arith)) in
+      sym x ∙ ap (λ (w : List ℕ). byte w 0) (part-apart l a m new k 1 fits size o) ∙ y
+
+-- a byte that two lists share is shared after the same part was replaced in both
+pub byte-both : (l k : List ℕ) (a m : ℕ) (new : List ℕ) → a + m ≤ length l → a + m ≤ length k → length new ≡ m → (x : ℕ) → byte l x ≡ byte k x
+    → byte (put l a m new) x ≡ byte (put k a m new) x
+byte-both l k a m new in-l in-k size x e = go (decLt x a) (decLt x (a + m))
+  where
+    go : Dec (x < a) → Dec (x < a + m) → byte (put l a m new) x ≡ byte (put k a m new) x
+    go (yes h) q = byte-out l a m new in-l size x (inl (omega arith)) ∙ e ∙ sym (byte-out k a m new in-k size x (inl (omega arith)))
+    go (no h) (no q) = byte-out l a m new in-l size x (inr (omega arith)) ∙ e ∙ sym (byte-out k a m new in-k size x (inr (omega arith)))
+    go (no h) (yes q) =
+        let z : a + (x - a) ≡ x = omega arith in
+        let i : x - a < m = omega arith in
+        rw (← z) (byte-in l a m new in-l size (x - a) i ∙ sym (byte-in k a m new in-k size (x - a) i))

@@ -1,8 +1,8 @@
 -- Which numbers are served, and what their calls are lent: "log-in, user and 28 no control block; only search, reads and
--- writes (not 40) a transfer buffer"; next is "lent no control block".
+-- writes .. a transfer buffer", 40 among them; next is "lent no control block".
 use mathlib.Core.Bool.{Bool, true, false}
 use Rattle.bdos.specs.declared.Call.{Call}
-use Rattle.bdos.specs.declared.Call.the-variants.{LogIn, Open, Close, SearchFirst, SearchNext, Delete, ReadSequential, WriteSequential, Make, Rename, Protect, Attributes, User, ReadRandom, WriteRandom, Size, SetRandom, EmptyRecord, Unserved}
+use Rattle.bdos.specs.declared.Call.the-variants.{LogIn, Open, Close, SearchFirst, SearchNext, Delete, ReadSequential, WriteSequential, Make, Rename, Protect, Attributes, User, ReadRandom, WriteRandom, Size, SetRandom, WriteZeroFill, Unserved}
 
 abbrev pub isServed : Call → Bool
 isServed LogIn = true
@@ -22,7 +22,7 @@ isServed ReadRandom = true
 isServed WriteRandom = true
 isServed Size = true
 isServed SetRandom = true
-isServed EmptyRecord = true
+isServed WriteZeroFill = true
 isServed Unserved = false
 
 abbrev pub lendsBlock : Call → Bool
@@ -43,7 +43,7 @@ lendsBlock ReadRandom = true
 lendsBlock WriteRandom = true
 lendsBlock Size = true
 lendsBlock SetRandom = true
-lendsBlock EmptyRecord = true
+lendsBlock WriteZeroFill = true
 lendsBlock Unserved = false
 
 abbrev pub lendsBuffer : Call → Bool
@@ -64,5 +64,5 @@ lendsBuffer ReadRandom = true
 lendsBuffer WriteRandom = true
 lendsBuffer Size = false
 lendsBuffer SetRandom = false
-lendsBuffer EmptyRecord = false
+lendsBuffer WriteZeroFill = true
 lendsBuffer Unserved = false

@@ -18,7 +18,7 @@ pub fn lends_block(n: u8) -> bool
 pub fn lends_buffer(n: u8) -> bool
     ensures { λ r. ⌜ r ≡ lendsBuffer (callOf n) ⌝ }
 {
-    (n == 17) | (n == 18) | (n == 20) | (n == 21) | (n == 33) | (n == 34)
+    (n == 17) | (n == 18) | (n == 20) | (n == 21) | (n == 33) | (n == 34) | (n == 40)
 }
 
 // Is the number served?

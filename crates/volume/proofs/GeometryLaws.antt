@@ -5,7 +5,7 @@ use mathlib.Core.Bool.{Bool, true, false, _&&_, _||_, false≢true}
 use mathlib.Core.Logic.{_⊎_, inl, inr, ⊎-elim, _≢_}
 use Prim.Native.Nat.{ℕ, suc, _+_, _*_, _/_, _%_, _≤_, _<_}
 use native.Mathlib.Decide.{ℕ-discrete}
-use native.Mathlib.Nat.{mul-le-mul, mul-le-mul-right, mod-lt, div-lt-iff-lt-mul, div-add-mod', div-div-eq-div-mul}
+use native.Mathlib.Nat.{mul-comm, mul-le-mul, mul-le-mul-right, mod-lt, div-lt-iff-lt-mul, div-add-mod', div-div-eq-div-mul}
 use native.Mathlib.Omega.{arith}
 use lib.Arith.{digits-lt, digits-div, mod-mul}
 use lib.Dec.{ltb}
@@ -169,6 +169,28 @@ module _ (g : Geometry) (good : lawful g ≡ true) where
   place-lt n =
       let k : n % (128 * extents g) < 128 * extents g = mod-lt n (omega (arith, bounds g good)) in
       div-lt-iff-lt-mul (bounds g good .some-records) .1 (rw (bounds g good .entry-records) k)
+
+  -- place and group by the number of blocks' worth of records before it
+  place-of-block : (n : ℕ) → placeOf g n ≡ n / records g % places g
+  unfolding placeOf
+  place-of-block n =
+      let some = bounds g good .some-records in
+      let k : n % (128 * extents g) ≡ n / records g % places g * records g + n % records g
+      = rw (← bounds g good .entry-records) (mod-mul n {m = places g} {c = records g} (omega (arith, place-lt n)) some) in
+      rw k (digits-div (n / records g % places g) (mod-lt n some))
+
+  group-of-block : (n : ℕ) → groupOf g (n / 128) ≡ n / records g / places g
+  unfolding groupOf
+  group-of-block n =
+      let m : records g * places g ≡ 128 * extents g = mul-comm (records g) (places g) ∙ bounds g good .entry-records in
+      div-div-eq-div-mul n 128 (extents g) ∙ ap (λ (x : ℕ). n / x) (sym m) ∙ sym (div-div-eq-div-mul n (records g) (places g))
+
+  -- two records of one block have one place in one group
+  pub same-place : (m n : ℕ) → m / records g ≡ n / records g → placeOf g m ≡ placeOf g n
+  same-place m n e = place-of-block m ∙ ap (λ (x : ℕ). x % places g) e ∙ sym (place-of-block n)
+
+  pub same-group : (m n : ℕ) → m / records g ≡ n / records g → groupOf g (m / 128) ≡ groupOf g (n / 128)
+  same-group m n e = group-of-block m ∙ ap (λ (x : ℕ). x / places g) e ∙ sym (group-of-block n)
 
   -- a record's number from its group, its place and its place in the block
   pub record-number : (n : ℕ) → n ≡ groupOf g (n / 128) * (128 * extents g) + (placeOf g n * records g + n % records g)

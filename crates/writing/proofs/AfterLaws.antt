@@ -8,20 +8,23 @@ use Prim.Native.Nat.{ℕ, _/_, _%_, _≤_, _<_, max}
 use native.Mathlib.Nat.{max-eq-left, max-eq-right}
 use native.Mathlib.Omega.{arith}
 use lib.Dec.{leb, eqb}
-use lib.ListN.{length}
+use lib.ListN.{length, replicate}
 use borrow.Author.Tests.{lt-ltb, ltb-true, ltb-false, leb-true, leb-false, eq-eqb, ne-eqb, eqb-true}
+use Rattle.lists.specs.Bytes.{byte}
+use Rattle.lists.proofs.PartLaws.{byte-both}
 use Rattle.lists.proofs.SearchLaws.{low-is}
-use Rattle.volume.specs.Directory.{slotAt, slotFits, findSlot}
+use Rattle.volume.specs.Directory.{slotAt, putSlot, slotFits, findSlot}
 use Rattle.volume.specs.Entry.{extent, ofFile, ofGroup, countOf}
-use Rattle.volume.specs.Geometry.{lawful, bytes, records, slots, groupOf}
-use Rattle.volume.specs.Record.{recordSlot, recordBlock, counted, present, recordAt, putRecord}
+use Rattle.volume.specs.Geometry.{lawful, bytes, records, slots, slotStart, groupOf}
+use Rattle.volume.specs.Record.{recordSlot, recordBlock, counted, present, recordAt, OffBlock}
 use Rattle.volume.specs.declared.Geometry.{Geometry}
 use Rattle.volume.specs.declared.Wanted.the-variants.{Empty, File, Group}
-use Rattle.volume.proofs.DirectoryLaws.{slot-length, putSlot-length, slot-putSlot, slot-putSlot-other, record-putSlot, putRecord-length, record-putRecord, record-putRecord-other, record-putRecord-within, slot-putRecord}
+use Rattle.volume.proofs.DirectoryLaws.{slot-inside, slot-length, putSlot-length, slot-putSlot, slot-putSlot-other, record-putSlot}
+use Rattle.volume.proofs.FillLaws.{putFilled-length, record-putFilled, record-putFilled-within, record-putFilled-other, slot-putFilled, byte-putFilled}
 use Rattle.volume.proofs.GeometryLaws.{bounds}
 use Rattle.answers.specs.Refusal.{isNone, firstMet}
-use Rattle.writing.specs.Write.{likeEntry, grown, hasGroup, writeSlot, baseEntry, writeBlock, writeTests}
-use Rattle.writing.specs.WritePlan.{entryAfter, volumeAfter}
+use Rattle.writing.specs.Write.{likeEntry, grown, hasGroup, writeSlot, baseEntry, fillsBlock, writeBlock, writeTests}
+use Rattle.writing.specs.WritePlan.{entryAfter, dataAfter, volumeAfter}
 use Rattle.lists.proofs.BoolLaws.{and-left, and-right}
 use Rattle.volume.proofs.FindLaws.{found-fits, found-first}
 use Rattle.writing.proofs.GrowLaws.{length-like, head-like, like-extent, grown-extent, grown-counts, head-written, written-extent, written-count, written-block}
@@ -109,52 +112,68 @@ module _ (g : Geometry) (held v : List ℕ) (u : ℕ) (name : List ℕ) (n : ℕ
       rw (c, lt-ltb (n % 128) (countOf (grown (baseEntry g v u name n) n) (n / 128)) l, after-block, ne-eqb (writeBlock g held v u name n) 0 (omega (arith, p .block-low)))
 
   -- ---- the volume
-  module _ (r : List ℕ) (r128 : length r ≡ 128) where
-    stored-size : length (putRecord g v (writeBlock g held v u name n) n r) ≡ bytes g
-    stored-size = putRecord-length g good v size (writeBlock g held v u name n) n (write-passed g held v u name n passed .block-high) r r128 ∙ size
+  module _ (fills : Bool) (r : List ℕ) (r128 : length r ≡ 128) where
+    stored-size : length (dataAfter g held v u name n fills r) ≡ bytes g
+    stored-size =
+        putFilled-length g good (writeBlock g held v u name n) n (write-passed g held v u name n passed .block-high) r r128 v size (fillsBlock g v u name n fills)
+        ∙ size
 
-    pub after-size : length (volumeAfter g held v u name n r) ≡ bytes g
+    pub after-size : length (volumeAfter g held v u name n fills r) ≡ bytes g
     after-size =
-        putSlot-length g good (putRecord g v (writeBlock g held v u name n) n r) stored-size (writeSlot g v u name n) (write-passed g held v u name n passed .slot-in)
+        putSlot-length g good (dataAfter g held v u name n fills r) stored-size (writeSlot g v u name n) (write-passed g held v u name n passed .slot-in)
         (entryAfter g held v u name n) after-32
         ∙ stored-size
 
-    pub after-slot : slotAt g (volumeAfter g held v u name n r) (writeSlot g v u name n) ≡ entryAfter g held v u name n
+    pub after-slot : slotAt g (volumeAfter g held v u name n fills r) (writeSlot g v u name n) ≡ entryAfter g held v u name n
     after-slot =
-        slot-putSlot g good (putRecord g v (writeBlock g held v u name n) n r) stored-size (writeSlot g v u name n) (write-passed g held v u name n passed .slot-in)
+        slot-putSlot g good (dataAfter g held v u name n fills r) stored-size (writeSlot g v u name n) (write-passed g held v u name n passed .slot-in)
         (entryAfter g held v u name n) after-32
 
-    pub after-slot-other : (j : ℕ) → j < slots g → j ≢ writeSlot g v u name n → slotAt g (volumeAfter g held v u name n r) j ≡ slotAt g v j
+    pub after-slot-other : (j : ℕ) → j < slots g → j ≢ writeSlot g v u name n → slotAt g (volumeAfter g held v u name n fills r) j ≡ slotAt g v j
     after-slot-other j h ne =
         let p = write-passed g held v u name n passed in
-        slot-putSlot-other g good (putRecord g v (writeBlock g held v u name n) n r) stored-size (writeSlot g v u name n) (p .slot-in) (entryAfter g held v u name n) after-32 j h ne
-        ∙ slot-putRecord g good v size (writeBlock g held v u name n) n (p .block-high) r r128 (p .block-low) j h
+        slot-putSlot-other g good (dataAfter g held v u name n fills r) stored-size (writeSlot g v u name n) (p .slot-in) (entryAfter g held v u name n) after-32 j h ne
+        ∙ slot-putFilled g good (writeBlock g held v u name n) n (p .block-high) r r128 v size (fillsBlock g v u name n fills) (p .block-low) j h
 
     -- the record's bytes, and those of every other
     entry-apart : (b m : ℕ) → g .directory ≤ b → b < g .total
-        → recordAt g (volumeAfter g held v u name n r) b m ≡ recordAt g (putRecord g v (writeBlock g held v u name n) n r) b m
+        → recordAt g (volumeAfter g held v u name n fills r) b m ≡ recordAt g (dataAfter g held v u name n fills r) b m
     entry-apart b m low high =
-        record-putSlot g good (putRecord g v (writeBlock g held v u name n) n r) stored-size (writeSlot g v u name n) (write-passed g held v u name n passed .slot-in)
+        record-putSlot g good (dataAfter g held v u name n fills r) stored-size (writeSlot g v u name n) (write-passed g held v u name n passed .slot-in)
         (entryAfter g held v u name n) after-32 b m low high
 
-    pub after-record : recordAt g (volumeAfter g held v u name n r) (writeBlock g held v u name n) n ≡ r
+    pub after-record : recordAt g (volumeAfter g held v u name n fills r) (writeBlock g held v u name n) n ≡ r
     after-record =
         let p = write-passed g held v u name n passed in
         entry-apart (writeBlock g held v u name n) n (p .block-low) (p .block-high)
-        ∙ record-putRecord g good v size (writeBlock g held v u name n) n (p .block-high) r r128
+        ∙ record-putFilled g good (writeBlock g held v u name n) n (p .block-high) r r128 v size (fillsBlock g v u name n fills)
 
     pub after-record-other : (b m : ℕ) → g .directory ≤ b → b < g .total → b ≢ writeBlock g held v u name n
-        → recordAt g (volumeAfter g held v u name n r) b m ≡ recordAt g v b m
+        → recordAt g (volumeAfter g held v u name n fills r) b m ≡ recordAt g v b m
     after-record-other b m low high ne =
         entry-apart b m low high
-        ∙ record-putRecord-other g good v size (writeBlock g held v u name n) n (write-passed g held v u name n passed .block-high) r r128 b m high ne
+        ∙ record-putFilled-other g good (writeBlock g held v u name n) n (write-passed g held v u name n passed .block-high) r r128 v size
+        (fillsBlock g v u name n fills) b m high ne
 
+    -- in the same block: zeros where it is filled
     pub after-record-within : (m : ℕ) → m % records g ≢ n % records g
-        → recordAt g (volumeAfter g held v u name n r) (writeBlock g held v u name n) m ≡ recordAt g v (writeBlock g held v u name n) m
+        → recordAt g (volumeAfter g held v u name n fills r) (writeBlock g held v u name n) m
+        ≡ cond (fillsBlock g v u name n fills) (replicate 128 0) (recordAt g v (writeBlock g held v u name n) m)
     after-record-within m ne =
         let p = write-passed g held v u name n passed in
         entry-apart (writeBlock g held v u name n) m (p .block-low) (p .block-high)
-        ∙ record-putRecord-within g good v size (writeBlock g held v u name n) n (p .block-high) r r128 m ne
+        ∙ record-putFilled-within g good (writeBlock g held v u name n) n (p .block-high) r r128 v size (fillsBlock g v u name n fills) m ne
+
+    -- a byte outside the block is as if the entry alone were laid
+    pub after-byte : (x : ℕ) → OffBlock g (writeBlock g held v u name n) x
+        → byte (volumeAfter g held v u name n fills r) x ≡ byte (putSlot g v (writeSlot g v u name n) (entryAfter g held v u name n)) x
+    unfolding putSlot
+    after-byte x out =
+        let p = write-passed g held v u name n passed in
+        byte-both (dataAfter g held v u name n fills r) v (slotStart g (writeSlot g v u name n)) 32 (entryAfter g held v u name n)
+        (slot-inside g good (dataAfter g held v u name n fills r) stored-size (writeSlot g v u name n) (p .slot-in))
+        (slot-inside g good v size (writeSlot g v u name n) (p .slot-in)) after-32 x
+        (byte-putFilled g good (writeBlock g held v u name n) n (p .block-high) r r128 v size (fillsBlock g v u name n fills) x out)
 
     -- ---- the record is found there, and is present
     before-own : (i : ℕ) → i < writeSlot g v u name n → i < recordSlot g v u name n
@@ -166,17 +185,17 @@ module _ (g : Geometry) (held v : List ℕ) (u : ℕ) (name : List ℕ) (n : ℕ
         go true q l s = l
         go false q l s = let m = ltb-false (recordSlot g v u name n) (slots g) q in omega arith
 
-    earlier : (i : ℕ) → i < writeSlot g v u name n → slotFits g (volumeAfter g held v u name n r) u name (Group k) i ≡ false
+    earlier : (i : ℕ) → i < writeSlot g v u name n → slotFits g (volumeAfter g held v u name n fills r) u name (Group k) i ≡ false
     unfolding recordSlot
     earlier i h =
         let p = write-passed g held v u name n passed .slot-in in
         ap (ofGroup g u name k) (after-slot-other i (omega arith) (omega arith)) ∙ found-first g v u name (Group k) i (before-own i h)
 
-    pub after-recordSlot : recordSlot g (volumeAfter g held v u name n r) u name n ≡ writeSlot g v u name n
+    pub after-recordSlot : recordSlot g (volumeAfter g held v u name n fills r) u name n ≡ writeSlot g v u name n
     unfolding recordSlot findSlot
     after-recordSlot =
         let p = write-passed g held v u name n passed .slot-in in
-        low-is (slotFits g (volumeAfter g held v u name n r) u name (Group k)) 0 (slots g) (writeSlot g v u name n)
+        low-is (slotFits g (volumeAfter g held v u name n fills r) u name (Group k)) 0 (slots g) (writeSlot g v u name n)
         (record {
           from = omega arith;
           below = omega arith;
@@ -184,7 +203,7 @@ module _ (g : Geometry) (held v : List ℕ) (u : ℕ) (name : List ℕ) (n : ℕ
           first = λ i a b. earlier i b;
         })
 
-    pub after-present : present g (volumeAfter g held v u name n r) u name n ≡ true
+    pub after-present : present g (volumeAfter g held v u name n fills r) u name n ≡ true
     unfolding present
     after-present =
         rw (after-recordSlot, after-slot, after-counted, lt-ltb (writeSlot g v u name n) (slots g) (write-passed g held v u name n passed .slot-in))

@@ -47,6 +47,10 @@ module _ (g : Geometry) (v : List ℕ) (u : ℕ) (name : List ℕ) (n : ℕ) whe
   unfoldable pub needsBlock : Bool
   needsBlock = eqb (recordBlock g baseEntry n) 0
 
+  -- function 40: "a block given for the first time is first filled with zeros"
+  abbrev pub fillsBlock : Bool → Bool
+  fillsBlock fills = fills && needsBlock
+
 -- the block that the record goes to
 unfoldable pub writeBlock : Geometry → List ℕ → List ℕ → ℕ → List ℕ → ℕ → ℕ
 writeBlock g held v u name n =

@@ -10,11 +10,11 @@ use Rattle.volume.specs.declared.Wanted.the-variants.{File, ReadOnlyFile}
 use Rattle.volume.specs.Geometry.{slots, inside, placeOf}
 use Rattle.volume.specs.Entry.{Entry}
 use Rattle.volume.specs.Directory.{slotAt, putSlot, findSlot}
-use Rattle.volume.specs.Record.{recordSlot, recordBlock, putRecord}
+use Rattle.volume.specs.Record.{recordSlot, recordBlock, putFilled}
 use Rattle.blocks.specs.Held.{hold}
 use Rattle.answers.specs.declared.Refusal.the-variants.{NoFile, ReadOnly, Outside, NoSlot, NoBlock}
 use Rattle.answers.specs.Refusal.{Test, test}
-use Rattle.writing.specs.Write.{alloc, likeEntry, writeSlot, baseEntry, needsBlock, writeBlock, writtenEntry}
+use Rattle.writing.specs.Write.{alloc, likeEntry, writeSlot, baseEntry, needsBlock, fillsBlock, writeBlock, writtenEntry}
 
 -- the slot of the group's own entry, or else the lowest that has what is wanted
 unfoldable pub ownOr : Geometry → List ℕ → ℕ → List ℕ → ℕ → Wanted → ℕ
@@ -51,9 +51,12 @@ roomTests g held e slot n =
 abbrev pub entryAfter : Geometry → List ℕ → List ℕ → ℕ → List ℕ → ℕ → Entry
 entryAfter g held v u name n = writtenEntry g (baseEntry g v u name n) n (writeBlock g held v u name n)
 
-abbrev pub volumeAfter : Geometry → List ℕ → List ℕ → ℕ → List ℕ → ℕ → List ℕ → List ℕ
-volumeAfter g held v u name n r =
-    putSlot g (putRecord g v (writeBlock g held v u name n) n r) (writeSlot g v u name n) (entryAfter g held v u name n)
+-- the data alone, and the directory with it
+abbrev pub dataAfter : Geometry → List ℕ → List ℕ → ℕ → List ℕ → ℕ → Bool → List ℕ → List ℕ
+dataAfter g held v u name n fills r = putFilled g (fillsBlock g v u name n fills) v (writeBlock g held v u name n) n r
+
+abbrev pub volumeAfter : Geometry → List ℕ → List ℕ → ℕ → List ℕ → ℕ → Bool → List ℕ → List ℕ
+volumeAfter g held v u name n fills r = putSlot g (dataAfter g held v u name n fills r) (writeSlot g v u name n) (entryAfter g held v u name n)
 
 abbrev pub heldAfter : Geometry → List ℕ → List ℕ → ℕ → List ℕ → ℕ → List ℕ
 heldAfter g held v u name n = cond (needsBlock g v u name n) (hold held (writeBlock g held v u name n)) held

@@ -1,4 +1,5 @@
 // The writes, over what is lent to them.
 
+pub mod data;
 pub mod entries;
 pub mod write;

@@ -7,12 +7,13 @@ ghost use lib.ListN.{length};
 ghost use Rattle.volume.specs.Geometry.{lawful, bytes, slots};
 ghost use Rattle.volume.specs.Name.{strip, nameOf};
 ghost use Rattle.volume.specs.Directory.{putSlot};
-ghost use Rattle.volume.specs.Record.{recordBlock, putRecord};
+ghost use Rattle.volume.specs.Record.{recordBlock, putFilled};
 ghost use Rattle.blocks.specs.Held.{hold};
 ghost use Rattle.control.specs.Block.{setTo};
 ghost use Rattle.answers.specs.Refusal.{isNone, firstMet};
 ghost use Rattle.writing.specs.Write.{writeTests};
 ghost use Rattle.writing.specs.WritePlan.{Decided, ownOr, blockFor, fileTests, roomTests, entryAfter, volumeAfter, heldAfter};
+use crate::data;
 use crate::entries;
 use answers::Refusal;
 use volume::Geometry;
@@ -122,9 +123,10 @@ fn decide(
     room(g, held, e, slot, n)
 }
 
-// The stores of a write: the record, and then the directory record that holds its entry.
+// The stores of a write: the data, and then the directory record that holds its entry.
 fn store(
     g: Geometry,
+    fills: bool,
     volume: &mut [u8],
     buffer: &[u8],
     e: &[u8],
@@ -135,16 +137,16 @@ fn store(
     requires { ⌜ (lawful g ≡ true) × (length (now volume) ≡ bytes g) ⌝ }
     requires { ⌜ (length (now buffer) ≡ 128) × (length (now e) ≡ 32) ⌝ }
     requires { ⌜ (slot < slots g) × (block < g .total) ⌝ }
-    ensures { λ _. ⌜ now (volume .exit) ≡ putSlot g (putRecord g (now (volume .entry)) block n (now (buffer .entry))) slot (now (e .entry)) ⌝ }
+    ensures { λ _. ⌜ now (volume .exit) ≡ putSlot g (putFilled g fills (now (volume .entry)) block n (now (buffer .entry))) slot (now (e .entry)) ⌝ }
 {
-    let at = g.record_start(block, n);
-    lists::copy(&mut volume[at..at + 128], buffer);
+    data::put_filled(g, fills, volume, block, n, buffer);
     directory::put_slot(g, volume, slot, e);
 }
 
 // All that a write changes: the volume, and the control block, which is set to record n.
 fn carry_out(
     g: Geometry,
+    fills: bool,
     volume: &mut [u8],
     f: &mut [u8],
     buffer: &[u8],
@@ -157,10 +159,10 @@ fn carry_out(
     requires { ⌜ (lawful g ≡ true) × (length (now volume) ≡ bytes g) ⌝ }
     requires { ⌜ (length (now f) ≡ 36) × ((length (now buffer) ≡ 128) × (length (now e) ≡ 32)) ⌝ }
     requires { ⌜ (slot < slots g) × ((block < g .total) × (n < 65536)) ⌝ }
-    ensures { λ _. ⌜ now (volume .exit) ≡ putSlot g (putRecord g (now (volume .entry)) block n (now (buffer .entry))) slot (now (e .entry)) ⌝ }
+    ensures { λ _. ⌜ now (volume .exit) ≡ putSlot g (putFilled g fills (now (volume .entry)) block n (now (buffer .entry))) slot (now (e .entry)) ⌝ }
     ensures { λ _. ⌜ now (f .exit) ≡ setTo (now (f .entry)) (now (e .entry)) n cr ⌝ }
 {
-    store(g, volume, buffer, e, slot, block, n);
+    store(g, fills, volume, buffer, e, slot, block, n);
     control::set_to(f, e, n, cr);
 }
 
@@ -176,9 +178,10 @@ fn hold_if(held: [u64; 4], fresh: bool, b: usize) -> [u64; 4]
 }
 
 // Writes record n of the file that the control block names, and sets the control block to it, with this cr; or refuses,
-// and alters nothing.
+// and alters nothing. If it `fills`, a block that the record's place is given is first filled with zeros.
 pub fn write_record(
     g: Geometry,
+    fills: bool,
     volume: &mut [u8],
     f: &mut [u8],
     buffer: &[u8],
@@ -190,7 +193,7 @@ pub fn write_record(
     requires { ⌜ (lawful g ≡ true) × (length (now volume) ≡ bytes g) ⌝ }
     requires { ⌜ (length (now f) ≡ 36) × ((length (now buffer) ≡ 128) × (n < 65536)) ⌝ }
     ensures { λ r. ⌜ r .why ≡ firstMet (writeTests g held (now (volume .entry)) user (nameOf (now (f .entry))) n) ⌝ }
-    ensures { λ r. ⌜ now (volume .exit) ≡ cond (isNone (r .why)) (volumeAfter g held (now (volume .entry)) user (nameOf (now (f .entry))) n (now (buffer .entry))) (now (volume .entry)) ⌝ }
+    ensures { λ r. ⌜ now (volume .exit) ≡ cond (isNone (r .why)) (volumeAfter g held (now (volume .entry)) user (nameOf (now (f .entry))) n fills (now (buffer .entry))) (now (volume .entry)) ⌝ }
     ensures { λ r. ⌜ now (f .exit) ≡ cond (isNone (r .why)) (setTo (now (f .entry)) (entryAfter g held (now (volume .entry)) user (nameOf (now (f .entry))) n) n cr) (now (f .entry)) ⌝ }
     ensures { λ r. ⌜ r .held ≡ cond (isNone (r .why)) (heldAfter g held (now (volume .entry)) user (nameOf (now (f .entry))) n) held ⌝ }
 {
@@ -201,7 +204,8 @@ pub fn write_record(
         return Written { why, held };
     }
     entries::write_entry(g, &mut e, n, plan.block);
-    carry_out(g, volume, f, buffer, &e, plan.slot, plan.block, n, cr);
+    let fill = fills & plan.fresh;
+    carry_out(g, fill, volume, f, buffer, &e, plan.slot, plan.block, n, cr);
     let next = hold_if(held, plan.fresh, plan.block);
     Written { why, held: next }
 }

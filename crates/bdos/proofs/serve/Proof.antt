@@ -52,6 +52,6 @@ serve-spec =
     (λ c. rw (c .before .before .before .before .before .enum-told16 .given .1) (ap (keepsBuffer _) (c .before .before .file-size .ensures)))
     (λ c. search needs)
     (λ c. rw (c .before .before .before .before .enum-told17 .given .1) (ap (keepsVolume _) (ap (keepsBuffer _) (c .before .before .set-random .ensures))))
-    (λ c. search needs) (λ c. search needs)
-    (λ c. rw (c .before .before .before .before .before .before .before .enum-told18 .given .1) (ap (keepsBuffer _) (c .before .before .before .before .empty-record .ensures)))
+    (λ c. search needs) (λ c. search needs) (λ c. search needs)
+    (λ c. rw (c .before .before .before .before .before .before .before .before .enum-told18 .given .1) (c .before .before .before .before .write-zero-fill .ensures))
     (λ c. rw (c .before .enum-told19 .given .1, c .refused .ensures)))

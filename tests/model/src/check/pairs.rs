@@ -54,8 +54,8 @@ const REFUSALS: &[Given] = &[
     (33, &[13, 37]),
     // Not log-in, 18, 28, 32: lent no control block.
     (34, &[15, 16, 17, 19, 20, 21, 22, 23, 30, 33, 34, 35, 36, 40]),
-    // Only search, reads and writes, not 40, are lent a buffer.
-    (35, &[17, 18, 20, 21, 33, 34]),
+    // Only search, reads and writes are lent a buffer.
+    (35, &[17, 18, 20, 21, 33, 34, 40]),
     // All that are lent a control block.
     (42, &[15, 16, 17, 19, 20, 21, 22, 23, 30, 33, 34, 35, 36, 40]),
     (44, &[32]),

@@ -96,7 +96,7 @@ impl Chooser {
             (12, Run::Search),
             (if few { 14 } else { 4 }, Run::FillDirectory),
             (3, Run::FillDisk(RANDOM_WRITE)),
-            (3, Run::FillDisk(EMPTY_RECORD)),
+            (3, Run::FillDisk(ZERO_FILL_WRITE)),
             (3, Run::ReadOnly),
             (3, Run::Users),
         ]);
@@ -137,7 +137,7 @@ impl Chooser {
         let function = if first || last {
             ATTRIBUTES
         } else {
-            r.pick(&[DELETE, SEQUENTIAL_WRITE, RENAME, RANDOM_WRITE, EMPTY_RECORD, ATTRIBUTES])
+            r.pick(&[DELETE, SEQUENTIAL_WRITE, RENAME, RANDOM_WRITE, ZERO_FILL_WRITE, ATTRIBUTES])
         };
         let aim = aim_at_file(r, view, self.aim.name);
         let mut control = control_block(r, view, function, aim);
@@ -191,7 +191,7 @@ fn mixed(r: &mut Random, view: &View) -> Call {
             RANDOM_READ,
             RANDOM_WRITE,
             RANDOM_WRITE,
-            EMPTY_RECORD,
+            ZERO_FILL_WRITE,
             SIZE,
         ]);
         return aimed(r, view, function);
@@ -225,7 +225,7 @@ fn any_function(r: &mut Random, no_files: bool) -> u8 {
         (12, RANDOM_WRITE),
         (8, SIZE),
         (6, SET_RANDOM),
-        (8, EMPTY_RECORD),
+        (8, ZERO_FILL_WRITE),
     ])
 }
 

@@ -2,7 +2,6 @@
 //! of them but log-in (`inspection`).
 
 use super::control;
-use super::geometry::RECORD;
 use super::state::{Drive, State};
 use super::{files, records, refusals};
 
@@ -24,7 +23,7 @@ pub const RANDOM_READ: u8 = 33;
 pub const RANDOM_WRITE: u8 = 34;
 pub const SIZE: u8 = 35;
 pub const SET_RANDOM: u8 = 36;
-pub const EMPTY_RECORD: u8 = 40;
+pub const ZERO_FILL_WRITE: u8 = 40;
 
 /// The calls other than log-in.
 pub const CALLS: [u8; 17] = [
@@ -44,7 +43,7 @@ pub const CALLS: [u8; 17] = [
     RANDOM_WRITE,
     SIZE,
     SET_RANDOM,
-    EMPTY_RECORD,
+    ZERO_FILL_WRITE,
 ];
 
 pub fn is_served(function: u8) -> bool {
@@ -61,9 +60,9 @@ pub fn is_lent_control(function: u8) -> bool {
     !LOG_INS.contains(&function) && ![USER, PROTECT, SEARCH_NEXT].contains(&function)
 }
 
-/// "Only search, reads and writes (not 40) a transfer buffer".
+/// "Only search, reads and writes .. a transfer buffer"; 02 (iii) lends one to 40 as well.
 pub fn is_lent_buffer(function: u8) -> bool {
-    [SEARCH_FIRST, SEARCH_NEXT, SEQUENTIAL_READ, SEQUENTIAL_WRITE, RANDOM_READ, RANDOM_WRITE]
+    [SEARCH_FIRST, SEARCH_NEXT, SEQUENTIAL_READ, SEQUENTIAL_WRITE, RANDOM_READ, RANDOM_WRITE, ZERO_FILL_WRITE]
         .contains(&function)
 }
 
@@ -110,7 +109,7 @@ fn perform(state: &mut State, function: u8, parameter: u8, lent: &mut Lent) -> O
         SEQUENTIAL_WRITE => records::sequential_write(state, volume, control, buffer),
         RANDOM_READ => records::random_read(state, volume, control, buffer),
         RANDOM_WRITE => records::random_write(state, volume, control, buffer),
-        EMPTY_RECORD => records::random_write(state, volume, control, &[0; RECORD]),
+        ZERO_FILL_WRITE => records::zero_fill_write(state, volume, control, buffer),
         SET_RANDOM => set_random(control),
         USER => user(state, parameter),
         PROTECT => protect(state),

@@ -26,14 +26,23 @@ pub fn sequential_read(state: &State, volume: &[u8], control: &mut [u8], buffer:
 
 pub fn random_write(state: &mut State, volume: &mut [u8], control: &mut [u8], record: &[u8]) -> Outcome {
     let n = control::random_record(control);
-    write(state, volume, control, record, n)?;
+    write(state, volume, control, record, n, NewBlock::Stays)?;
+    control[CR] = (n % 128) as u8;
+    Ok(0)
+}
+
+/// 02 (iii): function 40 "is the random write, but a block given for the first
+/// time is first filled with zeros".
+pub fn zero_fill_write(state: &mut State, volume: &mut [u8], control: &mut [u8], record: &[u8]) -> Outcome {
+    let n = control::random_record(control);
+    write(state, volume, control, record, n, NewBlock::Cleared)?;
     control[CR] = (n % 128) as u8;
     Ok(0)
 }
 
 pub fn sequential_write(state: &mut State, volume: &mut [u8], control: &mut [u8], record: &[u8]) -> Outcome {
     let n = control::sequential_position(control);
-    write(state, volume, control, record, n)?;
+    write(state, volume, control, record, n, NewBlock::Stays)?;
     control[CR] = (n % 128) as u8 + 1;
     Ok(0)
 }
@@ -69,8 +78,22 @@ fn read(
     Ok(0)
 }
 
+/// What becomes of the old bytes of a block that a write gives to a zero place.
+#[derive(PartialEq)]
+enum NewBlock {
+    Stays,
+    Cleared,
+}
+
 /// The record's 128 bytes are stored as record n.
-fn write(state: &mut State, volume: &mut [u8], control: &mut [u8], record: &[u8], n: u32) -> Outcome {
+fn write(
+    state: &mut State,
+    volume: &mut [u8],
+    control: &mut [u8],
+    record: &[u8],
+    n: u32,
+    new_block: NewBlock,
+) -> Outcome {
     let geometry = state.geometry;
     let file = slots_of_file(&geometry, volume, state.user, control::name(control));
     if file.is_empty() {
@@ -91,7 +114,12 @@ fn write(state: &mut State, volume: &mut [u8], control: &mut [u8], record: &[u8]
         return Err(41);
     }
     if number == 0 {
-        entry.set_place(place, take_block(state, volume)?);
+        let block = take_block(state, volume)?;
+        entry.set_place(place, block);
+        if new_block == NewBlock::Cleared {
+            let bytes = geometry.block_bytes as usize;
+            volume[block as usize * bytes..][..bytes].fill(0);
+        }
     }
     // Nothing is refused from here on.
     count_in(&mut entry, is_new, n);

@@ -93,7 +93,7 @@ fn positions_allowed(function: u8, control: &[u8]) -> bool {
 /// 6: random, r2 not 0; sequential reads and writes, position 65,536.
 fn is_beyond_last_record(function: u8, control: &[u8]) -> bool {
     match function {
-        RANDOM_READ | RANDOM_WRITE | EMPTY_RECORD => control[R2] != 0,
+        RANDOM_READ | RANDOM_WRITE | ZERO_FILL_WRITE => control[R2] != 0,
         SEQUENTIAL_READ | SEQUENTIAL_WRITE => control::sequential_position(control) == 65536,
         _ => false,
     }
@@ -101,5 +101,5 @@ fn is_beyond_last_record(function: u8, control: &[u8]) -> bool {
 
 /// 37: delete, make, rename, attributes, writes.
 fn is_changing(function: u8) -> bool {
-    [DELETE, MAKE, RENAME, ATTRIBUTES, SEQUENTIAL_WRITE, RANDOM_WRITE, EMPTY_RECORD].contains(&function)
+    [DELETE, MAKE, RENAME, ATTRIBUTES, SEQUENTIAL_WRITE, RANDOM_WRITE, ZERO_FILL_WRITE].contains(&function)
 }

@@ -26,7 +26,7 @@ use crate::paper::held::Way;
 /// All calls that are lent a control block.
 pub const WITH_CONTROL: [u8; 14] = [15, 16, 17, 19, 20, 21, 22, 23, 30, 33, 34, 35, 36, 40];
 /// All calls that are lent a transfer buffer.
-pub const WITH_BUFFER: [u8; 6] = [17, 18, 20, 21, 33, 34];
+pub const WITH_BUFFER: [u8; 7] = [17, 18, 20, 21, 33, 34, 40];
 
 /// B 1,024, T 8, D 1, with A.TXT (slot 0) that has records 0 to 2 in block 1.
 pub fn bench() -> Bench {

@@ -105,3 +105,53 @@ fn the_state_decides_what_is_free() {
     assert_eq!(b.write("A.TXT", 0, 1), 0);
     assert_eq!(b.state().holding, Holding::Kept(Held::new()));
 }
+
+#[test]
+fn function_40_clears_a_block_that_it_gives() {
+    // Block 1 has a deleted file's records 1, 2 and 3; 40 gives it to record 5 of another file.
+    for (block_bytes, record) in [(1024, 5), (2048, 5), (4096, 5), (1024, 133)] {
+        let mut b = Bench::open(block_bytes, 8, 1, Way::Kept);
+        b.on(MAKE, "OLD");
+        for n in 1..4 {
+            assert_eq!(b.write("OLD", n, 0xAA), 0);
+        }
+        b.on(DELETE, "OLD");
+        b.on(MAKE, "NEW");
+        let others = b.volume[2 * block_bytes as usize..].to_vec();
+        b.buffer = vec![7; RECORD];
+        assert_eq!(b.random(ZERO_FILL_WRITE, "NEW", record), 0);
+        assert_eq!(b.buffer, vec![7; RECORD]);
+        let mut block = vec![0; block_bytes as usize];
+        let begin = record as usize * RECORD % block_bytes as usize;
+        block[begin..begin + RECORD].fill(7);
+        assert_eq!(b.volume[block_bytes as usize..][..block_bytes as usize], block);
+        assert_eq!(b.volume[2 * block_bytes as usize..], others);
+        assert_eq!(b.state().holding, Holding::Kept([1].into_iter().collect()));
+        // The records before it count as present and are zeros; the one behind it does not.
+        assert_eq!(b.random(RANDOM_READ, "NEW", record - 1), 0);
+        assert_eq!(b.buffer, vec![0; RECORD]);
+        assert_eq!(b.random(RANDOM_READ, "NEW", record + 1), 1);
+    }
+}
+
+#[test]
+fn function_40_leaves_the_rest_of_a_block_that_was_given_before() {
+    let mut b = bench();
+    let before = b.volume.clone();
+    b.buffer = vec![9; RECORD];
+    assert_eq!(b.random(ZERO_FILL_WRITE, "A.TXT", 1), 0);
+    let mut after = before;
+    after[1024 + RECORD..1024 + 2 * RECORD].fill(9);
+    assert_eq!(b.volume, after);
+}
+
+#[test]
+fn function_34_clears_nothing() {
+    let mut b = bench();
+    b.on(DELETE, "A.TXT");
+    b.on(MAKE, "B.TXT");
+    let mut block = b.volume[1024..2048].to_vec();
+    assert_eq!(b.write("B.TXT", 7, 5), 0);
+    block[7 * RECORD..].fill(5);
+    assert_eq!(b.volume[1024..2048], block);
+}

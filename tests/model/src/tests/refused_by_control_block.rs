@@ -129,7 +129,7 @@ fn number_40_positions() {
 fn number_6_beyond_the_last_record() {
     let mut b = bench();
     b.state().protected = true;
-    for function in [RANDOM_READ, RANDOM_WRITE, EMPTY_RECORD] {
+    for function in [RANDOM_READ, RANDOM_WRITE, ZERO_FILL_WRITE] {
         b.control = control_for("NOFILE");
         b.control[R2] = 1;
         refused(&mut b, function, 0, 6);
@@ -150,7 +150,7 @@ fn number_6_beyond_the_last_record() {
 fn number_37_protected() {
     let mut b = bench();
     assert_eq!(b.call(PROTECT), 0);
-    for function in [DELETE, MAKE, RENAME, ATTRIBUTES, SEQUENTIAL_WRITE, RANDOM_WRITE, EMPTY_RECORD] {
+    for function in [DELETE, MAKE, RENAME, ATTRIBUTES, SEQUENTIAL_WRITE, RANDOM_WRITE, ZERO_FILL_WRITE] {
         refused_on(&mut b, function, "A.TXT", 37);
         refused_on(&mut b, function, "NOFILE", 37);
     }

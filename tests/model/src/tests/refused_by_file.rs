@@ -37,7 +37,7 @@ fn number_255_make_on_a_full_directory() {
 #[test]
 fn number_3_no_entry_of_that_name() {
     let mut b = bench();
-    for function in [SEQUENTIAL_READ, SEQUENTIAL_WRITE, RANDOM_READ, RANDOM_WRITE, EMPTY_RECORD] {
+    for function in [SEQUENTIAL_READ, SEQUENTIAL_WRITE, RANDOM_READ, RANDOM_WRITE, ZERO_FILL_WRITE] {
         refused_on(&mut b, function, "NOFILE", 3);
     }
 }
@@ -48,7 +48,7 @@ fn number_38_read_only() {
     assert_eq!(b.write("A.TXT", 128, 1), 0);
     // The second entry alone.
     b.set_byte(1, 9, b'T' | 0x80);
-    for function in [SEQUENTIAL_WRITE, RANDOM_WRITE, EMPTY_RECORD, RENAME, DELETE] {
+    for function in [SEQUENTIAL_WRITE, RANDOM_WRITE, ZERO_FILL_WRITE, RENAME, DELETE] {
         refused_on(&mut b, function, "A.TXT", 38);
     }
     // 38 before 43.

@@ -44,7 +44,7 @@ fn number_41_places_outside() {
         b.set_byte(0, 15, 1);
         b.set_byte(0, 16, number);
         b.control = control_for("A.TXT");
-        for function in [SEQUENTIAL_READ, RANDOM_READ, SEQUENTIAL_WRITE, RANDOM_WRITE, EMPTY_RECORD] {
+        for function in [SEQUENTIAL_READ, RANDOM_READ, SEQUENTIAL_WRITE, RANDOM_WRITE, ZERO_FILL_WRITE] {
             refused(&mut b, function, 0, 41);
         }
         // Beyond the count: a read answers 1, a write still 41.
@@ -70,7 +70,7 @@ fn numbers_5_and_2() {
     }
     // One empty slot, one free block: the new group takes both.
     assert_eq!(b.write("F0", 128, 1), 0);
-    for function in [RANDOM_WRITE, EMPTY_RECORD] {
+    for function in [RANDOM_WRITE, ZERO_FILL_WRITE] {
         b.control = control_for("F1");
         refused(&mut b, function, 0, 2);
         b.control[R0] = 128;

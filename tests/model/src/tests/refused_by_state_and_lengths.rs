@@ -108,7 +108,7 @@ fn number_35_transfer_buffer() {
             refused(&mut b, function, 0, 35);
         }
     }
-    // 40 is lent none.
+    // Open is lent none.
     b.buffer.clear();
-    assert_eq!(b.random(EMPTY_RECORD, "A.TXT", 0), 0);
+    assert_eq!(b.on(OPEN, "A.TXT"), 0);
 }

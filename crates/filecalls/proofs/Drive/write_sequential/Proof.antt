@@ -62,7 +62,7 @@ returns-2 c =
     let a = c .before .before .before .before .before .before .before .before .before .before .before .before .before .before .before .before .before .args in
     let s = clear (c .before .before .before .before .before .before .before .before .before) in
     let n : isNone (firstMet (sequentialTests (a .self) (now (a .volume)) (now (a .f)) (now (a .buffer)))) ≡ true = rw (sequential-lent (a .self) (now (a .volume)) (now (a .f)) (now (a .buffer))) (s .none) in
-    rw (passes (sequentialTests (a .self) (now (a .volume)) (now (a .f)) (now (a .buffer))) _ _ n, ← c .before .before .before .before .before .before .before .position-of .ensures .0) (c .before .before .before .before .write-at .ensures (now (a .buffer)))
+    rw (passes (sequentialTests (a .self) (now (a .volume)) (now (a .f)) (now (a .buffer))) _ _ n, ← c .before .before .before .before .before .before .before .position-of .ensures .0) (c .before .before .before .before .write-at .ensures)
 
 pub write-sequential-spec : {M : Type 1} → statement M
 write-sequential-spec =

@@ -1,0 +1,58 @@
+-- Request (iii), "Function 40 by the maker's book": "For Digital Research it is the random write, but a block given for the
+-- first time is first filled with zeros." Function 40 is set beside function 34: both are asked for the same, with the same
+-- state, volume, control block and buffer. Each sentence is a field of `ZeroFill`; that it holds is `zero-fill` in the
+-- proofs. That the record has the program's bytes is demand 2's `write-stores`, as for every write.
+use mathlib.Core.Path.{_≡_}
+use mathlib.Core.Bool.{Bool, true, false}
+use mathlib.Core.Logic.{_≢_}
+use mathlib.Core.List.{List}
+use Prim.Native.Nat.{ℕ, _/_, _%_}
+use lib.ListN.{length, replicate}
+use Rattle.lists.specs.Bytes.{byte}
+use Rattle.volume.specs.declared.Geometry.{Geometry}
+use Rattle.volume.specs.Geometry.{records}
+use Rattle.volume.specs.Name.{nameOf}
+use Rattle.volume.specs.Record.{recordAt, OffBlock}
+use Rattle.control.specs.Block.{random}
+use Rattle.answers.specs.Answer.{succeeded}
+use Rattle.writing.specs.Write.{needsBlock, writeBlock}
+use Rattle.filecalls.specs.declared.Drive.{Drive}
+use Rattle.filecalls.specs.Outcome.{Outcome}
+use Rattle.bdos.specs.Step.{asked, step}
+use Rattle.demands.specs.Demand2.{Present}
+
+-- what is asked of both: geometry and parameter, which they don't look at, state, volume, control block and buffer
+module _ (g : Geometry) (p : ℕ) (d : Drive) (v f b : List ℕ) where
+  abbrev pub by34 : Outcome
+  by34 = step g (asked 34 p f b) d v
+
+  abbrev pub by40 : Outcome
+  by40 = step g (asked 40 p f b) d v
+
+-- the call has to give a block to its record's place; and the block, the record's own or the one that it is given
+abbrev pub gives : Drive → List ℕ → List ℕ → Bool
+gives d v f = needsBlock (d .geometry) v (d .user) (nameOf f) (random f)
+
+abbrev pub blockOf : Drive → List ℕ → List ℕ → ℕ
+blockOf d v f = writeBlock (d .geometry) (d .held) v (d .user) (nameOf f) (random f)
+
+pub record ZeroFill : Type 0 where
+  -- "it is the random write": answer, state, control block and buffer
+  pub same-answer : (g : Geometry) (p : ℕ) (d : Drive) (v f b : List ℕ) → by40 g p d v f b .answer ≡ by34 g p d v f b .answer
+  pub same-state : (g : Geometry) (p : ℕ) (d : Drive) (v f b : List ℕ) → by40 g p d v f b .drive ≡ by34 g p d v f b .drive
+  pub same-block : (g : Geometry) (p : ℕ) (d : Drive) (v f b : List ℕ) → by40 g p d v f b .block ≡ by34 g p d v f b .block
+  pub same-buffer : (g : Geometry) (p : ℕ) (d : Drive) (v f b : List ℕ) → by40 g p d v f b .buffer ≡ by34 g p d v f b .buffer
+  -- the volume, where no block is given
+  pub same-volume : (g : Geometry) (p : ℕ) (d : Drive) (v f b : List ℕ) → gives d v f ≡ false → by40 g p d v f b .volume ≡ by34 g p d v f b .volume
+  -- where one is given, every byte outside it
+  pub same-length : (g : Geometry) (p : ℕ) (d : Drive) (v f b : List ℕ) → length (by40 g p d v f b .volume) ≡ length (by34 g p d v f b .volume)
+  pub same-elsewhere : (g : Geometry) (p : ℕ) (d : Drive) (v f b : List ℕ) (x : ℕ) → OffBlock (d .geometry) (blockOf d v f) x
+      → byte (by40 g p d v f b .volume) x ≡ byte (by34 g p d v f b .volume) x
+  -- "a block given for the first time is first filled with zeros": so are its other records, all of them
+  pub others-zero : (g : Geometry) (p : ℕ) (d : Drive) (v f b : List ℕ) → succeeded (by40 g p d v f b .answer) ≡ true → gives d v f ≡ true
+      → (m : ℕ) → m % records (d .geometry) ≢ random f % records (d .geometry)
+      → recordAt (d .geometry) (by40 g p d v f b .volume) (blockOf d v f) m ≡ replicate 128 0
+  -- and where a record of the file in that block counts as present, it reads as zeros
+  pub others-read-zeros : (g : Geometry) (p : ℕ) (d : Drive) (v f b : List ℕ) → succeeded (by40 g p d v f b .answer) ≡ true → gives d v f ≡ true
+      → (m : ℕ) → m ≢ random f → m / records (d .geometry) ≡ random f / records (d .geometry)
+      → (s : List ℕ) → Present d f (by40 g p d v f b .volume) m s → s ≡ replicate 128 0

@@ -1,0 +1,21 @@
+-- Holds since it is the write of the record in r0 r1 that fills a block that it gives.
+use Rattle.filecalls.specs.Write.{writeZeroFillAct}
+use borrow.Author.Needs.{needs}
+use Rattle.filecalls.proofs.Drive.write_zero_fill.Statement.{statement}
+use Rattle.filecalls.proofs.Drive.write_zero_fill.Tie as tie
+
+write-direct-requires : tie.Need-write-direct-requires
+write-direct-requires c κs = search needs
+
+same-length : tie.Need-same-length
+same-length c = search needs
+
+same-length-2 : tie.Need-same-length-2
+same-length-2 c = search needs
+
+returns : tie.Need-returns
+unfolding writeZeroFillAct
+returns c = c .before .before .before .before .write-direct .ensures
+
+pub write-zero-fill-spec : {M : Type 1} → statement M
+write-zero-fill-spec = tie.close (tie.spec write-direct-requires same-length same-length-2 returns)
