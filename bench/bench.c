@@ -79,9 +79,8 @@ static struct measured measure(void (*before)(const struct side *), void (*job)(
 
 // ---- the jobs
 
-static void start_anew(const struct side *side)
+static void log_in_work(const struct side *side)
 {
-    work = full;
     memset(&desk, 0, sizeof desk);
     uint32_t answer =
         side->log_in(work.block, work.total, work.directory, work.volume, work.bytes, desk.drive, sizeof desk.drive);
@@ -89,6 +88,12 @@ static void start_anew(const struct side *side)
         puts("the volume is refused");
         exit(1);
     }
+}
+
+static void start_anew(const struct side *side)
+{
+    work = full;
+    log_in_work(side);
 }
 
 static volatile uint64_t sink;
@@ -114,15 +119,29 @@ static void call_job(const struct side *side, unsigned times)
                            desk.buffer, sizeof desk.buffer);
 }
 
-// The control block of a call on the last record of the last file, whose entry is in the last slot.
+static uint8_t *last_entry(void)
+{
+    return work.volume + (size_t)(work.slots - 1) * ENTRY;
+}
+
+// The control block of a call on record n of the last file, whose entry is in the last slot.
+static void at_record(uint32_t n)
+{
+    memcpy(desk.fcb + 1, last_entry() + 1, NAME);
+    desk.fcb[33] = (uint8_t)n;
+    desk.fcb[34] = (uint8_t)(n >> 8);
+}
+
+static uint32_t last_extent(void)
+{
+    return 32u * last_entry()[14] + last_entry()[12];
+}
+
+// On the last record of the last file.
 static void start_at_end(const struct side *side)
 {
     start_anew(side);
-    const uint8_t *e = work.volume + (size_t)(work.slots - 1) * ENTRY;
-    uint32_t n = 128 * (32u * e[14] + e[12]) + e[15] - 1;
-    memcpy(desk.fcb + 1, e + 1, NAME);
-    desk.fcb[33] = (uint8_t)n;
-    desk.fcb[34] = (uint8_t)(n >> 8);
+    at_record(128 * last_extent() + last_entry()[15] - 1);
 }
 
 // The control block of a call on a file that isn't there.
@@ -130,6 +149,43 @@ static void start_at_nothing(const struct side *side)
 {
     start_anew(side);
     memcpy(desk.fcb + 1, "BAND9999TXT", NAME);
+}
+
+// A write that takes a block: for this place of the last entry, whose map has nothing else but, in a lower place (none where it
+// is the same), the block that it began with or the highest of the disk, which has no free one above it; on the nearly full
+// disk, or where no other entry has a block.
+struct taking {
+    uint32_t place, lower;
+    int highest, alone;
+};
+
+static const struct taking *taking;
+static uint8_t drive_before[64], entry_before[ENTRY];
+
+static void start_taking(const struct side *side)
+{
+    work = full;
+    uint8_t *map = last_entry() + MAP, first = map[0];
+    memset(map, 0, PLACES);
+    for (uint32_t slot = 0; taking->alone && slot < work.slots; slot++)
+        memset(work.volume + (size_t)slot * ENTRY + MAP, 0, PLACES);
+    if (taking->lower < taking->place)
+        map[taking->lower] = taking->highest ? (uint8_t)(work.total - 1) : first;
+    log_in_work(side);
+    at_record((last_extent() / (work.block / 1024) * PLACES + taking->place) * (work.block / RECORD));
+    memcpy(drive_before, desk.drive, sizeof desk.drive);
+    memcpy(entry_before, last_entry(), ENTRY);
+}
+
+// Drive and entry are put back each time, so that every write takes a block.
+static void taking_job(const struct side *side, unsigned times)
+{
+    while (times-- > 0) {
+        memcpy(desk.drive, drive_before, sizeof desk.drive);
+        memcpy(last_entry(), entry_before, ENTRY);
+        sink += side->call(34, 0, desk.drive, sizeof desk.drive, work.volume, work.bytes, desk.fcb, sizeof desk.fcb,
+                           desk.buffer, sizeof desk.buffer);
+    }
 }
 
 // ---- the tables
@@ -186,18 +242,25 @@ static void log_in_table(void)
 }
 
 // One call: its time through the seam in nanoseconds, and the ratio.
-static void call_cell(void (*before)(const struct side *), uint8_t function)
+static void cell(void (*before)(const struct side *), void (*job)(const struct side *, unsigned))
 {
-    job_function = function;
-    struct measured m = measure(before, call_job, 2000000 / (full.slots + 100));
+    struct measured m = measure(before, job, 2000000 / (full.slots + 100));
     if (!ratios_only)
         print_number(m.ours * 1e9, 9);
     printf(ratios_only ? "%10.2f" : "%6.2f", m.ratio);
 }
 
+static void call_cell(void (*before)(const struct side *), uint8_t function)
+{
+    job_function = function;
+    cell(before, call_job);
+}
+
+// Block size and directory blocks, by slots.
+static const uint32_t shapes[][2] = {{1024, 1}, {2048, 1}, {4096, 1}, {4096, 2}, {4096, 4}, {4096, 8}, {4096, 16}};
+
 static void growth_table(void)
 {
-    static const uint32_t shapes[][2] = {{1024, 1}, {2048, 1}, {4096, 1}, {4096, 2}, {4096, 4}, {4096, 8}, {4096, 16}};
     puts("\nOne call as the directory grows: on a record whose entry is in the last slot; open of a file that isn't there\n");
     puts(ratios_only ? "  slots      read   rewrite      size      open   (ratios)"
                      : "  slots    read, ns ratio   rewrite ratio      size ratio      open ratio");
@@ -214,6 +277,45 @@ static void growth_table(void)
     }
 }
 
+// Do both sides leave the same in one such write?
+static int check_taking(void)
+{
+    static struct shelf left;
+    struct desk left_desk;
+    start_taking(&sides[OURS]);
+    taking_job(&sides[OURS], 1);
+    left = work;
+    left_desk = desk;
+    start_taking(&sides[PLAIN]);
+    taking_job(&sides[PLAIN], 1);
+    int same = memcmp(left.volume, work.volume, work.bytes) == 0 && memcmp(&left_desk, &desk, sizeof desk) == 0;
+    if (!same)
+        differing++;
+    return same;
+}
+
+static void taking_table(const char *where, int alone)
+{
+    const struct taking takings[] = {{0, 0, 0, alone}, {1, 0, 0, alone}, {15, 0, 0, alone}, {15, 0, 1, alone}};
+    printf("\nA write that takes a block, %s: for the first place; for the next;\n"
+           "fifteen places above the used one, with a free block above; the same with free blocks only below\n\n", where);
+    puts(ratios_only ? "  slots     first      next       gap     below   (ratios)   bytes"
+                     : "  slots   first, ns ratio      next ratio       gap ratio     below ratio   bytes");
+    for (size_t i = 0; i < sizeof shapes / sizeof *shapes; i++) {
+        int same = 1;
+        fill_shelf(&full, shapes[i][0], shapes[i][1]);
+        print_number(full.slots, 7);
+        if (!ratios_only)
+            printf("  ");
+        for (size_t k = 0; k < sizeof takings / sizeof *takings; k++) {
+            taking = &takings[k];
+            same &= check_taking();
+            cell(start_taking, taking_job);
+        }
+        printf("   %s\n", same ? "equal" : "DIFFERENT");
+    }
+}
+
 int main(int count, char **words)
 {
     ratios_only = count > 1 && strcmp(words[1], "ratios") == 0;
@@ -224,6 +326,8 @@ int main(int count, char **words)
     pass_table();
     log_in_table();
     growth_table();
+    taking_table("on the nearly full disk", 0);
+    taking_table("where no other file has a block", 1);
     printf("\nAim in the pass: a ratio of at most 1.30 (%.2f at worst: %s)", worst_ratio, worst_ratio <= 1.3 ? "met" : "MISSED");
     if (!ratios_only) {
         printf(", at least 90,000 calls a second (");

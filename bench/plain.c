@@ -260,13 +260,27 @@ static void release(uint8_t *bits, uint32_t block)
     bits[block / 8] &= (uint8_t) ~(1u << block % 8);
 }
 
-// The lowest free block, T where none is.
-static uint32_t free_block(const struct work *w)
+// The lowest free block from b on, T where none is.
+static uint32_t free_from(const struct work *w, uint32_t b)
 {
-    uint32_t b = w->g.directory;
     while (b < w->g.total && held(w->drive + D_HELD, b))
         b++;
     return b;
+}
+
+// The block that a place of an entry (NULL for a new one) gets: the lowest free one above the block in the nearest lower used
+// place, and the lowest free one where there is none; T where none is free.
+static uint32_t free_block(const struct work *w, const uint8_t *e, uint32_t place)
+{
+    uint32_t near = 0;
+    while (e != NULL && near == 0 && place > 0)
+        near = e[MAP + --place];
+    if (inside(&w->g, near)) {
+        uint32_t above = free_from(w, near + 1);
+        if (above < w->g.total)
+            return above;
+    }
+    return free_from(w, w->g.directory);
 }
 
 // ---- log-in
@@ -680,7 +694,7 @@ static uint32_t write_record(const struct work *w, bool sequential, bool fills)
         return OUTSIDE;
     if (own == NULL && empty == NULL)
         return NO_SLOT;
-    if (fresh && (block = free_block(w)) == w->g.total)
+    if (fresh && (block = free_block(w, own, place)) == w->g.total)
         return NO_BLOCK;
     if (fresh && fills)
         memset(w->volume + record_at(&w->g, block, 0), 0, w->g.block);

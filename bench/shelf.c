@@ -4,7 +4,7 @@
 #include <stdio.h>
 #include <string.h>
 
-enum { TOTAL = 256, SPARE = 6, PLACES = 16 };
+enum { TOTAL = 256, SPARE = 6 };
 
 static void lay_name(uint8_t *to, const char *stem, unsigned number, const char *type)
 {
@@ -40,7 +40,7 @@ static void worked_entry(const struct shelf *s, uint8_t *e, unsigned file, uint3
     e[14] = (uint8_t)(extent / 32);
     e[15] = (uint8_t)((end - 1) % 128 + 1);
     for (uint32_t n = k * in_entry; n < end; n += in_block)
-        e[16 + (n - k * in_entry) / in_block] = (uint8_t)(first + n / in_block);
+        e[MAP + (n - k * in_entry) / in_block] = (uint8_t)(first + n / in_block);
 }
 
 static void fill_data(struct shelf *s)

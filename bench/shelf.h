@@ -5,7 +5,7 @@
 #include <stddef.h>
 #include <stdint.h>
 
-enum { FILES = 8, RECORD = 128, ENTRY = 32, NAME = 11, VOLUME_MOST = 256 * 4096 };
+enum { FILES = 8, RECORD = 128, ENTRY = 32, NAME = 11, MAP = 16, PLACES = 16, VOLUME_MOST = 256 * 4096 };
 
 // The proved calls, or those in plain C.
 struct side {

@@ -79,6 +79,7 @@ void some_files(void);
 void paper_examples(void);
 void looking_right(void);
 void each_function(void);
+void kept_together(void);
 void lent_and_log_in(void);
 void malformed_drives(void);
 void typing(void);

@@ -9,6 +9,7 @@ int main(void)
     paper_examples();
     looking_right();
     each_function();
+    kept_together();
     lent_and_log_in();
     malformed_drives();
     typing();

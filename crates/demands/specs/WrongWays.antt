@@ -184,9 +184,19 @@ ran way (c ∷ cs) o = let next : Outcome = way small c (o .drive) (o .volume) i
 abbrev pub from : List ℕ → Outcome
 from v = record { answer = Refused NotServed; drive = closed; volume = v; block = []; buffer = [] }
 
--- record 0 of A is written; then B is made and written, and deleted; then record 8 of A is written
+-- record 0 of A is written; then B is made and written, deleted, made and written again; then record 8 of A is written
 abbrev pub twoFiles : List Asked
-twoFiles = logsIn ∷ makes nameA ∷ writes nameA 0 7 ∷ makes nameB ∷ writes nameB 0 9 ∷ deletes nameB ∷ writes nameA 8 9 ∷ []
+twoFiles =
+    logsIn
+    ∷ makes nameA
+    ∷ writes nameA 0 7
+    ∷ makes nameB
+    ∷ writes nameB 0 9
+    ∷ deletes nameB
+    ∷ makes nameB
+    ∷ writes nameB 0 9
+    ∷ writes nameA 8 9
+    ∷ []
 
 -- record 0 of A is written, and A is deleted; then records 5 and 2 of B are written by function 40, into A's old block
 abbrev pub oldBlock : List Asked

@@ -1,8 +1,9 @@
 -- The paper's examples, evaluated: scripts of calls, the bytes that they are written with, the proved table, more scripts for
--- what the table doesn't touch, names that can't be typed, and function 40.
+-- what the table doesn't touch, and scripts for the requests of 02: names that can't be typed, function 40, a file's blocks.
 pub mod Script
 pub mod Pieces
 pub mod Table
 pub mod More
 pub mod Typing
 pub mod ZeroFill
+pub mod Together

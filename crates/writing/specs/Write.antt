@@ -1,24 +1,34 @@
 -- The writes: "a missing group gets the lowest empty slot, with bytes 0 to 11 of the file's lowest entry, s1 0 and a map
--- of zeros; a zero map place gets the lowest free block. The record's 128 bytes are stored."
+-- of zeros; a zero map place gets the lowest free block. The record's 128 bytes are stored." Request (ix) says which one
+-- "the lowest free block" is.
 use mathlib.Core.Bool.{Bool, not, cond, _&&_}
 use mathlib.Core.List.{List, [], _∷_, _++_}
-use Prim.Native.Nat.{ℕ, _+_, _/_, _%_, max}
+use Prim.Native.Nat.{ℕ, zero, suc, _+_, _/_, _%_, max}
 use lib.Dec.{leb, ltb, eqb}
 use lib.ListN.{set, replicate}
 use Rattle.lists.specs.Bytes.{byte, part}
 use Rattle.volume.specs.declared.Geometry.{Geometry}
 use Rattle.volume.specs.declared.Wanted.the-variants.{Empty, File, ReadOnlyFile}
 use Rattle.volume.specs.Geometry.{slots, inside, placeOf}
-use Rattle.volume.specs.Entry.{Entry, extent, withBlock}
+use Rattle.volume.specs.Entry.{Entry, extent, blockIn, withBlock}
 use Rattle.volume.specs.Directory.{slotAt, findSlot}
 use Rattle.volume.specs.Record.{recordSlot, recordBlock}
 use Rattle.blocks.specs.Held.{lowestFree}
 use Rattle.answers.specs.declared.Refusal.the-variants.{NoFile, ReadOnly, Outside, NoSlot, NoBlock}
 use Rattle.answers.specs.Refusal.{Test, test}
 
--- the block that place p of entry e is given, T where none is free: "the lowest free block". Nothing else knows the rule.
+-- "the block in the nearest lower used place of the same entry"; 0, which every free block is above, where none is used
+unfoldable pub nearestBelow : Geometry → Entry → ℕ → ℕ
+nearestBelow g e zero = 0
+nearestBelow g e (suc p) = let rest = nearestBelow g e p in cond (eqb (blockIn g e p) 0) rest (blockIn g e p)
+
+-- the block that place p of entry e is given, T where none is free: "the lowest free one above" that block, "and the lowest
+-- free one where that place or such a block doesn't exist". Nothing else knows the rule.
 unfoldable pub alloc : Geometry → List ℕ → Entry → ℕ → ℕ
-alloc g held e p = lowestFree held (g .directory) (g .total)
+unfolding nearestBelow
+alloc g held e p =
+    let above = lowestFree held (max (g .directory) (nearestBelow g e p + 1)) (g .total) in
+    cond (ltb above (g .total)) above (lowestFree held (g .directory) (g .total))
 
 -- a new entry with bytes 0 to 11 of another
 unfoldable pub likeEntry : Entry → Entry

@@ -5,7 +5,7 @@ ghost use Prim.Native.Nat.{_+_, _≤_, _<_};
 ghost use lib.ListN.{length};
 ghost use Rattle.volume.specs.Geometry.{lawful, bytes, slots};
 ghost use Rattle.volume.specs.Entry.{places, withBlock};
-ghost use Rattle.writing.specs.Write.{alloc, grown, writtenEntry};
+ghost use Rattle.writing.specs.Write.{nearestBelow, alloc, grown, writtenEntry};
 ghost use Rattle.writing.specs.WritePlan.{baseOf};
 use volume::Geometry;
 use volume::entry;
@@ -60,10 +60,33 @@ pub fn write_entry(g: Geometry, e: &mut [u8], n: usize, b: usize)
     with_block(g, e, p, b);
 }
 
+// The block in the nearest used place below place p of the entry, 0 where none is used.
+fn nearest_below(g: Geometry, e: &[u8], p: usize) -> usize
+    requires { ⌜ (p < places g) × (length (now e) ≡ 32) ⌝ }
+    ensures { λ r. ⌜ r ≡ nearestBelow g (now (e .entry)) p ⌝ }
+{
+    let mut q = p;
+    while 0 < q {
+        q -= 1;
+        let b = entry::block_in(g, e, q);
+        if b != 0 {
+            return b;
+        }
+    }
+    0
+}
+
 // The block that place p of the entry is given, T where none is free; nothing else knows the rule.
 pub fn alloc(g: Geometry, held: [u64; 4], e: &[u8], p: usize) -> usize
-    requires { ⌜ lawful g ≡ true ⌝ }
+    requires { ⌜ (lawful g ≡ true) × ((p < places g) × (length (now e) ≡ 32)) ⌝ }
     ensures { λ r. ⌜ (r ≡ alloc g held (now (e .entry)) p) × (r ≤ g .total) ⌝ }
 {
+    let near = nearest_below(g, e, p);
+    if g.is_inside(near) {
+        let above = blocks::lowest_free(held, near + 1, g.total);
+        if above < g.total {
+            return above;
+        }
+    }
     blocks::lowest_free(held, g.directory, g.total)
 }

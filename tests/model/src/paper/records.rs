@@ -114,7 +114,7 @@ fn write(
         return Err(41);
     }
     if number == 0 {
-        let block = take_block(state, volume)?;
+        let block = take_block(state, volume, &entry, place)?;
         entry.set_place(place, block);
         if new_block == NewBlock::Cleared {
             let bytes = geometry.block_bytes as usize;
@@ -138,10 +138,15 @@ fn new_group(state: &State, volume: &[u8], lowest: usize) -> Result<(usize, Entr
     Ok((slot, Entry::new(&entry_at(volume, lowest).bytes[..12])))
 }
 
-/// "A zero map place gets the lowest free block."
-fn take_block(state: &mut State, volume: &[u8]) -> Result<u8, u32> {
+/// "A zero map place gets the lowest free block", which by 02 (ix) is "the lowest
+/// free one above the block in the nearest lower used place of the same entry,
+/// and the lowest free one where that place or such a block doesn't exist".
+fn take_block(state: &mut State, volume: &[u8], entry: &Entry, place: usize) -> Result<u8, u32> {
     let held = state.holding.now(&state.geometry, volume);
-    let block = free_blocks(&state.geometry, &held).next().ok_or(2u32)?;
+    let free: Vec<u8> = free_blocks(&state.geometry, &held).collect();
+    let lower = entry.map()[..place].iter().rev().find(|&&number| number != 0);
+    let above = lower.and_then(|number| free.iter().find(|&block| block > number));
+    let block = *above.or(free.first()).ok_or(2u32)?;
     state.holding.take(block);
     Ok(block)
 }

@@ -131,8 +131,10 @@ fn delete_gives_blocks_back() {
         assert_eq!((b.volume[0], b.volume[64]), (0xE5, 0xE5));
         // All other bytes of the erased entries stay.
         assert_eq!(b.volume[16], 1);
-        assert_eq!(b.write("B", 8, 1), 0);
-        assert_eq!(b.entry(1).map()[..2], [2, 1]);
+        for n in [8, 16] {
+            assert_eq!(b.write("B", n, 1), 0);
+        }
+        assert_eq!(b.entry(1).map()[..3], [2, 3, 1]);
     }
 }
 

@@ -1,6 +1,6 @@
 //! Hand-worked cases: the paper's examples, each refusal of the table and its
-//! order against the next ones, what succeeds, the script's text, the seam's
-//! bytes, and mistakes that the comparison must find.
+//! order against the next ones, what succeeds, which block a write takes, the
+//! script's text, the seam's bytes, and mistakes that the comparison must find.
 
 mod bench;
 mod chosen;
@@ -16,6 +16,7 @@ mod refused_by_record;
 mod refused_by_state_and_lengths;
 mod replay;
 mod seam;
+mod together;
 mod typing;
 
 use bench::{control_for, name, Bench};

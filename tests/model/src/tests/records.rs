@@ -18,8 +18,8 @@ fn the_two_ways_part_on_an_altered_volume() {
         assert_eq!(b.write("A", 0, 1), 0);
         b.set_byte(1, 16, 1);
         assert_eq!(b.on(DELETE, "A"), 0);
-        assert_eq!(b.write("B", 8, 1), 0);
-        assert_eq!(b.entry(1).map()[1], block);
+        assert_eq!(b.write("B", 128, 1), 0);
+        assert_eq!(b.entry(0).map()[0], block);
     }
 }
 
@@ -96,8 +96,8 @@ fn the_state_decides_what_is_free() {
     b.control = control_for("A.TXT");
     b.control[R0] = 8;
     refused(&mut b, RANDOM_WRITE, 0, 2);
-    // None held: block 1 is given out again.
-    b.state().holding = Holding::Kept(Held::new());
+    // All held but block 1: it is given out again.
+    b.state().holding = Holding::Kept((0..=255).filter(|&number| number != 1).collect());
     assert_eq!(b.call(RANDOM_WRITE), 0);
     assert_eq!(b.entry(0).map()[..2], [1, 1]);
     // A place whose block is not held is written and stays unheld.
