@@ -5,7 +5,7 @@
 #include <stddef.h>
 #include <stdint.h>
 
-enum { FILES = 8, RECORD = 128, ENTRY = 32, NAME = 11, MAP = 16, PLACES = 16, VOLUME_MOST = 256 * 4096 };
+enum { FILES = 8, RECORD = 128, SEVERAL = 16, ENTRY = 32, NAME = 11, MAP = 16, PLACES = 16, VOLUME_MOST = 256 * 4096 };
 
 // The proved calls, or those in plain C.
 struct side {
@@ -30,9 +30,9 @@ void fill_directory(struct shelf *s);
 // The eleven bytes of a worked file's name.
 void band_name(uint8_t *name, unsigned file);
 
-// What a side is lent beside the volume.
+// What a side is lent beside the volume; `pieces` is the buffer of a call of several records.
 struct desk {
-    uint8_t drive[64], fcb[36], buffer[RECORD];
+    uint8_t drive[64], fcb[36], buffer[RECORD], pieces[SEVERAL * RECORD];
 };
 
 #endif

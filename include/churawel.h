@@ -17,12 +17,16 @@
 extern "C" {
 #endif
 
-/* The lengths that calls want: of a drive, of a control block, of the transfer buffer. */
+/* The lengths that calls want: of a drive, of a control block, of the transfer buffer (k times as long for k records). */
 #define CHURAWEL_DRIVE_BYTES 64
 #define CHURAWEL_FCB_BYTES 36
 #define CHURAWEL_BUFFER_BYTES 128
+#define CHURAWEL_RECORDS_MOST 16
 
-/* The two halves of an answer: its number, and a log-in's count of free blocks or its lowest bad slot. */
+/*
+ * The two halves of an answer: its number, and a log-in's count of free blocks or its lowest bad slot, or of several records
+ * how many were done.
+ */
 #define CHURAWEL_NUMBER(answer) ((answer) & 0xFFFFu)
 #define CHURAWEL_VALUE(answer) ((answer) >> 16)
 
@@ -46,19 +50,23 @@ enum {
     CHURAWEL_SIZE = 35,
     CHURAWEL_SET_RANDOM = 36,
     CHURAWEL_RESET_DRIVE = 37,      /* as 13 */
-    CHURAWEL_WRITE_ZERO_FILL = 40   /* as 34, but a block given for the first time is first filled with zeros */
+    CHURAWEL_WRITE_ZERO_FILL = 40,  /* as 34, but a block given for the first time is first filled with zeros */
+    CHURAWEL_READ_SEVERAL = 220,    /* as 20 for k records, 1..16: the parameter is k, the buffer k times 128 bytes */
+    CHURAWEL_WRITE_SEVERAL = 221    /* as 21, likewise */
 };
 
 /*
  * The numbers of refusal, in the order in which the tests are made. Success is a directory code 0..3 for 15, 16, 17, 18
- * and 22, the user code 0..15 for 32 with parameter 255, and 0 for every other function.
+ * and 22, the user code 0..15 for 32 with parameter 255, and 0 for every other function. A call of several records that stops
+ * has the number that stopped it, and what was done before the stop stays done; it is a refusal where the value is 0.
  */
 enum {
     CHURAWEL_NOT_SERVED = 31,       /* a function that is not served */
     CHURAWEL_CLOSED = 32,           /* geometry outside the rules, or (not log-in) closed state */
     CHURAWEL_VOLUME_LENGTH = 33,    /* length of volume */
     CHURAWEL_FCB_LENGTH = 34,       /* control block not 36 */
-    CHURAWEL_BUFFER_LENGTH = 35,    /* transfer buffer not 128 */
+    CHURAWEL_COUNT = 46,            /* several records: not 1..16 of them */
+    CHURAWEL_BUFFER_LENGTH = 35,    /* transfer buffer not 128 (several records: not 128 for each) */
     CHURAWEL_DRIVE_CODE = 42,       /* dr not 0 or 1 (search: 63 also) */
     CHURAWEL_USER_CODE = 44,        /* user 16..254 */
     CHURAWEL_NAME = 39,             /* a name outside the byte rule */

@@ -5,7 +5,7 @@
 #include <stddef.h>
 #include <stdint.h>
 
-enum { GUARD = 64, VOLUME_MOST = 81920, RECORD = 128, ENTRY = 32 };
+enum { GUARD = 64, VOLUME_MOST = 81920, RECORD = 128, PIECES = 16, ENTRY = 32 };
 
 // What is lent, with bytes behind and between that no call may touch. It holds nothing but bytes, so that two desks can
 // be compared whole.
@@ -14,7 +14,7 @@ struct desk {
     uint8_t drive[128 + GUARD];
     uint8_t volume[VOLUME_MOST + GUARD];
     uint8_t fcb[36 + GUARD];
-    uint8_t buffer[RECORD + GUARD];
+    uint8_t buffer[PIECES * RECORD + GUARD];
 };
 
 // How many bytes of each are lent.
@@ -80,6 +80,7 @@ void paper_examples(void);
 void looking_right(void);
 void each_function(void);
 void kept_together(void);
+void several_records(void);
 void lent_and_log_in(void);
 void malformed_drives(void);
 void typing(void);

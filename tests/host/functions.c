@@ -383,7 +383,7 @@ static void small(void)
     answers("13 logs in anew: user 0, not protected", 13, 0, 20u << 16);
     good = 1;
     as_it_stands();
-    static const uint8_t served[] = {13, 15, 16, 17, 18, 19, 20, 21, 22, 23, 28, 30, 32, 33, 34, 35, 36, 37, 40};
+    static const uint8_t served[] = {13, 15, 16, 17, 18, 19, 20, 21, 22, 23, 28, 30, 32, 33, 34, 35, 36, 37, 40, 220, 221};
     for (unsigned f = 0; f < 256; f++)
         if (memchr(served, (int)f, sizeof served) == NULL)
             good &= holds((uint8_t)f, 0, 31);

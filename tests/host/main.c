@@ -10,6 +10,7 @@ int main(void)
     looking_right();
     each_function();
     kept_together();
+    several_records();
     lent_and_log_in();
     malformed_drives();
     typing();

@@ -7,8 +7,8 @@
 // The lengths: 33, 34, 35 as far as lent, each before the next.
 static void lengths(void)
 {
-    static const uint8_t volume[] = {15, 16, 17, 18, 19, 20, 21, 22, 23, 30, 33, 34, 35, 40};
-    static const uint8_t block[] = {15, 16, 17, 19, 20, 21, 22, 23, 30, 33, 34, 35, 36, 40};
+    static const uint8_t volume[] = {15, 16, 17, 18, 19, 20, 21, 22, 23, 30, 33, 34, 35, 40, 220, 221};
+    static const uint8_t block[] = {15, 16, 17, 19, 20, 21, 22, 23, 30, 33, 34, 35, 36, 40, 220, 221};
     static const uint8_t buffer[] = {17, 18, 20, 21, 33, 34, 40};
     some_files();
     block_for(DRAFT);

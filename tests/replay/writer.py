@@ -51,9 +51,11 @@ class Script:
         self.bytes += bytes([function, parameter, len(block)]) + block + len(buffer).to_bytes(2, "little") + buffer
         self.lines.append(f"{function} {answer} {value} {shown(block_after)} {shown(buffer_after)}")
 
-    def refused(self, function, answer, block=None, buffer=None):
+    def refused(self, function, answer, block=None, buffer=None, parameter=0):
         """A call that is refused: what it is lent stays as it is."""
-        self.call(function, answer, block=block or b"", buffer=buffer or b"", block_after=block, buffer_after=buffer)
+        self.call(
+            function, answer, parameter=parameter, block=block or b"", buffer=buffer or b"", block_after=block, buffer_after=buffer
+        )
 
     def touch(self, offset, laid):
         """Something else touches the volume."""

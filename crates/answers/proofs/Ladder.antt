@@ -39,7 +39,7 @@ unmet why true ts n e = absurd (false≢true (sym n ∙ sym (ap isNone (rest n))
     rest n = rw n
 unmet why false ts n e = (refl, e)
 
--- the last test of a ladder, and one, two and three tests as code asks them
+-- the last test of a ladder, and one to four tests as code asks them
 first-none : (why : Refusal) (met : Bool) → isNone why ≡ false → first (refusing why met) None ≡ refusing why met
 first-none why true n = rw n
 first-none why false n = refl
@@ -56,3 +56,8 @@ pub ladder-three : (w x y : Refusal) (m n o : Bool) → isNone y ≡ false
     → first (refusing w m) (first (refusing x n) (refusing y o)) ≡ firstMet (test w m ∷ test x n ∷ test y o ∷ [])
 unfolding firstMet
 ladder-three w x y m n o h = ap (first (refusing w m)) (ladder-two x y n o h)
+
+pub ladder-four : (w x y z : Refusal) (m n o p : Bool) → isNone z ≡ false
+    → first (refusing w m) (first (refusing x n) (first (refusing y o) (refusing z p))) ≡ firstMet (test w m ∷ test x n ∷ test y o ∷ test z p ∷ [])
+unfolding firstMet
+ladder-four w x y z m n o p h = ap (first (refusing w m)) (ladder-three x y z n o p h)

@@ -1,2 +1,3 @@
--- Laws of the ladder of tests.
+-- Laws of the ladder of tests, and of the answers.
 pub mod Ladder
+pub mod AnswerLaws

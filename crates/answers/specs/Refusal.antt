@@ -4,7 +4,7 @@ use mathlib.Core.List.{List, [], _∷_}
 use Prim.Native.Nat.{ℕ}
 use lib.Dec.{eqb}
 use Rattle.answers.specs.declared.Refusal.{Refusal}
-use Rattle.answers.specs.declared.Refusal.the-variants.{None, NotServed, Closed, VolumeLength, BlockLength, BufferLength, DriveCode, UserCode, Name, Untypeable, Position, Beyond, BadSlot, Protected, NoMatch, NoFile, ReadOnly, Exists, NoGroup, Absent, Outside, NoSlot, NoRoom, NoBlock}
+use Rattle.answers.specs.declared.Refusal.the-variants.{None, NotServed, Closed, VolumeLength, BlockLength, BadCount, BufferLength, DriveCode, UserCode, Name, Untypeable, Position, Beyond, BadSlot, Protected, NoMatch, NoFile, ReadOnly, Exists, NoGroup, Absent, Outside, NoSlot, NoRoom, NoBlock}
 
 abbrev pub refusalNumber : Refusal → ℕ
 refusalNumber None = 0
@@ -12,9 +12,12 @@ refusalNumber None = 0
 refusalNumber NotServed = 31
 -- geometry outside the rules, or (not log-in) closed state
 refusalNumber Closed = 32
--- length of volume; control block not 36; transfer buffer not 128
+-- length of volume; control block not 36
 refusalNumber VolumeLength = 33
 refusalNumber BlockLength = 34
+-- a number of records outside 1..16
+refusalNumber BadCount = 46
+-- transfer buffer not 128, not 128k for k records
 refusalNumber BufferLength = 35
 -- dr not 0 or 1 (search: 63 also)
 refusalNumber DriveCode = 42

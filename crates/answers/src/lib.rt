@@ -3,7 +3,7 @@ ghost use mathlib.Core.Path.{_≡_};
 ghost use mathlib.Core.Bool.{Bool, true, false};
 ghost use Prim.Native.Nat.{ℕ, _<_};
 ghost use Rattle.answers.specs.Refusal.{refusalNumber, isNone, refusing, first};
-ghost use Rattle.answers.specs.Answer.{numberOf, valueOf};
+ghost use Rattle.answers.specs.Answer.{numberOf, valueOf, succeeded, whyOf};
 
 // Why a call is refused, in the order of the paper's table; None is no refusal.
 pub enum Refusal {
@@ -12,6 +12,7 @@ pub enum Refusal {
     Closed,
     VolumeLength,
     BlockLength,
+    BadCount,
     BufferLength,
     DriveCode,
     UserCode,
@@ -33,13 +34,14 @@ pub enum Refusal {
     NoBlock,
 }
 
-// What a call answers: done with a code, logged in with so many free blocks, or refused. A refusal for a bad slot says
-// which.
+// What a call answers: done with a code, logged in with so many free blocks, refused, or so many records done and why no
+// more. A refusal for a bad slot says which.
 pub enum Answer {
     Done(u8),
     Ready(usize),
     BadSlot(usize),
     Refused(Refusal),
+    Several(usize, Refusal),
 }
 
 // Is it no refusal?
@@ -73,6 +75,7 @@ pub fn refusal_number(why: Refusal) -> u8
         Refusal::Closed => 32,
         Refusal::VolumeLength => 33,
         Refusal::BlockLength => 34,
+        Refusal::BadCount => 46,
         Refusal::BufferLength => 35,
         Refusal::DriveCode => 42,
         Refusal::UserCode => 44,
@@ -104,10 +107,11 @@ pub fn number(a: Answer) -> u8
         Answer::Ready(_) => 0,
         Answer::BadSlot(_) => 36,
         Answer::Refused(why) => refusal_number(why),
+        Answer::Several(_, why) => refusal_number(why),
     }
 }
 
-// The value beside the number: log-in's count of free blocks, or the bad slot in its place; else 0.
+// The value beside the number: log-in's count of free blocks, or the bad slot in its place; the count of records done; else 0.
 pub fn value(a: Answer) -> usize
     ensures { λ r. ⌜ r ≡ valueOf a ⌝ }
 {
@@ -116,5 +120,32 @@ pub fn value(a: Answer) -> usize
         Answer::Ready(free) => free,
         Answer::BadSlot(slot) => slot,
         Answer::Refused(_) => 0,
+        Answer::Several(done, _) => done,
+    }
+}
+
+// Did the call succeed?
+pub fn succeeded(a: Answer) -> bool
+    ensures { λ r. ⌜ r ≡ succeeded a ⌝ }
+{
+    match a {
+        Answer::Done(_) => true,
+        Answer::Ready(_) => true,
+        Answer::BadSlot(_) => false,
+        Answer::Refused(_) => false,
+        Answer::Several(done, _) => 0 < done,
+    }
+}
+
+// Why the call was refused, or stopped.
+pub fn why_of(a: Answer) -> Refusal
+    ensures { λ r. ⌜ r ≡ whyOf a ⌝ }
+{
+    match a {
+        Answer::Done(_) => Refusal::None,
+        Answer::Ready(_) => Refusal::None,
+        Answer::BadSlot(_) => Refusal::BadSlot,
+        Answer::Refused(why) => why,
+        Answer::Several(_, why) => why,
     }
 }

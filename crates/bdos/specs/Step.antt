@@ -1,7 +1,8 @@
 -- One door: the function's number, its parameter and what is lent decide the call; `step` is all that it leaves.
 -- "Log-in (functions 13 and 37), 15 open, 16 close, 17 and 18 search, 19 delete, 20 and 21 sequential read and write, 22
 -- make, 23 rename, 28 write protect, 30 attributes, 32 user, 33 and 34 random read and write, 35 size, 36 set random
--- record, 40 .. One drive." Function 40 is "WRITE RANDOM WITH ZERO FILL" (000, 5.4.2.26).
+-- record, 40 .. One drive." Function 40 is "WRITE RANDOM WITH ZERO FILL" (000, 5.4.2.26). The forms with several records have
+-- the numbers 220 (read) and 221 (write), and the number of records as their parameter.
 use mathlib.Core.Bool.{cond, _||_}
 use mathlib.Core.List.{List, [], _∷_}
 use Prim.Native.Nat.{ℕ}
@@ -18,8 +19,9 @@ use Rattle.filecalls.specs.Names.{deleteAct, makeAct, renameAct, attributesAct}
 use Rattle.filecalls.specs.Read.{readSequentialAct, readRandomAct}
 use Rattle.filecalls.specs.Write.{writeSequentialAct, writeRandomAct, writeZeroFillAct}
 use Rattle.filecalls.specs.Small.{protectAct, userAct, setRandomAct}
+use Rattle.several.specs.Several.{readOne, writeOne, several}
 use Rattle.bdos.specs.declared.Call.{Call}
-use Rattle.bdos.specs.declared.Call.the-variants.{LogIn, Open, Close, SearchFirst, SearchNext, Delete, ReadSequential, WriteSequential, Make, Rename, Protect, Attributes, User, ReadRandom, WriteRandom, Size, SetRandom, WriteZeroFill, Unserved}
+use Rattle.bdos.specs.declared.Call.the-variants.{LogIn, Open, Close, SearchFirst, SearchNext, Delete, ReadSequential, WriteSequential, Make, Rename, Protect, Attributes, User, ReadRandom, WriteRandom, Size, SetRandom, WriteZeroFill, ReadSeveral, WriteSeveral, Unserved}
 
 -- the call of a function's number
 unfoldable pub callOf : ℕ → Call
@@ -42,7 +44,9 @@ callOf n =
     (cond (eqb n 35) Size
     (cond (eqb n 36) SetRandom
     (cond (eqb n 40) WriteZeroFill
-    Unserved)))))))))))))))))
+    (cond (eqb n 220) ReadSeveral
+    (cond (eqb n 221) WriteSeveral
+    Unserved)))))))))))))))))))
 
 -- a call at the door: the function's number, its parameter, and what is lent beside the volume
 pub record Asked : Type 0 where
@@ -84,6 +88,8 @@ does g WriteRandom p d v f b = outcome d v f b (writeRandomAct d v f b)
 does g Size p d v f b = keepsBuffer b (outcome d v f [] (sizeAct d v f))
 does g SetRandom p d v f b = keepsVolume v (keepsBuffer b (outcome d [] f [] (setRandomAct d f)))
 does g WriteZeroFill p d v f b = outcome d v f b (writeZeroFillAct d v f b)
+does g ReadSeveral p d v f b = several readOne d v f b p
+does g WriteSeveral p d v f b = several writeOne d v f b p
 does g Unserved p d v f b = outcome d v f b (deny NotServed)
 
 -- the drive's geometry is that of its log-in

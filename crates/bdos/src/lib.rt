@@ -5,6 +5,8 @@ ghost use Rattle.bdos.specs.Step.{callOf, does, asked, step};
 use answers::Refusal;
 use filecalls::Drive;
 use filecalls::Reply;
+use several::read::read_several;
+use several::write::write_several;
 use volume::Geometry;
 
 // The calls that are served, and one for every number that is not.
@@ -27,6 +29,8 @@ pub enum Call {
     Size,
     SetRandom,
     WriteZeroFill,
+    ReadSeveral,
+    WriteSeveral,
     Unserved,
 }
 
@@ -53,6 +57,8 @@ fn call_of(function: u8) -> Call
         35 => Call::Size,
         36 => Call::SetRandom,
         40 => Call::WriteZeroFill,
+        220 => Call::ReadSeveral,
+        221 => Call::WriteSeveral,
         _ => Call::Unserved,
     }
 }
@@ -88,6 +94,8 @@ fn serve(
         Call::Size => drive.file_size(volume, f),
         Call::SetRandom => drive.set_random(f),
         Call::WriteZeroFill => drive.write_zero_fill(volume, f, buffer),
+        Call::ReadSeveral => read_several(drive, volume, f, buffer, parameter),
+        Call::WriteSeveral => write_several(drive, volume, f, buffer, parameter),
         Call::Unserved => drive.refused(Refusal::NotServed),
     }
 }

@@ -21,17 +21,15 @@ use Rattle.filecalls.specs.Read.{sequentialTests, randomTests, readDone, readSe
 use Rattle.filecalls.specs.Write.{writeEntry, writeChange, writeDone, writeSequentialAct, writeRandomAct, writeZeroFillAct}
 use Rattle.filecalls.specs.Small.{protectTests, protectAct, userTests, userAct, setRandomTests, setRandomAct}
 use Rattle.filecalls.specs.Outcome.{Change, keeps, takes, frees, protects, becomes, searches, Act, deny, done, changedState, withHeld, Outcome, outcome}
+use Rattle.several.specs.Several.{readOne, writeOne, several}
 use Rattle.bdos.specs.declared.Call.{Call}
-use Rattle.bdos.specs.declared.Call.the-variants.{LogIn, Open, Close, SearchFirst, SearchNext, Delete, ReadSequential, WriteSequential, Make, Rename, Protect, Attributes, User, ReadRandom, WriteRandom, Size, SetRandom, WriteZeroFill, Unserved}
+use Rattle.bdos.specs.declared.Call.the-variants.{LogIn, Open, Close, SearchFirst, SearchNext, Delete, ReadSequential, WriteSequential, Make, Rename, Protect, Attributes, User, ReadRandom, WriteRandom, Size, SetRandom, WriteZeroFill, ReadSeveral, WriteSeveral, Unserved}
 use Rattle.bdos.specs.Step.{keepsBuffer, keepsBlock, keepsVolume, does}
-
--- two outcomes alike, but for the held blocks
-pub record Alike (o p : Outcome) : Type 0 where
-  pub answer : o .answer ≡ p .answer
-  pub volume : o .volume ≡ p .volume
-  pub block : o .block ≡ p .block
-  pub buffer : o .buffer ≡ p .buffer
-  pub drive : p .drive ≡ withHeld (o .drive) (p .drive .held)
+use Rattle.demands.proofs.Acts.{Consistent, outcome-keeps}
+use Rattle.demands.proofs.WritesKeep.{write-sequential-keeps}
+use Rattle.demands.proofs.CallsKeep.{Nothing, read-sequential-keeps}
+use Rattle.demands.proofs.Alike.{Alike}
+use Rattle.demands.proofs.SeveralAlike.{held-same, several-alike}
 
 -- ---- an act that is the same in both states
 module _ (d : Drive) (k : List ℕ) where
@@ -48,6 +46,10 @@ module _ (d : Drive) (k : List ℕ) where
   unfolding outcome
   outcome-alike v f b (deny why) = record { answer = refl; volume = refl; block = refl; buffer = refl; drive = refl }
   outcome-alike v f b (done code change stores f′ b′) = record { answer = refl; volume = refl; block = refl; buffer = refl; drive = state-alike v change }
+
+  -- in one step: the act is the same, and so is what it leaves
+  by-act : {act act′ : Act} (w f′ b′ : List ℕ) → act′ ≡ act → Alike (outcome d w f′ b′ act) (outcome (withHeld d k) w f′ b′ act′)
+  by-act {act} {act′} w f′ b′ e = rw e (outcome-alike w f′ b′ act)
 
 -- ---- the writes
 module _ (d : Drive) (k v : List ℕ) (same : (b : ℕ) → d .geometry .directory ≤ b → b < d .geometry .total → holds k b ≡ holds (d .held) b) where
@@ -78,7 +80,7 @@ module _ (d : Drive) (k v : List ℕ) (same : (b : ℕ) → d .geometry .directo
   unfolding writeZeroFillAct randomTests isOpen
   zero-fill-alike f b = simp (done-alike, tests-alike)
 
--- ---- every call
+-- ---- each call's act
 module _ (d : Drive) (k v f b : List ℕ) where
   open-alike : openAct (withHeld d k) v f ≡ openAct d v f
   unfolding openAct openTests isOpen
@@ -136,10 +138,21 @@ module _ (d : Drive) (k v f b : List ℕ) where
   unfolding setRandomAct setRandomTests isOpen
   set-random-alike = refl
 
-  -- in one step: the act is the same, and so is what it leaves
-  by-act : {act act′ : Act} (w f′ b′ : List ℕ) → act′ ≡ act → Alike (outcome d w f′ b′ act) (outcome (withHeld d k) w f′ b′ act′)
-  by-act {act} {act′} w f′ b′ e = rw e (outcome-alike d k w f′ b′ act)
+-- ---- several records
+read-several-alike : (d : Drive) (k v f b : List ℕ) (n : ℕ) → Consistent d v → Consistent (withHeld d k) v
+    → Alike (several readOne d v f b n) (several readOne (withHeld d k) v f b n)
+read-several-alike =
+    several-alike readOne (λ d k v f b c e. by-act d k v f b (read-sequential-alike d k v f b))
+    (λ d v f b c. outcome-keeps Nothing d v f b (readSequentialAct d v f b) c (read-sequential-keeps d v f b c) .consistent)
 
+write-several-alike : (d : Drive) (k v f b : List ℕ) (n : ℕ) → Consistent d v → Consistent (withHeld d k) v
+    → Alike (several writeOne d v f b n) (several writeOne (withHeld d k) v f b n)
+write-several-alike =
+    several-alike writeOne (λ d k v f b c e. by-act d k v f b (sequential-alike d k v (held-same d k v c e) f b))
+    (λ d v f b c. outcome-keeps _ d v f b (writeSequentialAct d v f b) c (write-sequential-keeps d v f b c) .consistent)
+
+-- ---- every call
+module _ (d : Drive) (k v f b : List ℕ) where
   buffer-kept : {o p : Outcome} → Alike o p → Alike (keepsBuffer b o) (keepsBuffer b p)
   buffer-kept a = record { answer = a .answer; volume = a .volume; block = a .block; buffer = refl; drive = a .drive }
 
@@ -149,25 +162,30 @@ module _ (d : Drive) (k v f b : List ℕ) where
   volume-kept : {o p : Outcome} → Alike o p → Alike (keepsVolume v o) (keepsVolume v p)
   volume-kept a = record { answer = a .answer; volume = refl; block = a .block; buffer = a .buffer; drive = a .drive }
 
-  module _ (same : (b : ℕ) → d .geometry .directory ≤ b → b < d .geometry .total → holds k b ≡ holds (d .held) b) where
+  module _ (kept : Consistent d v) (worked-out : Consistent (withHeld d k) v) where
+    same : (b : ℕ) → d .geometry .directory ≤ b → b < d .geometry .total → holds k b ≡ holds (d .held) b
+    same = held-same d k v kept worked-out
+
     pub does-alike : (g : Geometry) (call : Call) (p : ℕ) → Alike (does g call p d v f b) (does g call p (withHeld d k) v f b)
     unfolding does
     does-alike g LogIn p = record { answer = refl; volume = refl; block = refl; buffer = refl; drive = refl }
-    does-alike g Open p = buffer-kept (by-act v f [] open-alike)
-    does-alike g Close p = buffer-kept (by-act v f [] close-alike)
-    does-alike g SearchFirst p = by-act v f b first-alike
-    does-alike g SearchNext p = block-kept (by-act v [] b next-alike)
-    does-alike g Delete p = buffer-kept (by-act v f [] delete-alike)
-    does-alike g ReadSequential p = by-act v f b read-sequential-alike
-    does-alike g WriteSequential p = by-act v f b (sequential-alike d k v same f b)
-    does-alike g Make p = buffer-kept (by-act v f [] make-alike)
-    does-alike g Rename p = buffer-kept (by-act v f [] rename-alike)
-    does-alike g Protect p = volume-kept (block-kept (buffer-kept (by-act [] [] [] protect-alike)))
-    does-alike g Attributes p = buffer-kept (by-act v f [] attributes-alike)
-    does-alike g User p = volume-kept (block-kept (buffer-kept (by-act [] [] [] (user-alike p))))
-    does-alike g ReadRandom p = by-act v f b read-random-alike
-    does-alike g WriteRandom p = by-act v f b (random-alike d k v same f b)
-    does-alike g Size p = buffer-kept (by-act v f [] size-alike)
-    does-alike g SetRandom p = volume-kept (buffer-kept (by-act [] f [] set-random-alike))
-    does-alike g WriteZeroFill p = by-act v f b (zero-fill-alike d k v same f b)
+    does-alike g Open p = buffer-kept (by-act d k v f [] (open-alike d k v f b))
+    does-alike g Close p = buffer-kept (by-act d k v f [] (close-alike d k v f b))
+    does-alike g SearchFirst p = by-act d k v f b (first-alike d k v f b)
+    does-alike g SearchNext p = block-kept (by-act d k v [] b (next-alike d k v f b))
+    does-alike g Delete p = buffer-kept (by-act d k v f [] (delete-alike d k v f b))
+    does-alike g ReadSequential p = by-act d k v f b (read-sequential-alike d k v f b)
+    does-alike g WriteSequential p = by-act d k v f b (sequential-alike d k v same f b)
+    does-alike g Make p = buffer-kept (by-act d k v f [] (make-alike d k v f b))
+    does-alike g Rename p = buffer-kept (by-act d k v f [] (rename-alike d k v f b))
+    does-alike g Protect p = volume-kept (block-kept (buffer-kept (by-act d k [] [] [] (protect-alike d k v f b))))
+    does-alike g Attributes p = buffer-kept (by-act d k v f [] (attributes-alike d k v f b))
+    does-alike g User p = volume-kept (block-kept (buffer-kept (by-act d k [] [] [] (user-alike d k v f b p))))
+    does-alike g ReadRandom p = by-act d k v f b (read-random-alike d k v f b)
+    does-alike g WriteRandom p = by-act d k v f b (random-alike d k v same f b)
+    does-alike g Size p = buffer-kept (by-act d k v f [] (size-alike d k v f b))
+    does-alike g SetRandom p = volume-kept (buffer-kept (by-act d k [] f [] (set-random-alike d k v f b)))
+    does-alike g WriteZeroFill p = by-act d k v f b (zero-fill-alike d k v same f b)
+    does-alike g ReadSeveral p = read-several-alike d k v f b p kept worked-out
+    does-alike g WriteSeveral p = write-several-alike d k v f b p kept worked-out
     does-alike g Unserved p = outcome-alike d k v f b (deny NotServed)

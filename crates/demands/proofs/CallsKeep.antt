@@ -28,8 +28,10 @@ use Rattle.filecalls.specs.Search.{firstTests, searchFirstAct, shown, nextTests
 use Rattle.filecalls.specs.Read.{sequentialTests, randomTests, readDone, readSequentialAct, readRandomAct}
 use Rattle.filecalls.specs.Small.{protectTests, protectAct, userTests, userAct, setRandomTests, setRandomAct}
 use Rattle.filecalls.specs.Outcome.{keeps, protects, becomes, Store, Act, deny, done, unless, changedState, Outcome, outcome, left}
+use Rattle.several.specs.Several.{readOne}
+use Rattle.several.proofs.SeveralLaws.{read-refuses}
 use Rattle.bdos.specs.declared.Call.{Call}
-use Rattle.bdos.specs.declared.Call.the-variants.{LogIn, Open, Close, SearchFirst, SearchNext, Delete, ReadSequential, WriteSequential, Make, Rename, Protect, Attributes, User, ReadRandom, WriteRandom, Size, SetRandom, WriteZeroFill, Unserved}
+use Rattle.bdos.specs.declared.Call.the-variants.{LogIn, Open, Close, SearchFirst, SearchNext, Delete, ReadSequential, WriteSequential, Make, Rename, Protect, Attributes, User, ReadRandom, WriteRandom, Size, SetRandom, WriteZeroFill, ReadSeveral, WriteSeveral, Unserved}
 use Rattle.bdos.specs.Step.{keepsBuffer, keepsBlock, keepsVolume}
 use Rattle.bdos.specs.Step as door
 use Rattle.demands.specs.Demand3.{Bytes, names}
@@ -38,6 +40,7 @@ use Rattle.demands.proofs.Inspected.{sound-accepted, held-of}
 use Rattle.demands.proofs.Acts.{Consistent, Keeps, denied, does, keeps-unless, still, still-search, StepKeeps, outcome-keeps, leaves-all}
 use Rattle.demands.proofs.MakeKeeps.{make-keeps}
 use Rattle.demands.proofs.WritesKeep.{write-sequential-keeps, write-random-keeps, write-zero-fill-keeps}
+use Rattle.demands.proofs.SeveralKeeps.{several-keeps, write-several-keeps}
 use Rattle.demands.proofs.DeleteKeeps.{delete-keeps}
 use Rattle.demands.proofs.RenameKeeps.{rename-keeps}
 use Rattle.demands.proofs.AttributesKeep.{attributes-keep}
@@ -56,7 +59,7 @@ module _ (g : Geometry) (law : lawful g ≡ true) (v : List ℕ) (size : length 
   logged-in = record { law = law; size = size; sound = sound; held = held-of g v law }
 
 -- ---- acts that store nothing
-abbrev Nothing : ℕ → List ℕ → Bool
+abbrev pub Nothing : ℕ → List ℕ → Bool
 Nothing u name = false
 
 module _ (d : Drive) (v f b : List ℕ) (c : Consistent d v) where
@@ -80,7 +83,7 @@ module _ (d : Drive) (v f b : List ℕ) (c : Consistent d v) where
   unfolding searchNextAct shown
   next-keeps = keeps-unless (nextTests d v b) _ (λ h. does (still-search Nothing d v c _))
 
-  read-sequential-keeps : Keeps Nothing d v (readSequentialAct d v f b)
+  pub read-sequential-keeps : Keeps Nothing d v (readSequentialAct d v f b)
   unfolding readSequentialAct readDone
   read-sequential-keeps =
       keeps-unless (sequentialTests d v f b ++ readTests (d .geometry) v (d .user) (nameOf f) (position f) Absent) _ (λ h. does (still Nothing d v c))
@@ -163,4 +166,8 @@ module _ (g : Geometry) (p : ℕ) (d : Drive) (v f b : List ℕ) (same : d .geom
   does-keeps Size = buffer-kept b (outcome-keeps Nothing d v f [] (sizeAct d v f) c (size-keeps d v f b c))
   does-keeps SetRandom = buffer-kept b (small-keeps Nothing d v [] f [] (setRandomAct d f) c (set-random-small d f))
   does-keeps WriteZeroFill = outcome-keeps _ d v f b _ c (write-zero-fill-keeps d v f b c small)
+  does-keeps ReadSeveral =
+      several-keeps readOne (λ w h u name. false) read-refuses (λ d v f b c. outcome-keeps Nothing d v f b (readSequentialAct d v f b) c (read-sequential-keeps d v f b c))
+      (λ d v f b u name. refl) d v f b p c
+  does-keeps WriteSeveral = write-several-keeps d v f b p c
   does-keeps Unserved = outcome-keeps Nothing d v f b (deny NotServed) c denied

@@ -1,19 +1,19 @@
 -- Demand 1 holds: a refusal is the first clause of `outcome`, every call's act stands under `unless` and its own tests,
 -- and what the tests refuse for does not depend on what is given.
-use mathlib.Core.Path.{_≡_, refl, sym, _∙_}
-use mathlib.Core.Bool.{Bool, true, false, cond, _||_, or-true, true≢false, false≢true}
+use mathlib.Core.Path.{_≡_, refl, sym, ap}
+use mathlib.Core.Bool.{Bool, true, false, cond, _||_, true≢false, false≢true}
 use mathlib.Core.Logic.{_≢_}
 use mathlib.Core.List.{List, [], _∷_}
 use Prim.Native.Nat.{ℕ, _%_, _<_}
 use native.Mathlib.Omega.{arith}
-use lib.Dec.{eqb}
-use borrow.Author.Tests.{eq-eqb, eqb-true, not-false}
+use lib.Dec.{ltb, eqb}
+use borrow.Author.Tests.{eqb-true, lt-ltb, not-false}
 use Rattle.volume.specs.declared.Geometry.{Geometry}
 use Rattle.answers.specs.declared.Refusal.{Refusal}
 use Rattle.answers.specs.declared.Refusal.the-variants.{Closed, NotServed}
 use Rattle.answers.specs.declared.Answer.{Answer}
 use Rattle.answers.specs.declared.Answer.the-variants.{BadSlot, Refused}
-use Rattle.answers.specs.Refusal.{Test, test, refusalNumber, isNone, refusing, first, firstMet}
+use Rattle.answers.specs.Refusal.{Test, test, refusalNumber, isNone, firstMet}
 use Rattle.answers.specs.Answer.{numberOf, succeeded}
 use Rattle.answers.proofs.Ladder.{unmet}
 use Rattle.naming.specs.Delete.{deleteTests}
@@ -23,7 +23,7 @@ use Rattle.reading.specs.Read.{readTests}
 use Rattle.writing.specs.Write.{writeTests}
 use Rattle.inspection.specs.GoodSlot.{lowestBad}
 use Rattle.filecalls.specs.declared.Drive.{Drive}
-use Rattle.filecalls.specs.Outcome.{Change, keeps, becomes, Store, Act, deny, done, unless, outcome}
+use Rattle.filecalls.specs.Outcome.{Change, keeps, becomes, Store, Act, deny, done, unless, Outcome, outcome}
 use Rattle.filecalls.specs.State.{isOpen, closed}
 use Rattle.filecalls.specs.LogIn.{logInTests, refusedLogIn, logIn}
 use Rattle.filecalls.specs.Open.{openTests, openAct, closeTests, closeAct, sizeTests, sizeAct}
@@ -33,17 +33,34 @@ use Rattle.filecalls.specs.Read.{sequentialTests, randomTests, readDone, readSe
 use Rattle.filecalls.specs.Write.{writeDone, writeSequentialAct, writeRandomAct, writeZeroFillAct}
 use Rattle.filecalls.specs.Small.{protectTests, protectAct, userTests, userAct, setRandomTests, setRandomAct}
 use Rattle.filecalls.proofs.StateLaws.{is-open}
+use Rattle.several.specs.Several.{Single, readOne, writeOne, severalTests, several}
+use Rattle.several.proofs.SinglesLaws.{Refuses}
+use Rattle.several.proofs.SeveralLaws.{leaves-all, read-refuses, write-refuses}
 use Rattle.bdos.specs.declared.Call.{Call}
-use Rattle.bdos.specs.declared.Call.the-variants.{LogIn, Open, Close, SearchFirst, SearchNext, Delete, ReadSequential, WriteSequential, Make, Rename, Protect, Attributes, User, ReadRandom, WriteRandom, Size, SetRandom, WriteZeroFill, Unserved}
+use Rattle.bdos.specs.declared.Call.the-variants.{LogIn, Open, Close, SearchFirst, SearchNext, Delete, ReadSequential, WriteSequential, Make, Rename, Protect, Attributes, User, ReadRandom, WriteRandom, Size, SetRandom, WriteZeroFill, ReadSeveral, WriteSeveral, Unserved}
 use Rattle.bdos.specs.Step.{Asked, does, step}
-use Rattle.demands.specs.Order.{paperTable, numbersOf, reasons, inOrder, testsOf, refusalsOf, codesOf}
-use Rattle.demands.specs.Demand1.{call, tests, answer, Leaves, among, Demand1}
+use Rattle.demands.specs.Order.{paperTable, numbersOf, reasons, inOrder, testsOf, refusalsOf, among, answersOf}
+use Rattle.demands.specs.Demand1.{call, tests, answer, Leaves, Demand1}
+use Rattle.demands.proofs.Says.{Says, was-met, was-none, number-among}
+use Rattle.demands.proofs.SeveralSays.{read-says, write-says}
 
 -- ---- a refused act leaves all as given
 kept : (d : Drive) (v f b : List ℕ) (a : Act) → succeeded (outcome d v f b a .answer) ≡ false → Leaves (outcome d v f b a) d v f b
 unfolding outcome
 kept d v f b (deny why) h = record { state-is = refl; volume-kept = refl; block-kept = refl; buffer-kept = refl }
 kept d v f b (done code change stores f′ b′) h = absurd (true≢false h)
+
+-- of several records: where none is done
+several-kept : (single : Single) → Refuses single → (d : Drive) (v f b : List ℕ) (k : ℕ) → succeeded (several single d v f b k .answer) ≡ false
+    → Leaves (several single d v f b k) d v f b
+several-kept single refuses d v f b k h =
+    let e = leaves-all single refuses d v f b k h in
+    record {
+      state-is = ap (λ (o : Outcome). o .drive) e;
+      volume-kept = ap (λ (o : Outcome). o .volume) e;
+      block-kept = ap (λ (o : Outcome). o .block) e;
+      buffer-kept = ap (λ (o : Outcome). o .buffer) e;
+    }
 
 call-kept : (g : Geometry) (k : Call) (p : ℕ) (d : Drive) (v f b : List ℕ) → k ≢ LogIn → succeeded (does g k p d v f b .answer) ≡ false
     → Leaves (does g k p d v f b) d v f b
@@ -88,6 +105,8 @@ call-kept g SetRandom p d v f b n h =
     let k = kept d [] f [] (setRandomAct d f) h in
     record { state-is = k .state-is; volume-kept = refl; block-kept = k .block-kept; buffer-kept = refl }
 call-kept g WriteZeroFill p d v f b n h = kept d v f b (writeZeroFillAct d v f b) h
+call-kept g ReadSeveral p d v f b n h = several-kept readOne read-refuses d v f b p h
+call-kept g WriteSeveral p d v f b n h = several-kept writeOne write-refuses d v f b p h
 call-kept g Unserved p d v f b n h = kept d v f b (deny NotServed) h
 
 -- ---- a refused log-in
@@ -104,16 +123,12 @@ closes : (g : Geometry) (k : Call) (p : ℕ) (d : Drive) (v f b : List ℕ) → 
 unfolding does
 closes g k p d v f b e h = rw e (record { state-is = log-in-closed g v (rw e at h); volume-kept = refl; block-kept = refl; buffer-kept = refl })
 
--- ---- what an answer says of the tests: the first that is met, or a code below m
-pub record Says (a : Answer) (ts : List Test) (m : ℕ) : Type 0 where
-  pub met : isNone (firstMet ts) ≡ false → (succeeded a ≡ false) × (numberOf a ≡ refusalNumber (firstMet ts))
-  pub none : isNone (firstMet ts) ≡ true → (succeeded a ≡ true) × (numberOf a < m)
-
+-- ---- what each call's answer says of its tests
 module _ (d : Drive) (v f b : List ℕ) (ts : List Test) (m : ℕ) where
   says : (k : ℕ) (c : Change) (ss : List Store) (f′ b′ : List ℕ) → (isNone (firstMet ts) ≡ true → k < m)
-      → Says (outcome d v f b (unless ts (done k c ss f′ b′)) .answer) ts m
+      → Says (outcome d v f b (unless ts (done k c ss f′ b′)) .answer) ts (λ n. ltb n m)
   unfolding outcome unless
-  says k c ss f′ b′ l = record { met = λ e. rw e (refl, refl); none = λ e. rw e (refl, l e) }
+  says k c ss f′ b′ l = record { met = λ e. rw e (refl, refl); none = λ e. rw e (refl, lt-ltb k m (l e)) }
 
 code-lt : (i : ℕ) → i % 4 < 4
 code-lt i = omega arith
@@ -125,17 +140,17 @@ user-low d p e =
     let o = is-open d (not-false (isOpen d) (unmet Closed _ _ refl e .0)) in
     omega (arith, o .user15)
 
-user-says : (d : Drive) (p : ℕ) → Says (outcome d [] [] [] (userAct d p) .answer) (userTests d p) 16
+user-says : (d : Drive) (p : ℕ) → Says (outcome d [] [] [] (userAct d p) .answer) (userTests d p) (λ n. ltb n 16)
 unfolding userAct
 user-says d p = go (eqb p 255)
   where
-    go : (t : Bool) → Says (outcome d [] [] [] (unless (userTests d p) (cond t (done (d .user) keeps [] [] []) (done 0 (becomes p) [] [] []))) .answer) (userTests d p) 16
+    go : (t : Bool) → Says (outcome d [] [] [] (unless (userTests d p) (cond t (done (d .user) keeps [] [] []) (done 0 (becomes p) [] [] []))) .answer) (userTests d p) (λ n. ltb n 16)
     go true = says d [] [] [] (userTests d p) 16 (d .user) keeps [] [] [] (user-low d p)
     go false = says d [] [] [] (userTests d p) 16 0 (becomes p) [] [] [] (λ e. omega arith)
 
-pub log-in-says : (g : Geometry) (v : List ℕ) → Says (logIn g v .answer) (logInTests g v) 1
+pub log-in-says : (g : Geometry) (v : List ℕ) → Says (logIn g v .answer) (logInTests g v) (λ n. ltb n 1)
 unfolding logIn
-log-in-says g v = record { met = λ e. rw e (which (firstMet (logInTests g v))); none = λ e. rw e (refl, omega arith) }
+log-in-says g v = record { met = λ e. rw e (which (firstMet (logInTests g v))); none = λ e. rw e (refl, refl) }
   where
     which : (why : Refusal) → (succeeded (refusedLogIn why (lowestBad g v)) ≡ false) × (numberOf (refusedLogIn why (lowestBad g v)) ≡ refusalNumber why)
     which why = unfold refusedLogIn in go (eqb (refusalNumber why) 36) refl
@@ -145,12 +160,12 @@ log-in-says g v = record { met = λ e. rw e (which (firstMet (logInTests g v)));
         go true e = (refl, sym (eqb-true (refusalNumber why) 36 e))
         go false e = (refl, refl)
 
-unserved-says : (d : Drive) (v f b : List ℕ) → Says (outcome d v f b (deny NotServed) .answer) (test NotServed true ∷ []) 0
+unserved-says : (d : Drive) (v f b : List ℕ) → Says (outcome d v f b (deny NotServed) .answer) (test NotServed true ∷ []) (λ n. ltb n 0)
 unfolding outcome firstMet
 unserved-says d v f b = record { met = λ e. (refl, refl); none = λ e. absurd (false≢true e) }
 
 module _ (g : Geometry) (p : ℕ) (d : Drive) (v f b : List ℕ) where
-  pub call-says : (k : Call) → Says (does g k p d v f b .answer) (testsOf g k p d v f b) (codesOf k)
+  pub call-says : (k : Call) → Says (does g k p d v f b .answer) (testsOf g k p d v f b) (answersOf k)
   unfolding does openAct closeAct sizeAct searchFirstAct searchNextAct shown deleteAct makeAct renameAct attributesAct readSequentialAct readRandomAct readDone writeSequentialAct writeRandomAct writeZeroFillAct writeDone protectAct setRandomAct
   call-says LogIn = log-in-says g v
   call-says Open = says d v f [] (testsOf g Open p d v f b) 4 _ _ _ _ _ (λ e. code-lt _)
@@ -170,25 +185,13 @@ module _ (g : Geometry) (p : ℕ) (d : Drive) (v f b : List ℕ) where
   call-says Size = says d v f [] (testsOf g Size p d v f b) 1 _ _ _ _ _ (λ e. omega arith)
   call-says SetRandom = says d [] f [] (testsOf g SetRandom p d v f b) 1 _ _ _ _ _ (λ e. omega arith)
   call-says WriteZeroFill = says d v f b (testsOf g WriteZeroFill p d v f b) 1 _ _ _ _ _ (λ e. omega arith)
+  call-says ReadSeveral = read-says d v f b p
+  call-says WriteSeveral = write-says d v f b p
   call-says Unserved = unserved-says d v f b
-
--- the first test that is met is one of the tests
-number-among : (ts : List Test) → isNone (firstMet ts) ≡ false → among (refusalNumber (firstMet ts)) (numbersOf (reasons ts)) ≡ true
-unfolding firstMet
-number-among [] h = absurd (true≢false h)
-number-among (t ∷ ts) h = go (t .met) (isNone (t .why)) refl h (number-among ts)
-  where
-    go : (m n : Bool) → isNone (t .why) ≡ n → isNone (first (refusing (t .why) m) (firstMet ts)) ≡ false
-        → (isNone (firstMet ts) ≡ false → among (refusalNumber (firstMet ts)) (numbersOf (reasons ts)) ≡ true)
-        → (eqb (refusalNumber (first (refusing (t .why) m) (firstMet ts))) (refusalNumber (t .why))
-        || among (refusalNumber (first (refusing (t .why) m) (firstMet ts))) (numbersOf (reasons ts))) ≡ true
-    go false n e h later = rw (later h, or-true)
-    go true true e h later = rw e (rw (later (rw e at h), or-true))
-    go true false e h later = rw (e, eq-eqb (refusalNumber (t .why)) (refusalNumber (t .why)) refl)
 
 -- ---- the order of tests, by computation
 tests-are : (g : Geometry) (k : Call) (p : ℕ) (d : Drive) (v f b : List ℕ) → reasons (testsOf g k p d v f b) ≡ refusalsOf k
-unfolding logInTests openTests closeTests sizeTests firstTests nextTests deleteLadder deleteTests makeLadder makeTests renameLadder renameTests attributesLadder sequentialTests randomTests readTests writeTests protectTests userTests setRandomTests
+unfolding logInTests openTests closeTests sizeTests firstTests nextTests deleteLadder deleteTests makeLadder makeTests renameLadder renameTests attributesLadder sequentialTests randomTests readTests writeTests protectTests userTests setRandomTests severalTests
 tests-are g LogIn p d v f b = refl
 tests-are g Open p d v f b = refl
 tests-are g Close p d v f b = refl
@@ -207,6 +210,8 @@ tests-are g WriteRandom p d v f b = refl
 tests-are g Size p d v f b = refl
 tests-are g SetRandom p d v f b = refl
 tests-are g WriteZeroFill p d v f b = refl
+tests-are g ReadSeveral p d v f b = refl
+tests-are g WriteSeveral p d v f b = refl
 tests-are g Unserved p d v f b = refl
 
 in-table-order : (k : Call) → k ≢ Unserved → inOrder (refusalsOf k) paperTable ≡ true
@@ -228,25 +233,12 @@ in-table-order WriteRandom n = refl
 in-table-order Size n = refl
 in-table-order SetRandom n = refl
 in-table-order WriteZeroFill n = refl
+in-table-order ReadSeveral n = refl
+in-table-order WriteSeveral n = refl
 in-table-order Unserved n = absurd (n refl)
 
 -- ---- all together
--- a test is met exactly where the answer is a refusal
-pub was-met : {a : Answer} {ts : List Test} {m : ℕ} → Says a ts m → succeeded a ≡ false → isNone (firstMet ts) ≡ false
-was-met {a} {ts} {m} s h = go (isNone (firstMet ts)) refl
-  where
-    go : (t : Bool) → isNone (firstMet ts) ≡ t → isNone (firstMet ts) ≡ false
-    go true e = absurd (true≢false (sym (s .none e .0) ∙ h))
-    go false e = e
-
-pub was-none : {a : Answer} {ts : List Test} {m : ℕ} → Says a ts m → succeeded a ≡ true → isNone (firstMet ts) ≡ true
-was-none {a} {ts} {m} s h = go (isNone (firstMet ts)) refl
-  where
-    go : (t : Bool) → isNone (firstMet ts) ≡ t → isNone (firstMet ts) ≡ true
-    go true e = e
-    go false e = absurd (false≢true (sym (s .met e .0) ∙ h))
-
-pub step-says : (g : Geometry) (c : Asked) (d : Drive) (v : List ℕ) → Says (answer g c d v) (tests g c d v) (codesOf (call c))
+pub step-says : (g : Geometry) (c : Asked) (d : Drive) (v : List ℕ) → Says (answer g c d v) (tests g c d v) (answersOf (call c))
 unfolding step
 step-says g c d v = call-says g (c .parameter) d v (c .block) (c .buffer) (call c)
 

@@ -42,10 +42,11 @@ use Rattle.filecalls.proofs.StateLaws.{is-open}
 use Rattle.bdos.specs.declared.Call.{Call}
 use Rattle.bdos.specs.declared.Call.the-variants.{LogIn}
 use Rattle.bdos.specs.Step.{Asked, does, step}
-use Rattle.demands.specs.Order.{testsOf, codesOf}
+use Rattle.demands.specs.Order.{testsOf, answersOf}
 use Rattle.demands.specs.Demand1.{call, tests, answer}
 use Rattle.demands.specs.Demand2.{Writes, sequential, direct, zero-filling, Reads, earlier, NoneFree, Sound, Present, Same, Demand2}
-use Rattle.demands.proofs.Demand1.{log-in-says, step-says, was-none}
+use Rattle.demands.proofs.Says.{was-none}
+use Rattle.demands.proofs.Demand1.{log-in-says, step-says}
 use Rattle.demands.proofs.Demand2Apart.{Apart, inspected}
 use Rattle.demands.proofs.Demand2Writes.{stores, others}
 use Rattle.demands.proofs.Demand2Reads.{shows, reads-present}
@@ -82,10 +83,10 @@ module _ (g : Geometry) (p : ℕ) (d : Drive) (v f b : List ℕ) where
   open-state direct e = not-false (isOpen d) (unmet Closed _ _ refl e .0)
   open-state zero-filling e = not-false (isOpen d) (unmet Closed _ _ refl e .0)
 
-  one-code : {k : Call} {n : ℕ} {r : List ℕ} → Writes f b k n r → codesOf k ≡ 1
-  one-code sequential = refl
-  one-code direct = refl
-  one-code zero-filling = refl
+  one-code : {k : Call} {n : ℕ} {r : List ℕ} → Writes f b k n r → (x : ℕ) → answersOf k x ≡ true → x < 1
+  one-code sequential x e = ltb-true x 1 e
+  one-code direct x e = ltb-true x 1 e
+  one-code zero-filling x e = ltb-true x 1 e
 
   -- where the tests before it pass, the last decides
   last-decides : {k : Call} {n : ℕ} {r : List ℕ} → Writes f b k n r → isNone (firstMet (earlier (testsOf g k p d v f b))) ≡ true
@@ -121,7 +122,7 @@ module _ (g : Geometry) (c : Asked) (d : Drive) (v : List ℕ) (n : ℕ) (r : Li
           alloc-none (d .geometry) (d .held) (baseEntry (d .geometry) v (d .user) (nameOf (c .block)) n) (placeOf (d .geometry) n) good (omega arith)
       go false q =
           let l = step-says g c d v .none (ap isNone decides ∙ last-none _ q) .1 in
-          absurd (omega (arith, one-code g (c .parameter) d v (c .block) (c .buffer) w))
+          absurd (omega (arith, one-code g (c .parameter) d v (c .block) (c .buffer) w _ l))
 
   none-two : NoneFree d → numberOf (answer g c d v) ≡ 2
   none-two h =

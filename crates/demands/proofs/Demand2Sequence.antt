@@ -23,22 +23,23 @@ use Rattle.bdos.specs.declared.Call.the-variants.{WriteSequential}
 use Rattle.bdos.specs.Step.{asked, callOf, does, step}
 use Rattle.demands.specs.Order.{testsOf}
 use Rattle.demands.specs.Demand2.{sequential, Present, allWritten, volumeAtEnd}
-use Rattle.demands.proofs.Demand1.{call-says, was-none}
+use Rattle.demands.proofs.Says.{was-none}
+use Rattle.demands.proofs.Demand1.{call-says}
 use Rattle.demands.proofs.Demand2Apart.{Apart}
 use Rattle.demands.proofs.Demand2Others.{Stays}
 use Rattle.demands.proofs.Demand2Writes.{call-clear, call-wrote, block-left, stores, others, still-apart, next-position, same-name}
 
 -- ---- one of them
 -- what it leaves for the next
-record Next (d : Drive) (v f r : List ℕ) (o : Outcome) : Type 0 where
-  geometry-is : o .drive .geometry ≡ d .geometry
-  user-is : o .drive .user ≡ d .user
-  name-is : nameOf (o .block) ≡ nameOf f
-  position-is : position (o .block) ≡ position f + 1
-  written : Present d f (o .volume) (position f) r
-  others-stay : Apart (d .geometry) (d .held) v → (m : ℕ) → m ≢ position f → present (d .geometry) v (d .user) (nameOf f) m ≡ true
+pub record Next (d : Drive) (v f r : List ℕ) (o : Outcome) : Type 0 where
+  pub geometry-is : o .drive .geometry ≡ d .geometry
+  pub user-is : o .drive .user ≡ d .user
+  pub name-is : nameOf (o .block) ≡ nameOf f
+  pub position-is : position (o .block) ≡ position f + 1
+  pub written : Present d f (o .volume) (position f) r
+  pub others-stay : Apart (d .geometry) (d .held) v → (m : ℕ) → m ≢ position f → present (d .geometry) v (d .user) (nameOf f) m ≡ true
       → Stays (d .geometry) v (o .volume) (d .user) (nameOf f) m
-  apart : Apart (d .geometry) (d .held) v → Apart (d .geometry) (o .drive .held) (o .volume)
+  pub apart : Apart (d .geometry) (d .held) v → Apart (d .geometry) (o .drive .held) (o .volume)
 
 module _ (g : Geometry) (p : ℕ) (d : Drive) (v f r : List ℕ) where
   block-is : isNone (firstMet (testsOf g WriteSequential p d v f r)) ≡ true
@@ -46,7 +47,7 @@ module _ (g : Geometry) (p : ℕ) (d : Drive) (v f r : List ℕ) where
   unfolding does writeSequentialAct
   block-is e = block-left d v f (position f) (position f % 128 + 1) false r (testsOf g WriteSequential p d v f r) e
 
-  next-call : succeeded (does g WriteSequential p d v f r .answer) ≡ true → Next d v f r (does g WriteSequential p d v f r)
+  pub next-call : succeeded (does g WriteSequential p d v f r .answer) ≡ true → Next d v f r (does g WriteSequential p d v f r)
   next-call h =
       let e = was-none (call-says g p d v f r WriteSequential) h in
       let w = call-wrote g p d v f r sequential e in

@@ -7,7 +7,6 @@ use Prim.Native.Nat.{ℕ, _≤_}
 use lib.ListN.{length}
 use Rattle.volume.specs.declared.Geometry.{Geometry}
 use Rattle.volume.specs.Geometry.{lawful, bytes, slots}
-use Rattle.volume.specs.Directory.{slotAt}
 use Rattle.blocks.specs.Held.{freeCount}
 use Rattle.answers.specs.declared.Answer.the-variants.{Ready}
 use Rattle.answers.specs.Answer.{succeeded}
@@ -22,10 +21,10 @@ use Rattle.bdos.specs.declared.Call.the-variants.{LogIn}
 use Rattle.bdos.specs.Step.{Asked, callOf, does, step}
 use Rattle.demands.specs.Run.{Seen, seen, answers, final, plainStep}
 use Rattle.demands.specs.Demand3.{Bytes, BytesLent, touches, touched, Kept, Demand3, NoBlockTwice}
-use Rattle.demands.proofs.Orderly.{held-agree}
 use Rattle.demands.proofs.Inspected.{accepted-sound, sound-accepted, held-of}
 use Rattle.demands.proofs.Acts.{Consistent, Leaves, StepKeeps}
-use Rattle.demands.proofs.Agree.{Alike, does-alike}
+use Rattle.demands.proofs.Alike.{Alike}
+use Rattle.demands.proofs.Agree.{does-alike}
 use Rattle.demands.proofs.CallsKeep.{log-in-is, logged-in, does-keeps}
 
 -- ---- one call
@@ -37,8 +36,8 @@ step-keeps g c d v same k small = does-keeps g (c .parameter) d v (c .block) (c 
 plain-alike : (g : Geometry) (c : Asked) (d : Drive) (k v : List ℕ) → Consistent d v → Alike (step g c d v) (plainStep g c (withHeld d k) v)
 unfolding step plainStep
 plain-alike g c d k v s =
-    does-alike d (heldOf (d .geometry) v) v (c .block) (c .buffer)
-    (held-agree (d .geometry) (heldOf (d .geometry) v) (d .held) (slotAt (d .geometry) v) (held-of (d .geometry) v (s .law)) (s .held))
+    does-alike d (heldOf (d .geometry) v) v (c .block) (c .buffer) s
+    (record { law = s .law; size = s .size; sound = s .sound; held = held-of (d .geometry) v (s .law) })
     g (callOf (c .function)) (c .parameter)
 
 seen-alike : {o p : Outcome} → Alike o p → seen o ≡ seen p

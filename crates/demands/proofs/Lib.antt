@@ -1,4 +1,6 @@
 -- Why the demands hold.
+pub mod Says
+pub mod SeveralSays
 pub mod Demand1
 pub mod Demand2Entries
 pub mod Demand2Apart
@@ -23,11 +25,15 @@ pub mod NamedEntry
 pub mod FileEdit
 pub mod RenameKeeps
 pub mod AttributesKeep
+pub mod SeveralKeeps
 pub mod CallsKeep
+pub mod Alike
+pub mod SeveralAlike
 pub mod Agree
 pub mod Demand3Holds
 pub mod AlwaysHolds
 pub mod TieHolds
+pub mod SeveralHolds
 pub mod RenamingParts
 pub mod RenamingSweeps
 pub mod RenamingEntries

@@ -1,13 +1,13 @@
 -- Demand 1. "For every call and all inputs the answer is one of the paper's for that call; a refused call leaves volume,
 -- control block, buffer and state as given; a refused log-in hands back the closed value; and the tests of each call
--- stand in the order of the paper's table."
+-- stand in the order of the paper's table." A call of several records is refused where none is done; one that stops after
+-- some answers as successful by the number that stopped it.
 -- Each sentence is a field of `Demand1`; that it holds is `demand1` in the proofs. Nothing is assumed of any input.
 use mathlib.Core.Path.{_≡_}
-use mathlib.Core.Bool.{Bool, true, false, _||_}
+use mathlib.Core.Bool.{true, false}
 use mathlib.Core.Logic.{_≢_}
 use mathlib.Core.List.{List, [], _∷_}
-use Prim.Native.Nat.{ℕ, _<_}
-use lib.Dec.{eqb}
+use Prim.Native.Nat.{ℕ}
 use Rattle.volume.specs.declared.Geometry.{Geometry}
 use Rattle.answers.specs.declared.Answer.{Answer}
 use Rattle.answers.specs.Refusal.{Test, refusalNumber, isNone, firstMet}
@@ -18,7 +18,7 @@ use Rattle.filecalls.specs.State.{closed}
 use Rattle.bdos.specs.declared.Call.{Call}
 use Rattle.bdos.specs.declared.Call.the-variants.{LogIn, Unserved}
 use Rattle.bdos.specs.Step.{Asked, callOf, step}
-use Rattle.demands.specs.Order.{paperTable, numbersOf, reasons, inOrder, testsOf, refusalsOf, codesOf}
+use Rattle.demands.specs.Order.{paperTable, numbersOf, reasons, inOrder, testsOf, refusalsOf, among, answersOf}
 
 -- ---- what the statement is written with
 -- the call that is asked for, its tests, and its answer
@@ -38,11 +38,6 @@ pub record Leaves (o : Outcome) (s : Drive) (v f b : List ℕ) : Type 0 where
   pub block-kept : o .block ≡ f
   pub buffer-kept : o .buffer ≡ b
 
--- n is one of the numbers
-abbrev pub among : ℕ → List ℕ → Bool
-among n [] = false
-among n (x ∷ xs) = eqb n x || among n xs
-
 -- ---- the statement
 pub record Demand1 : Type 0 where
   -- "a refused call leaves volume, control block, buffer and state as given"
@@ -51,9 +46,10 @@ pub record Demand1 : Type 0 where
   -- "a refused log-in hands back the closed value"
   pub refused-log-in-closes : (g : Geometry) (c : Asked) (d : Drive) (v : List ℕ) → call c ≡ LogIn → succeeded (answer g c d v) ≡ false
       → Leaves (step g c d v) closed v (c .block) (c .buffer)
-  -- "the answer is one of the paper's for that call": a code of its success, or the number of one of its refusals
+  -- "the answer is one of the paper's for that call": a code of its success (of several records also the number that
+  -- stopped it), or the number of one of its refusals
   pub success-of-paper : (g : Geometry) (c : Asked) (d : Drive) (v : List ℕ) → succeeded (answer g c d v) ≡ true
-      → numberOf (answer g c d v) < codesOf (call c)
+      → answersOf (call c) (numberOf (answer g c d v)) ≡ true
   pub refusal-of-paper : (g : Geometry) (c : Asked) (d : Drive) (v : List ℕ) → succeeded (answer g c d v) ≡ false
       → among (numberOf (answer g c d v)) (numbersOf (refusalsOf (call c))) ≡ true
   -- the first test that is met refuses by its own number; where none is met the call succeeds
@@ -62,8 +58,8 @@ pub record Demand1 : Type 0 where
   pub no-test-succeeds : (g : Geometry) (c : Asked) (d : Drive) (v : List ℕ) → isNone (firstMet (tests g c d v)) ≡ true
       → succeeded (answer g c d v) ≡ true
   -- "the tests of each call stand in the order of the paper's table": whatever is given, they are the call's refusals, and
-  -- those of the eighteen calls are a part of one list
+  -- those of the twenty calls are a part of one list
   pub tests-are : (g : Geometry) (k : Call) (p : ℕ) (d : Drive) (v f b : List ℕ) → reasons (testsOf g k p d v f b) ≡ refusalsOf k
   pub in-table-order : (k : Call) → k ≢ Unserved → inOrder (refusalsOf k) paperTable ≡ true
   pub table-numbers : numbersOf paperTable
-      ≡ 32 ∷ 33 ∷ 34 ∷ 35 ∷ 42 ∷ 44 ∷ 39 ∷ 45 ∷ 40 ∷ 6 ∷ 36 ∷ 37 ∷ 255 ∷ 3 ∷ 38 ∷ 43 ∷ 4 ∷ 1 ∷ 41 ∷ 5 ∷ 255 ∷ 2 ∷ []
+      ≡ 32 ∷ 33 ∷ 34 ∷ 46 ∷ 35 ∷ 42 ∷ 44 ∷ 39 ∷ 45 ∷ 40 ∷ 6 ∷ 36 ∷ 37 ∷ 255 ∷ 3 ∷ 38 ∷ 43 ∷ 4 ∷ 1 ∷ 41 ∷ 5 ∷ 255 ∷ 2 ∷ []

@@ -2,7 +2,8 @@
 -- all kinds that begins with log-in, refused ones and numbers that are not served among them, with any lent lengths:
 -- answers, control blocks, buffers and volume equal those of the plain way, which works out the held blocks from the
 -- directory before every call; the volume passes inspection at the end; each file, that is user and name, that no
--- successful call named or matched has the same records present with the same bytes.
+-- successful call named or matched has the same records present with the same bytes. A call of several records is successful
+-- where one was done: "records done before a stop stay done and demand 3 counts the call as successful".
 --
 -- Of what is lent only this is asked: the bytes of control blocks are below 256. The list may be any, so each of its
 -- beginnings has all this too: the volume passes inspection after every call. Calls that only read name a file and are not
@@ -28,7 +29,7 @@ use Rattle.inspection.specs.GoodSlot.{lowestBad}
 use Rattle.reading.specs.Read.{readBytes}
 use Rattle.filecalls.specs.declared.Drive.{Drive}
 use Rattle.bdos.specs.declared.Call.{Call}
-use Rattle.bdos.specs.declared.Call.the-variants.{LogIn, Open, Close, SearchFirst, SearchNext, Delete, ReadSequential, WriteSequential, Make, Rename, Protect, Attributes, User, ReadRandom, WriteRandom, Size, SetRandom, WriteZeroFill, Unserved}
+use Rattle.bdos.specs.declared.Call.the-variants.{LogIn, Open, Close, SearchFirst, SearchNext, Delete, ReadSequential, WriteSequential, Make, Rename, Protect, Attributes, User, ReadRandom, WriteRandom, Size, SetRandom, WriteZeroFill, ReadSeveral, WriteSeveral, Unserved}
 use Rattle.bdos.specs.Step.{Asked, callOf, step}
 use Rattle.demands.specs.Run.{answers, final, plainStep}
 
@@ -49,6 +50,7 @@ names WriteRandom w f u name = eqb u w && same name (nameOf f)
 names WriteZeroFill w f u name = eqb u w && same name (nameOf f)
 names Attributes w f u name = eqb u w && same name (nameOf f)
 names Rename w f u name = eqb u w && (same name (nameOf f) || same name (newName f))
+names WriteSeveral w f u name = eqb u w && same name (nameOf f)
 names LogIn w f u name = false
 names Open w f u name = false
 names Close w f u name = false
@@ -56,6 +58,7 @@ names SearchFirst w f u name = false
 names SearchNext w f u name = false
 names ReadSequential w f u name = false
 names ReadRandom w f u name = false
+names ReadSeveral w f u name = false
 names Size w f u name = false
 names Protect w f u name = false
 names User w f u name = false

@@ -7,6 +7,7 @@ pub mod Demand3
 pub mod Always
 pub mod Tie
 pub mod WrongWays
+pub mod Several
 pub mod Renaming
 pub mod RenamingOnV
 pub mod ZeroFill

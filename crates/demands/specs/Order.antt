@@ -1,17 +1,18 @@
 -- "Numbers of refusal, in order of test": the paper's table as one list, the tests of every call, and what each call may
 -- answer.
-use mathlib.Core.Bool.{Bool, true, false, cond}
+use mathlib.Core.Bool.{Bool, true, false, cond, _||_}
 use mathlib.Core.List.{List, [], _∷_, _++_}
 use Prim.Native.Nat.{ℕ}
-use lib.Dec.{eqb}
+use lib.Dec.{ltb, eqb}
 use Rattle.volume.specs.declared.Geometry.{Geometry}
 use Rattle.volume.specs.Name.{nameOf}
-use Rattle.control.specs.Block.{position, random}
+use Rattle.control.specs.Block.{position, positionFits, random}
 use Rattle.answers.specs.declared.Refusal.{Refusal}
-use Rattle.answers.specs.declared.Refusal.the-variants.{None, NotServed, Closed, VolumeLength, BlockLength, BufferLength, DriveCode, UserCode, Name, Untypeable, Position, Beyond, BadSlot, Protected, NoMatch, NoFile, ReadOnly, Exists, NoGroup, Absent, Outside, NoSlot, NoRoom, NoBlock}
+use Rattle.answers.specs.declared.Refusal.the-variants.{None, NotServed, Closed, VolumeLength, BlockLength, BadCount, BufferLength, DriveCode, UserCode, Name, Untypeable, Position, Beyond, BadSlot, Protected, NoMatch, NoFile, ReadOnly, Exists, NoGroup, Absent, Outside, NoSlot, NoRoom, NoBlock}
 use Rattle.answers.specs.Refusal.{refusalNumber, Test, test}
 use Rattle.reading.specs.Read.{readTests}
 use Rattle.filecalls.specs.declared.Drive.{Drive}
+use Rattle.filecalls.specs.Tests.{driveCode, badName, tooLarge, beyond}
 use Rattle.filecalls.specs.LogIn.{logInTests}
 use Rattle.filecalls.specs.Open.{openTests, closeTests, sizeTests}
 use Rattle.filecalls.specs.Search.{firstTests, nextTests}
@@ -19,14 +20,16 @@ use Rattle.filecalls.specs.Names.{deleteLadder, makeLadder, renameLadder, attri
 use Rattle.filecalls.specs.Read.{sequentialTests, randomTests}
 use Rattle.filecalls.specs.Write.{directoryTests}
 use Rattle.filecalls.specs.Small.{protectTests, userTests, setRandomTests}
+use Rattle.several.specs.Several.{severalTests}
 use Rattle.bdos.specs.declared.Call.{Call}
-use Rattle.bdos.specs.declared.Call.the-variants.{LogIn, Open, Close, SearchFirst, SearchNext, Delete, ReadSequential, WriteSequential, Make, Rename, Protect, Attributes, User, ReadRandom, WriteRandom, Size, SetRandom, WriteZeroFill, Unserved}
+use Rattle.bdos.specs.declared.Call.the-variants.{LogIn, Open, Close, SearchFirst, SearchNext, Delete, ReadSequential, WriteSequential, Make, Rename, Protect, Attributes, User, ReadRandom, WriteRandom, Size, SetRandom, WriteZeroFill, ReadSeveral, WriteSeveral, Unserved}
 
--- the paper's table from top to bottom, 45 "straight after 39"; "5 .. make answers 255 here" is two cases of one row
+-- the paper's table from top to bottom, 46 "straight before 35" and 45 "straight after 39"; "5 .. make answers 255 here" is two
+-- cases of one row
 abbrev pub paperTable : List Refusal
 paperTable =
-    Closed ∷ VolumeLength ∷ BlockLength ∷ BufferLength ∷ DriveCode ∷ UserCode ∷ Name ∷ Untypeable ∷ Position ∷ Beyond ∷ BadSlot
-    ∷ Protected ∷ NoMatch ∷ NoFile ∷ ReadOnly ∷ Exists ∷ NoGroup ∷ Absent ∷ Outside ∷ NoSlot ∷ NoRoom ∷ NoBlock ∷ []
+    Closed ∷ VolumeLength ∷ BlockLength ∷ BadCount ∷ BufferLength ∷ DriveCode ∷ UserCode ∷ Name ∷ Untypeable ∷ Position ∷ Beyond
+    ∷ BadSlot ∷ Protected ∷ NoMatch ∷ NoFile ∷ ReadOnly ∷ Exists ∷ NoGroup ∷ Absent ∷ Outside ∷ NoSlot ∷ NoRoom ∷ NoBlock ∷ []
 
 -- the numbers of refusals, and those that tests give
 abbrev pub numbersOf : List Refusal → List ℕ
@@ -44,25 +47,26 @@ caseOf NotServed = 1
 caseOf Closed = 2
 caseOf VolumeLength = 3
 caseOf BlockLength = 4
-caseOf BufferLength = 5
-caseOf DriveCode = 6
-caseOf UserCode = 7
-caseOf Name = 8
-caseOf Untypeable = 9
-caseOf Position = 10
-caseOf Beyond = 11
-caseOf BadSlot = 12
-caseOf Protected = 13
-caseOf NoMatch = 14
-caseOf NoFile = 15
-caseOf ReadOnly = 16
-caseOf Exists = 17
-caseOf NoGroup = 18
-caseOf Absent = 19
-caseOf Outside = 20
-caseOf NoSlot = 21
-caseOf NoRoom = 22
-caseOf NoBlock = 23
+caseOf BadCount = 5
+caseOf BufferLength = 6
+caseOf DriveCode = 7
+caseOf UserCode = 8
+caseOf Name = 9
+caseOf Untypeable = 10
+caseOf Position = 11
+caseOf Beyond = 12
+caseOf BadSlot = 13
+caseOf Protected = 14
+caseOf NoMatch = 15
+caseOf NoFile = 16
+caseOf ReadOnly = 17
+caseOf Exists = 18
+caseOf NoGroup = 19
+caseOf Absent = 20
+caseOf Outside = 21
+caseOf NoSlot = 22
+caseOf NoRoom = 23
+caseOf NoBlock = 24
 
 -- down the table: the tests at the front that stand in a row are passed (rename tests two names in one row), and at the
 -- end none is left
@@ -78,7 +82,11 @@ abbrev pub inOrder : List Refusal → List Refusal → Bool
 inOrder ws [] = noneLeft ws
 inOrder ws (row ∷ rows) = inOrder (after row ws) rows
 
--- every call's tests, whatever it is given
+-- what a sequential call tests of the control block once what is lent is right
+abbrev pub blockTests : List ℕ → List Test
+blockTests f = driveCode f ∷ badName false f 1 ∷ tooLarge (positionFits f) ∷ beyond (eqb (position f) 65536) ∷ []
+
+-- every call's tests, whatever it is given; those of several records are of the first of them: where one is met none is done
 abbrev pub testsOf : Geometry → Call → ℕ → Drive → List ℕ → List ℕ → List ℕ → List Test
 testsOf g LogIn p d v f b = logInTests g v
 testsOf g Open p d v f b = openTests d v f
@@ -98,6 +106,8 @@ testsOf g WriteRandom p d v f b = randomTests d v f b ++ directoryTests d v f (r
 testsOf g Size p d v f b = sizeTests d v f
 testsOf g SetRandom p d v f b = setRandomTests d f
 testsOf g WriteZeroFill p d v f b = randomTests d v f b ++ directoryTests d v f (random f)
+testsOf g ReadSeveral p d v f b = severalTests d v f b p ++ (blockTests f ++ readTests (d .geometry) v (d .user) (nameOf f) (position f) Absent)
+testsOf g WriteSeveral p d v f b = severalTests d v f b p ++ (blockTests f ++ directoryTests d v f (position f))
 testsOf g Unserved p d v f b = test NotServed true ∷ []
 
 -- the refusals of every call, as the paper's table gives them
@@ -128,6 +138,11 @@ refusalsOf SetRandom = Closed ∷ BlockLength ∷ DriveCode ∷ Position ∷ []
 refusalsOf WriteZeroFill =
     Closed ∷ VolumeLength ∷ BlockLength ∷ BufferLength ∷ DriveCode ∷ Name ∷ Beyond ∷ Protected ∷ NoFile ∷ ReadOnly ∷ Outside ∷ NoSlot
     ∷ NoBlock ∷ []
+refusalsOf ReadSeveral =
+    Closed ∷ VolumeLength ∷ BlockLength ∷ BadCount ∷ BufferLength ∷ DriveCode ∷ Name ∷ Position ∷ Beyond ∷ NoFile ∷ Absent ∷ Absent ∷ Outside ∷ []
+refusalsOf WriteSeveral =
+    Closed ∷ VolumeLength ∷ BlockLength ∷ BadCount ∷ BufferLength ∷ DriveCode ∷ Name ∷ Position ∷ Beyond ∷ Protected ∷ NoFile ∷ ReadOnly
+    ∷ Outside ∷ NoSlot ∷ NoBlock ∷ []
 refusalsOf Unserved = NotServed ∷ []
 
 -- how many codes, from 0 up, it answers with when it succeeds: a slot modulo 4, a user 0..15, or 0 alone
@@ -150,4 +165,39 @@ codesOf WriteRandom = 1
 codesOf Size = 1
 codesOf SetRandom = 1
 codesOf WriteZeroFill = 1
+codesOf ReadSeveral = 1
+codesOf WriteSeveral = 1
 codesOf Unserved = 0
+
+-- n is one of the numbers
+abbrev pub among : ℕ → List ℕ → Bool
+among n [] = false
+among n (x ∷ xs) = eqb n x || among n xs
+
+-- the calls of several records
+abbrev pub isSeveral : Call → Bool
+isSeveral LogIn = false
+isSeveral Open = false
+isSeveral Close = false
+isSeveral SearchFirst = false
+isSeveral SearchNext = false
+isSeveral Delete = false
+isSeveral ReadSequential = false
+isSeveral WriteSequential = false
+isSeveral Make = false
+isSeveral Rename = false
+isSeveral Protect = false
+isSeveral Attributes = false
+isSeveral User = false
+isSeveral ReadRandom = false
+isSeveral WriteRandom = false
+isSeveral Size = false
+isSeveral SetRandom = false
+isSeveral WriteZeroFill = false
+isSeveral ReadSeveral = true
+isSeveral WriteSeveral = true
+isSeveral Unserved = false
+
+-- what it may answer when it succeeds: one of its codes, or, of several records, the number that stopped it after the first
+abbrev pub answersOf : Call → ℕ → Bool
+answersOf k n = cond (isSeveral k) (ltb n (codesOf k) || among n (numbersOf (refusalsOf k))) (ltb n (codesOf k))

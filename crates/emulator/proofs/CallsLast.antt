@@ -32,7 +32,9 @@ use Rattle.filecalls.specs.Read.{sequentialTests, randomTests, readDone, readSe
 use Rattle.filecalls.specs.Write.{directoryTests, writeChange, writeDone, writeSequentialAct, writeDirectAct, writeRandomAct, writeZeroFillAct}
 use Rattle.filecalls.specs.Small.{protectTests, protectAct, userTests, userAct, setRandomTests, setRandomAct}
 use Rattle.filecalls.proofs.StateLaws.{is-open}
-use Rattle.emulator.proofs.LastingLaws.{Lasts, Lasting, does, lasting-unless, held-lasts, protects-lasts, user-lasts, search-lasts, words-free, words-of, or-parts, hit-low, first-pattern}
+use Rattle.several.specs.Several.{readOne, writeOne, onPiece, several}
+use Rattle.several.proofs.SeveralLaws.{several-keeps}
+use Rattle.emulator.proofs.LastingLaws.{Lasts, Lasting, does, lasting-unless, outcome-lasts, held-lasts, protects-lasts, user-lasts, search-lasts, words-free, words-of, or-parts, hit-low, first-pattern}
 
 module _ (d : Drive) (v f b : List ℕ) (l : Lasts d) where
   still : Lasts (changedState d v keeps)
@@ -141,6 +143,17 @@ module _ (d : Drive) (v f b : List ℕ) (l : Lasts d) where
           → Lasting d v (cond t (done (d .user) keeps [] [] []) (done 0 (becomes p) [] [] []))
       go true e h = does still
       go false e h = does (becomes-lasts (low-code p small h e))
+
+-- ---- several records: each single call leaves a state that lasts
+pub read-several-lasts : (d : Drive) (v f b : List ℕ) (k : ℕ) → Lasts d → Lasts (several readOne d v f b k .drive)
+unfolding onPiece
+read-several-lasts =
+    several-keeps readOne (λ d v f b. Lasts d) (λ i d v f b l. outcome-lasts d v f _ (readSequentialAct d v f _) l (read-sequential-lasting d v f _ l))
+
+pub write-several-lasts : (d : Drive) (v f b : List ℕ) (k : ℕ) → Lasts d → Lasts (several writeOne d v f b k .drive)
+unfolding onPiece
+write-several-lasts =
+    several-keeps writeOne (λ d v f b. Lasts d) (λ i d v f b l. outcome-lasts d v f _ (writeSequentialAct d v f _) l (write-sequential-lasting d v f _ l))
 
 -- ---- the searches
 -- a search that is within the rules stays so at another slot

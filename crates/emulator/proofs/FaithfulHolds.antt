@@ -28,8 +28,11 @@ use Rattle.filecalls.specs.declared.Reply.{Reply}
 use Rattle.filecalls.specs.State.{isOpen, closed, loggedIn}
 use Rattle.filecalls.specs.Outcome.{Act, deny, done, Outcome, outcome}
 use Rattle.filecalls.specs.LogIn.{logInTests, refusedLogIn, logIn}
+use Rattle.filecalls.proofs.OutcomeLaws.{sameAll, outcome-refused}
+use Rattle.several.specs.Several.{readOne, writeOne}
+use Rattle.several.proofs.SeveralLaws.{leaves-all, read-refuses, write-refuses}
 use Rattle.bdos.specs.declared.Call.{Call}
-use Rattle.bdos.specs.declared.Call.the-variants.{LogIn, Open, Close, SearchFirst, SearchNext, Delete, ReadSequential, WriteSequential, Make, Rename, Protect, Attributes, User, ReadRandom, WriteRandom, Size, SetRandom, WriteZeroFill, Unserved}
+use Rattle.bdos.specs.declared.Call.the-variants.{LogIn, Open, Close, SearchFirst, SearchNext, Delete, ReadSequential, WriteSequential, Make, Rename, Protect, Attributes, User, ReadRandom, WriteRandom, Size, SetRandom, WriteZeroFill, ReadSeveral, WriteSeveral, Unserved}
 use Rattle.bdos.specs.Step.{Asked, asked, keepsBuffer, keepsBlock, keepsVolume, callOf, does, step}
 use Rattle.drivebytes.specs.Layout.{encoded, decoded}
 use Rattle.drivebytes.specs.RoundTrip.{Carried}
@@ -37,7 +40,7 @@ use Rattle.drivebytes.proofs.RoundTripHolds.{decode-encode, encode-decode, read
 use Rattle.emulator.specs.Seam.{answered, sealed, through, atSeam, logInAtSeam}
 use Rattle.emulator.specs.Faithful.{LogInCarried, LogInOpens, CallCarried, CallStaysOpen, LogInFaithful, CallFaithful, RefusedLeavesAll, RefusedLogInCloses, RefusedResetCloses}
 use Rattle.emulator.proofs.LastingLaws.{Lasts, denied, outcome-lasts}
-use Rattle.emulator.proofs.CallsLast.{open-lasting, close-lasting, size-lasting, first-lasting, next-lasting, delete-lasting, make-lasting, rename-lasting, attributes-lasting, read-sequential-lasting, read-random-lasting, write-sequential-lasting, write-random-lasting, write-zero-fill-lasting, protect-lasting, user-lasting, set-random-lasting}
+use Rattle.emulator.proofs.CallsLast.{open-lasting, close-lasting, size-lasting, first-lasting, next-lasting, delete-lasting, make-lasting, rename-lasting, attributes-lasting, read-sequential-lasting, read-random-lasting, write-sequential-lasting, write-random-lasting, write-zero-fill-lasting, protect-lasting, user-lasting, set-random-lasting, read-several-lasts, write-several-lasts}
 
 -- ---- log-in
 closed-carried : Carried closed
@@ -127,6 +130,8 @@ module _ (g : Geometry) (p : ℕ) (small : p < 256) (d : Drive) (l : Lasts d) (v
   call-lasts Size = inr (outcome-lasts d v f [] _ l (size-lasting d v f b l))
   call-lasts SetRandom = inr (outcome-lasts d [] f [] _ l (set-random-lasting d [] f b l))
   call-lasts WriteZeroFill = inr (outcome-lasts d v f b _ l (write-zero-fill-lasting d v f b l))
+  call-lasts ReadSeveral = inr (read-several-lasts d v f b p l)
+  call-lasts WriteSeveral = inr (write-several-lasts d v f b p l)
   call-lasts Unserved = inr (outcome-lasts d v f b _ l denied)
 
 step-lasts : (d : Drive) → Carried d → isOpen d ≡ true → (c : Asked) → c .parameter < 256 → (v : List ℕ)
@@ -156,15 +161,6 @@ call-faithful n p s v f b small bytes o =
     rw o (decode-encode _ (call-carried (decoded s) (read-carried s bytes o) o (asked n p f b) small v))
 
 -- ---- a refusal alters nothing
-abbrev sameAll : Outcome → Drive → List ℕ → List ℕ → List ℕ → Outcome
-sameAll o d v f b = record { answer = o .answer; drive = d; volume = v; block = f; buffer = b }
-
-outcome-refused : (d : Drive) (v f b : List ℕ) (act : Act) → succeeded (outcome d v f b act .answer) ≡ false
-    → outcome d v f b act ≡ sameAll (outcome d v f b act) d v f b
-unfolding outcome
-outcome-refused d v f b (deny why) e = refl
-outcome-refused d v f b (done code change stores f′ b′) e = absurd (true≢false e)
-
 module _ (g : Geometry) (p : ℕ) (d : Drive) (v f b : List ℕ) where
   call-refused : (call : Call) → (call ≡ LogIn → ⊥) → succeeded (does g call p d v f b .answer) ≡ false
       → does g call p d v f b ≡ sameAll (does g call p d v f b) d v f b
@@ -187,6 +183,8 @@ module _ (g : Geometry) (p : ℕ) (d : Drive) (v f b : List ℕ) where
   call-refused Size n e = ap (keepsBuffer b) (outcome-refused d v f [] _ e)
   call-refused SetRandom n e = ap (keepsVolume v) (ap (keepsBuffer b) (outcome-refused d [] f [] _ e))
   call-refused WriteZeroFill n e = outcome-refused d v f b _ e
+  call-refused ReadSeveral n e = leaves-all readOne read-refuses d v f b p e
+  call-refused WriteSeveral n e = leaves-all writeOne write-refuses d v f b p e
   call-refused Unserved n e = outcome-refused d v f b _ e
 
 step-refused : (g : Geometry) (c : Asked) (d : Drive) (v : List ℕ) → (callOf (c .function) ≡ LogIn → ⊥) → succeeded (step g c d v .answer) ≡ false

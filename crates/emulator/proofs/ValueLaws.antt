@@ -23,8 +23,10 @@ use Rattle.filecalls.specs.declared.Reply.{Reply}
 use Rattle.filecalls.specs.State.{closed, loggedIn}
 use Rattle.filecalls.specs.Outcome.{Act, deny, done, outcome}
 use Rattle.filecalls.specs.LogIn.{logInTests, refusedLogIn, logIn}
+use Rattle.several.specs.Several.{readOne, writeOne}
+use Rattle.several.proofs.SeveralLaws.{done-most}
 use Rattle.bdos.specs.declared.Call.{Call}
-use Rattle.bdos.specs.declared.Call.the-variants.{LogIn, Open, Close, SearchFirst, SearchNext, Delete, ReadSequential, WriteSequential, Make, Rename, Protect, Attributes, User, ReadRandom, WriteRandom, Size, SetRandom, WriteZeroFill, Unserved}
+use Rattle.bdos.specs.declared.Call.the-variants.{LogIn, Open, Close, SearchFirst, SearchNext, Delete, ReadSequential, WriteSequential, Make, Rename, Protect, Attributes, User, ReadRandom, WriteRandom, Size, SetRandom, WriteZeroFill, ReadSeveral, WriteSeveral, Unserved}
 use Rattle.bdos.specs.Step.{Asked, callOf, does, step}
 
 free-le : (held : List ℕ) (d t : ℕ) → freeCount held d t ≤ t - d
@@ -92,6 +94,8 @@ call-value g WriteRandom p d v f b = act-value d v f b _
 call-value g Size p d v f b = act-value d v f [] _
 call-value g SetRandom p d v f b = act-value d [] f [] _
 call-value g WriteZeroFill p d v f b = act-value d v f b _
+call-value g ReadSeveral p d v f b = omega (arith, done-most readOne d v f b p)
+call-value g WriteSeveral p d v f b = omega (arith, done-most writeOne d v f b p)
 call-value g Unserved p d v f b = act-value d v f b _
 
 pub step-value : (g : Geometry) (c : Asked) (d : Drive) (v : List ℕ) → valueOf (step g c d v .answer) < 65536

@@ -1,5 +1,6 @@
 -- The paper's examples, evaluated: scripts of calls, the bytes that they are written with, the proved table, more scripts for
--- what the table doesn't touch, and scripts for the requests of 02: names that can't be typed, function 40, a file's blocks.
+-- what the table doesn't touch, and scripts for the requests of 02: names that can't be typed, function 40, a file's blocks,
+-- several records a call.
 pub mod Script
 pub mod Pieces
 pub mod Table
@@ -7,3 +8,4 @@ pub mod More
 pub mod Typing
 pub mod ZeroFill
 pub mod Together
+pub mod Several

@@ -42,8 +42,10 @@ use Rattle.filecalls.specs.Names.{deleteLadder, deleteAct, makeLadder, makeAct,
 use Rattle.filecalls.specs.Read.{sequentialTests, randomTests, readDone, readSequentialAct, readRandomAct}
 use Rattle.filecalls.specs.Write.{writeEntry, writeChange, writeDone, writeSequentialAct, writeRandomAct, writeZeroFillAct}
 use Rattle.filecalls.specs.Small.{protectTests, protectAct, userTests, userAct, setRandomTests, setRandomAct}
+use Rattle.several.specs.Several.{readOne, writeOne, onPiece, singles, severalTests, several}
 
--- The calls that we serve, each with what it is lent beside the volume: a control block, a transfer buffer.
+-- The calls that we serve, each with what it is lent beside the volume: a control block, a transfer buffer; those of several
+-- records have their number first.
 pub data Call : Type 0 where
   logIn : Geometry → Call
   openFile : List ℕ → Call
@@ -63,6 +65,8 @@ pub data Call : Type 0 where
   size : List ℕ → Call
   setRandom : List ℕ → Call
   writeZeroFill : List ℕ → List ℕ → Call
+  readSeveral : ℕ → List ℕ → List ℕ → Call
+  writeSeveral : ℕ → List ℕ → List ℕ → Call
 
 -- all that a call leaves, by its definition
 unfoldable pub perform : Call → Drive → List ℕ → Outcome
@@ -84,6 +88,8 @@ perform (write f b) d v = outcome d v f b (writeRandomAct d v f b)
 perform (size f) d v = outcome d v f [] (sizeAct d v f)
 perform (setRandom f) d v = outcome d v f [] (setRandomAct d f)
 perform (writeZeroFill f b) d v = outcome d v f b (writeZeroFillAct d v f b)
+perform (readSeveral k f b) d v = several readOne d v f b k
+perform (writeSeveral k f b) d v = several writeOne d v f b k
 
 -- What a call answers: whether it succeeded, the number, and the value beside it.
 abbrev pub answered : Answer → List ℕ
@@ -101,6 +107,10 @@ refused number = 0 ∷ number ∷ 0 ∷ []
 
 abbrev pub badSlot : ℕ → List ℕ
 badSlot slot = 0 ∷ 36 ∷ slot ∷ []
+
+-- so many records done, at least one, and the number that stopped the call
+abbrev pub someDone : ℕ → ℕ → List ℕ
+someDone count number = 1 ∷ number ∷ count ∷ []
 
 -- A line of a script: a call with what it answers; another volume that is lent from here on; or something to be seen after
 -- the last call: the number of slots, the words of the held blocks, bytes of the volume or of the control block from a
@@ -155,7 +165,7 @@ before v = record { answer = Refused Closed; drive = closed; volume = v; block =
 
 -- Both sides of a statement: what the scripts show, and what they say. To unfold `seen` is to unfold every definition.
 unfoldable pub seen : List Script → List (List (List ℕ))
-unfolding seenAfter perform lowFrom anyFrom everyFrom countFrom fold part put all lawful start slotStart recordStart groupOf placeOf inside strip nameAt same like goodName typeable typeableByte blankBefore places blockIn withBlock countOf ofFile ofGroup matches slotAt putSlot findSlot mapSlot recordSlot counted present recordAt putRecord fillRecord putFilled slotRecord digit holds hold release wordOf wordsOf lowestFree freeCount position random setTo opened made withRandom firstMet goodFields goodTopBits inPlaces names namedBelow goodPlace seenBelow goodSlot lowestBad named heldOf openSlot closeSlot patternOf hitFrom entryEnd larger sizeOf readBlock readTests readBytes renamed attributed changed deleteTests freePlace freeEntry freeSlot freeMatches makeTests freshEntry renameTests alloc likeEntry grown writeSlot baseEntry needsBlock writeBlock writtenEntry writeTests isOpen outcome unless stored storedAll changedState logInReply logInTests refusedLogIn openTests openAct closeTests closeAct sizeTests sizeAct keptAt newSearch shown firstTests searchFirstAct nextTests searchNextAct deleteLadder deleteAct makeLadder makeAct renameLadder renameAct attributesLadder attributesAct sequentialTests randomTests readDone readSequentialAct readRandomAct writeEntry writeChange writeDone writeSequentialAct writeRandomAct writeZeroFillAct protectTests protectAct userTests userAct setRandomTests setRandomAct
+unfolding seenAfter perform lowFrom anyFrom everyFrom countFrom fold part put all lawful start slotStart recordStart groupOf placeOf inside strip nameAt same like goodName typeable typeableByte blankBefore places blockIn withBlock countOf ofFile ofGroup matches slotAt putSlot findSlot mapSlot recordSlot counted present recordAt putRecord fillRecord putFilled slotRecord digit holds hold release wordOf wordsOf lowestFree freeCount position random setTo opened made withRandom firstMet goodFields goodTopBits inPlaces names namedBelow goodPlace seenBelow goodSlot lowestBad named heldOf openSlot closeSlot patternOf hitFrom entryEnd larger sizeOf readBlock readTests readBytes renamed attributed changed deleteTests freePlace freeEntry freeSlot freeMatches makeTests freshEntry renameTests alloc likeEntry grown writeSlot baseEntry needsBlock writeBlock writtenEntry writeTests isOpen outcome unless stored storedAll changedState logInReply logInTests refusedLogIn openTests openAct closeTests closeAct sizeTests sizeAct keptAt newSearch shown firstTests searchFirstAct nextTests searchNextAct deleteLadder deleteAct makeLadder makeAct renameLadder renameAct attributesLadder attributesAct sequentialTests randomTests readDone readSequentialAct readRandomAct writeEntry writeChange writeDone writeSequentialAct writeRandomAct writeZeroFillAct protectTests protectAct userTests userAct setRandomTests setRandomAct onPiece singles severalTests several
 seen [] = []
 seen (s ∷ ss) = seenAfter (before (s .volume)) (s .lines) ∷ seen ss
 

@@ -1,16 +1,17 @@
 -- What a call leaves, read down its ladder: a group of tests refuses, or it passes and the rest decides.
 use mathlib.Core.Path.{_≡_, refl, sym, ap, _∙_}
-use mathlib.Core.Bool.{Bool, true, false, not, cond}
+use mathlib.Core.Bool.{Bool, true, false, not, cond, true≢false}
 use mathlib.Core.List.{List, [], _∷_, _++_}
 use Prim.Native.Nat.{ℕ}
 use borrow.Author.Tests.{not-true, not-false}
 use Rattle.answers.specs.declared.Refusal.{Refusal}
 use Rattle.answers.specs.declared.Answer.the-variants.{Done, Refused}
 use Rattle.answers.specs.Refusal.{Test, test, isNone, first, firstMet}
+use Rattle.answers.specs.Answer.{succeeded}
 use Rattle.answers.proofs.Ladder.{ladder-stop, ladder-pass}
 use Rattle.filecalls.specs.declared.Drive.{Drive}
 use Rattle.filecalls.specs.declared.Reply.{Reply}
-use Rattle.filecalls.specs.Outcome.{Change, keeps, Store, Act, deny, done, unless, outcome, left, changedState, storedAll}
+use Rattle.filecalls.specs.Outcome.{Change, keeps, Store, Act, deny, done, unless, Outcome, outcome, left, changedState, storedAll}
 
 -- a first group of tests refuses
 pub stops : (xs ys : List Test) (act : Act) → isNone (firstMet xs) ≡ false → unless (xs ++ ys) act ≡ deny (firstMet xs)
@@ -71,6 +72,17 @@ goes-by why m ys act e = rw e (not-met why ys act)
 pub either : {A : Type 0} (t : Bool) (x : A) → x ≡ cond t x x
 either true x = refl
 either false x = refl
+
+-- an outcome's answer with all else as given
+abbrev pub sameAll : Outcome → Drive → List ℕ → List ℕ → List ℕ → Outcome
+sameAll o d v f b = record { answer = o .answer; drive = d; volume = v; block = f; buffer = b }
+
+-- "A refusal hands back the state as given and alters no lent byte."
+pub outcome-refused : (d : Drive) (v f b : List ℕ) (act : Act) → succeeded (outcome d v f b act .answer) ≡ false
+    → outcome d v f b act ≡ sameAll (outcome d v f b act) d v f b
+unfolding outcome
+outcome-refused d v f b (deny why) e = refl
+outcome-refused d v f b (done code change stores f′ b′) e = absurd (true≢false e)
 
 -- the reply to a refusal, and the reply to an act that leaves state and volume as they are
 module _ (d : Drive) (v f b : List ℕ) where

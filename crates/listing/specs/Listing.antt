@@ -14,7 +14,7 @@ use Rattle.volume.specs.Entry.{Entry, isEmpty, places, blockIn, ofFile}
 use Rattle.volume.specs.Directory.{slotAt, findSlot}
 use Rattle.text.specs.Decimal.{decimal}
 use Rattle.answers.specs.declared.Answer.{Answer}
-use Rattle.answers.specs.declared.Answer.the-variants.{Done, Ready, BadSlot, Refused}
+use Rattle.answers.specs.declared.Answer.the-variants.{Done, Ready, BadSlot, Refused, Several}
 use Rattle.answers.specs.Refusal.{refusalNumber}
 use Rattle.finding.specs.Size.{sizeOf}
 use Rattle.filecalls.specs.LogIn.{logIn}
@@ -87,12 +87,13 @@ linesFrom g v i (suc k) = lineAt g v i ++ linesFrom g v (suc i) k
 unfoldable pub accepted : Geometry → List ℕ → ℕ → List ℕ
 accepted g v free = header ++ (linesFrom g v 0 (slots g) ++ (freeWord ++ (decimal free ++ lineEnd)))
 
--- by log-in's answer; log-in never answers with a code alone
+-- by log-in's answer; log-in never answers with a code alone, nor of several records
 unfoldable pub listingFor : Answer → Geometry → List ℕ → List ℕ
 listingFor (Ready free) g v = accepted g v free
 listingFor (BadSlot slot) g v = refusedWord ++ (decimal 36 ++ (blank ++ (decimal slot ++ lineEnd)))
 listingFor (Refused why) g v = refusedWord ++ (decimal (refusalNumber why) ++ lineEnd)
 listingFor (Done code) g v = []
+listingFor (Several done why) g v = []
 
 unfoldable pub listing : List ℕ → List ℕ
 listing v = listingFor (logIn geometryV v .answer) geometryV v

@@ -57,5 +57,6 @@ pub fn list(volume: &[u8], out: &mut [u8]) -> usize
             text::put_byte(out, a, b'\n')
         }
         Answer::Done(_) => 0,
+        Answer::Several(_, _) => 0,
     }
 }

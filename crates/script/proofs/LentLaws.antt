@@ -22,10 +22,10 @@ alike-true false true h = absurd (let z : _≡_ {A = ℕ} 0 1 = cc in omega arit
 alike-true false false h = refl
 
 abbrev blockNumber : ℕ → Bool
-blockNumber n = (leb 15 n && leb n 17) || (leb 19 n && leb n 23) || eqb n 30 || (leb 33 n && leb n 36) || eqb n 40
+blockNumber n = (leb 15 n && leb n 17) || (leb 19 n && leb n 23) || eqb n 30 || (leb 33 n && leb n 36) || eqb n 40 || eqb n 220 || eqb n 221
 
 abbrev bufferNumber : ℕ → Bool
-bufferNumber n = eqb n 17 || eqb n 18 || eqb n 20 || eqb n 21 || eqb n 33 || eqb n 34 || eqb n 40
+bufferNumber n = eqb n 17 || eqb n 18 || eqb n 20 || eqb n 21 || eqb n 33 || eqb n 34 || eqb n 40 || eqb n 220 || eqb n 221
 
 abbrev servedNumber : ℕ → Bool
 servedNumber n = lendsBlock (callOf n) || eqb n 13 || eqb n 18 || eqb n 28 || eqb n 32 || eqb n 37

@@ -2,7 +2,7 @@
 -- writes .. a transfer buffer", 40 among them; next is "lent no control block".
 use mathlib.Core.Bool.{Bool, true, false}
 use Rattle.bdos.specs.declared.Call.{Call}
-use Rattle.bdos.specs.declared.Call.the-variants.{LogIn, Open, Close, SearchFirst, SearchNext, Delete, ReadSequential, WriteSequential, Make, Rename, Protect, Attributes, User, ReadRandom, WriteRandom, Size, SetRandom, WriteZeroFill, Unserved}
+use Rattle.bdos.specs.declared.Call.the-variants.{LogIn, Open, Close, SearchFirst, SearchNext, Delete, ReadSequential, WriteSequential, Make, Rename, Protect, Attributes, User, ReadRandom, WriteRandom, Size, SetRandom, WriteZeroFill, ReadSeveral, WriteSeveral, Unserved}
 
 abbrev pub isServed : Call → Bool
 isServed LogIn = true
@@ -23,6 +23,8 @@ isServed WriteRandom = true
 isServed Size = true
 isServed SetRandom = true
 isServed WriteZeroFill = true
+isServed ReadSeveral = true
+isServed WriteSeveral = true
 isServed Unserved = false
 
 abbrev pub lendsBlock : Call → Bool
@@ -44,6 +46,8 @@ lendsBlock WriteRandom = true
 lendsBlock Size = true
 lendsBlock SetRandom = true
 lendsBlock WriteZeroFill = true
+lendsBlock ReadSeveral = true
+lendsBlock WriteSeveral = true
 lendsBlock Unserved = false
 
 abbrev pub lendsBuffer : Call → Bool
@@ -65,4 +69,6 @@ lendsBuffer WriteRandom = true
 lendsBuffer Size = false
 lendsBuffer SetRandom = false
 lendsBuffer WriteZeroFill = true
+lendsBuffer ReadSeveral = true
+lendsBuffer WriteSeveral = true
 lendsBuffer Unserved = false

@@ -12,13 +12,23 @@ pub fn lends_block(n: u8) -> bool
         | (n == 30)
         | ((33 <= n) & (n <= 36))
         | (n == 40)
+        | (n == 220)
+        | (n == 221)
 }
 
 // Is it lent a transfer buffer?
 pub fn lends_buffer(n: u8) -> bool
     ensures { λ r. ⌜ r ≡ lendsBuffer (callOf n) ⌝ }
 {
-    (n == 17) | (n == 18) | (n == 20) | (n == 21) | (n == 33) | (n == 34) | (n == 40)
+    (n == 17)
+        | (n == 18)
+        | (n == 20)
+        | (n == 21)
+        | (n == 33)
+        | (n == 34)
+        | (n == 40)
+        | (n == 220)
+        | (n == 221)
 }
 
 // Is the number served?

@@ -36,6 +36,8 @@ call-of-spec =
     (λ c. rw (c .match .keys16))
     (λ c. rw (c .match .keys17))
     (λ c. rw (c .match .keys18))
+    (λ c. rw (c .match .keys19))
+    (λ c. rw (c .match .keys20))
     (λ c.
-    let ((((((((((((((((((_, h13), h15), h16), h17), h18), h19), h20), h21), h22), h23), h28), h30), h32), h33), h34), h35), h36), h40) = c .match .rest in
+    let ((((((((((((((((((((_, h13), h15), h16), h17), h18), h19), h20), h21), h22), h23), h28), h30), h32), h33), h34), h35), h36), h40), h220), h221) = c .match .rest in
     simp (ne-eqb _ 13 (λ e. h13 (inl e)), ne-eqb _ 37 (λ e. h13 (inr e)), ne-eqb)))

@@ -18,7 +18,7 @@ serve-spec =
     (λ c. search needs) (λ c κs. search needs) (λ c. search needs) (λ c κs. search needs) (λ c. search needs) (λ c κs. search needs)
     (λ c. search needs) (λ c κs. search needs) (λ c. search needs) (λ c κs. search needs) (λ c. search needs) (λ c κs. search needs)
     (λ c. search needs) (λ c κs. search needs) (λ c. search needs) (λ c κs. search needs) (λ c. search needs) (λ c κs. search needs)
-    (λ c. search needs) (λ c κs. search needs)
+    (λ c. search needs) (λ c κs. search needs) (λ c. search needs) (λ c κs. search needs) (λ c. search needs) (λ c κs. search needs)
     -- the lengths that each method keeps, and what its call leaves
     (λ c. search needs)
     (λ c. rw (c .before .before .enum-told .given .1, c .log-in .ensures))
@@ -54,4 +54,8 @@ serve-spec =
     (λ c. rw (c .before .before .before .before .enum-told17 .given .1) (ap (keepsVolume _) (ap (keepsBuffer _) (c .before .before .set-random .ensures))))
     (λ c. search needs) (λ c. search needs) (λ c. search needs)
     (λ c. rw (c .before .before .before .before .before .before .before .before .enum-told18 .given .1) (c .before .before .before .before .write-zero-fill .ensures))
-    (λ c. rw (c .before .enum-told19 .given .1, c .refused .ensures)))
+    (λ c. search needs) (λ c. search needs) (λ c. search needs)
+    (λ c. rw (c .before .before .before .before .before .before .before .before .enum-told19 .given .1) (c .before .before .before .before .read-several .ensures))
+    (λ c. search needs) (λ c. search needs) (λ c. search needs)
+    (λ c. rw (c .before .before .before .before .before .before .before .before .enum-told20 .given .1) (c .before .before .before .before .write-several .ensures))
+    (λ c. rw (c .before .enum-told21 .given .1, c .refused .ensures)))

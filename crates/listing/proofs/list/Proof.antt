@@ -53,6 +53,9 @@ put-byte-requires-3 c κs = search needs
 enum-told : tie.Need-enum-told
 enum-told c = search needs
 
+enum-told-2 : tie.Need-enum-told-2
+enum-told-2 c = search needs
+
 same-length : tie.Need-same-length
 same-length c = search needs
 
@@ -89,6 +92,11 @@ unfolding listingFor puts
 returns-4 c =
     listed (now (c .before .before .before .before .before .before .args .volume)) (c .before .before .before .geometry .ensures) (c .before .before .log-in .ensures) (now (c .before .before .before .before .before .before .args .out)) _ (c .enum-told .given .1) refl
 
+returns-5 : tie.Need-returns-5
+unfolding listingFor puts
+returns-5 c =
+    listed (now (c .before .before .before .before .before .before .args .volume)) (c .before .before .before .geometry .ensures) (c .before .before .log-in .ensures) (now (c .before .before .before .before .before .before .args .out)) _ (c .enum-told2 .given .1) refl
+
 pub list-spec : {M : Type 1} → statement M
 list-spec =
     tie.close
@@ -107,10 +115,12 @@ list-spec =
     put-refused-requires-2
     put-byte-requires-3
     enum-told
+    enum-told-2
     same-length
     returns
     same-length-2
     returns-2
     same-length-3
     returns-3
-    returns-4)
+    returns-4
+    returns-5)

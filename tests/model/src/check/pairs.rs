@@ -48,52 +48,54 @@ type Given = (u32, &'static [u8]);
 /// only the seam can show stand in `possible`.
 const REFUSALS: &[Given] = &[
     // Closed state; for log-in a geometry outside the rules.
-    (32, &[13, 15, 16, 17, 18, 19, 20, 21, 22, 23, 28, 30, 32, 33, 34, 35, 36, 37, 40]),
+    (32, &[13, 15, 16, 17, 18, 19, 20, 21, 22, 23, 28, 30, 32, 33, 34, 35, 36, 37, 40, 220, 221]),
     // Through replay only log-in meets a wrong length: a state that is open had
     // its log-in with the header's geometry on this volume.
     (33, &[13, 37]),
     // Not log-in, 18, 28, 32: lent no control block.
-    (34, &[15, 16, 17, 19, 20, 21, 22, 23, 30, 33, 34, 35, 36, 40]),
+    (34, &[15, 16, 17, 19, 20, 21, 22, 23, 30, 33, 34, 35, 36, 40, 220, 221]),
+    // Several records alone have a number of records.
+    (46, &[220, 221]),
     // Only search, reads and writes are lent a buffer.
-    (35, &[17, 18, 20, 21, 33, 34, 40]),
+    (35, &[17, 18, 20, 21, 33, 34, 40, 220, 221]),
     // All that are lent a control block.
-    (42, &[15, 16, 17, 19, 20, 21, 22, 23, 30, 33, 34, 35, 36, 40]),
+    (42, &[15, 16, 17, 19, 20, 21, 22, 23, 30, 33, 34, 35, 36, 40, 220, 221]),
     (44, &[32]),
     // All that are lent a control block but 36, which examines no name.
-    (39, &[15, 16, 17, 19, 20, 21, 22, 23, 30, 33, 34, 35, 40]),
+    (39, &[15, 16, 17, 19, 20, 21, 22, 23, 30, 33, 34, 35, 40, 220, 221]),
     // Those that give a file a name.
     (45, &[22, 23]),
     // Delete, rename, attributes, size and the random calls use none of ex, s2, cr.
-    (40, &[15, 16, 17, 20, 21, 22, 36]),
+    (40, &[15, 16, 17, 20, 21, 22, 36, 220, 221]),
     // Not 36: it shows position 65,536.
-    (6, &[20, 21, 33, 34, 40]),
+    (6, &[20, 21, 33, 34, 40, 220, 221]),
     (36, &[13, 37]),
     // Those that change the volume.
-    (37, &[19, 21, 22, 23, 30, 34, 40]),
+    (37, &[19, 21, 22, 23, 30, 34, 40, 221]),
     // 22: no slot is empty, in the place of 5.
     (255, &[15, 16, 17, 18, 19, 22, 23, 30, 35]),
-    (3, &[20, 21, 33, 34, 40]),
+    (3, &[20, 21, 33, 34, 40, 220, 221]),
     // Not 30: attributes can take read-only away. Not 22: it names no file.
-    (38, &[19, 21, 23, 34, 40]),
+    (38, &[19, 21, 23, 34, 40, 221]),
     (43, &[22, 23]),
-    // Not 20, which answers 1 here; writes make the group.
+    // Not 20 and 220, which answer 1 here; writes make the group.
     (4, &[33]),
-    (1, &[20, 33]),
+    (1, &[20, 33, 220]),
     // Needs a volume that something else has touched since log-in.
-    (41, &[20, 21, 33, 34, 40]),
-    (5, &[21, 34, 40]),
-    (2, &[21, 34, 40]),
+    (41, &[20, 21, 33, 34, 40, 220, 221]),
+    (5, &[21, 34, 40, 221]),
+    (2, &[21, 34, 40, 221]),
 ];
 
 /// The seam lends a volume with every call, so that its length may be wrong
 /// there for all calls but those that are lent none: 28, 32, 36.
-const WRONG_LENGTH_AT_SEAM: &[u8] = &[15, 16, 17, 18, 19, 20, 21, 22, 23, 30, 33, 34, 35, 40];
+const WRONG_LENGTH_AT_SEAM: &[u8] = &[15, 16, 17, 18, 19, 20, 21, 22, 23, 30, 33, 34, 35, 40, 220, 221];
 
 /// Slot modulo 4 (for 18 slot 0 is not possible, but slot 4 is).
 const CODES: &[u8] = &[15, 16, 17, 18, 22];
 
 /// All others answer 0 when they succeed.
-const ZERO: &[u8] = &[13, 19, 20, 21, 23, 28, 30, 32, 33, 34, 35, 36, 37, 40];
+const ZERO: &[u8] = &[13, 19, 20, 21, 23, 28, 30, 32, 33, 34, 35, 36, 37, 40, 220, 221];
 
 pub fn possible(door: Door) -> BTreeSet<(Row, u32)> {
     let mut pairs = BTreeSet::new();

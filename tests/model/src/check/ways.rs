@@ -37,6 +37,9 @@ fn succeeded(line: &Line) -> bool {
     match line.function {
         OPEN | CLOSE | SEARCH_FIRST | SEARCH_NEXT | MAKE => line.answer <= 3,
         USER => line.answer <= 15,
+        // "Records done before a stop stay done and demand 3 counts the call as
+        // successful."
+        READ_SEVERAL | WRITE_SEVERAL => line.value > 0,
         _ => line.answer == 0,
     }
 }

@@ -211,7 +211,7 @@ impl Making {
         self.memory.control = call.control.clone();
         self.memory.buffer = call.buffer.clone();
         let answer = seam::call(call.function, call.parameter, &mut self.memory);
-        self.chooser.saw(call.function, answer, &self.memory.control);
+        self.chooser.saw(call.function, answer % 65536, &self.memory.control);
         self.steps.push(Step::Call(call));
         self.calls += 1;
     }

@@ -3,7 +3,7 @@
 
 use super::random::Random;
 use crate::doors::script::Call;
-use crate::paper::calls::{is_lent_buffer, is_lent_control, RENAME, USER};
+use crate::paper::calls::{is_lent_buffer, is_lent_control, is_several, RENAME, USER};
 use crate::paper::control::{CONTROL_BYTES, CR, DR, EX, R2, S2};
 use crate::paper::geometry::RECORD;
 
@@ -23,8 +23,21 @@ pub fn finished(r: &mut Random, function: u8, parameter: u8, mut control: Vec<u8
         // Not lent to the call, so never looked at.
         control = r.bytes_of(&[1, 5, 36, 36, 255]);
     }
-    let buffer = buffer(r, function, faults > 1);
+    let mut buffer = buffer(r, function, faults > 1);
+    let mut parameter = parameter;
+    if is_several(function) {
+        (parameter, buffer) = pieces(r, faults > 1);
+    }
     Call { function, parameter, control, buffer }
+}
+
+/// A number of records and a buffer for so many; either is wrong now and then.
+fn pieces(r: &mut Random, faulty: bool) -> (u8, Vec<u8>) {
+    let k = if r.percent(70) { r.between(1, 5) } else { r.between(1, 16) } as u8;
+    let wrong = if faulty { 20 } else { 3 };
+    let given = if r.percent(wrong) { r.pick(&[0, 17, 18, 128, 255]) } else { k };
+    let length = if r.percent(wrong) { r.pick(&[0, 1, 127, 128, 129, 2047, 2049]) } else { RECORD * k as usize };
+    (given, r.bytes(length))
 }
 
 /// A call that is lent neither control block nor buffer.

@@ -93,6 +93,8 @@ impl Chooser {
             (44, Run::Mixed),
             (14, Run::Sequential(SEQUENTIAL_READ)),
             (14, Run::Sequential(SEQUENTIAL_WRITE)),
+            (14, Run::Sequential(READ_SEVERAL)),
+            (14, Run::Sequential(WRITE_SEVERAL)),
             (12, Run::Search),
             (if few { 14 } else { 4 }, Run::FillDirectory),
             (3, Run::FillDisk(RANDOM_WRITE)),
@@ -106,7 +108,8 @@ impl Chooser {
             _ => r.between(3, 10),
         };
         self.fresh = true;
-        self.aim = aim(r, view, self.run == Run::Sequential(SEQUENTIAL_READ));
+        let reads = [Run::Sequential(SEQUENTIAL_READ), Run::Sequential(READ_SEVERAL)].contains(&self.run);
+        self.aim = aim(r, view, reads);
     }
 
     fn sequential(&mut self, r: &mut Random, view: &View, function: u8, first: bool) -> Call {
@@ -115,7 +118,7 @@ impl Chooser {
         }
         self.hand_on = true;
         if first {
-            if function == SEQUENTIAL_WRITE || r.percent(25) {
+            if [SEQUENTIAL_WRITE, WRITE_SEVERAL].contains(&function) || r.percent(25) {
                 self.aim.record = near_border(r, &view.geometry, self.aim.record);
             }
             self.handed_on = control_block(r, view, function, self.aim);
@@ -137,7 +140,15 @@ impl Chooser {
         let function = if first || last {
             ATTRIBUTES
         } else {
-            r.pick(&[DELETE, SEQUENTIAL_WRITE, RENAME, RANDOM_WRITE, ZERO_FILL_WRITE, ATTRIBUTES])
+            r.pick(&[
+                DELETE,
+                SEQUENTIAL_WRITE,
+                RENAME,
+                RANDOM_WRITE,
+                ZERO_FILL_WRITE,
+                WRITE_SEVERAL,
+                ATTRIBUTES,
+            ])
         };
         let aim = aim_at_file(r, view, self.aim.name);
         let mut control = control_block(r, view, function, aim);
@@ -193,6 +204,8 @@ fn mixed(r: &mut Random, view: &View) -> Call {
             RANDOM_WRITE,
             ZERO_FILL_WRITE,
             SIZE,
+            READ_SEVERAL,
+            WRITE_SEVERAL,
         ]);
         return aimed(r, view, function);
     }
@@ -226,12 +239,14 @@ fn any_function(r: &mut Random, no_files: bool) -> u8 {
         (8, SIZE),
         (6, SET_RANDOM),
         (8, ZERO_FILL_WRITE),
+        (8, READ_SEVERAL),
+        (8, WRITE_SEVERAL),
     ])
 }
 
 /// A call on some file.
 fn aimed(r: &mut Random, view: &View, function: u8) -> Call {
-    let aim = aim(r, view, [SEQUENTIAL_READ, RANDOM_READ].contains(&function));
+    let aim = aim(r, view, [SEQUENTIAL_READ, RANDOM_READ, READ_SEVERAL].contains(&function));
     let control = control_block(r, view, function, aim);
     finished(r, function, 0, control)
 }

@@ -13,7 +13,7 @@ use crate::paper::state::Drive;
 pub struct Line {
     pub function: u8,
     pub answer: u32,
-    /// Log-in: count or slot; else 0.
+    /// Log-in: count or slot; several records: how many were done; else 0.
     pub value: u32,
     /// The bytes afterwards, if the call is lent a control block.
     pub control: Option<Vec<u8>>,
@@ -61,10 +61,10 @@ impl Player {
         let mut control = call.control.clone();
         let mut buffer = call.buffer.clone();
         let mut lent = Lent { volume: &mut self.volume, control: &mut control, buffer: &mut buffer };
-        let answer = calls::call(&mut self.drive, function, call.parameter, &mut lent);
+        let (answer, value) = calls::call(&mut self.drive, function, call.parameter, &mut lent);
         let control = calls::is_lent_control(function).then_some(control);
         let buffer = calls::is_lent_buffer(function).then_some(buffer);
-        Line { function, answer, value: 0, control, buffer }
+        Line { function, answer, value, control, buffer }
     }
 }
 

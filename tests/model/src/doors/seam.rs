@@ -38,7 +38,8 @@ pub fn log_in(geometry: Geometry, memory: &mut Memory) -> u32 {
     answer + 65536 * value
 }
 
-/// 13 and 37 log in anew with the geometry that the drive has.
+/// 13 and 37 log in anew with the geometry that the drive has. Of several
+/// records the count done is in the high 16 bits.
 pub fn call(function: u8, parameter: u8, memory: &mut Memory) -> u32 {
     let mut state = decode(&memory.drive);
     let Some(open) = &state else { return CLOSED_DRIVE };
@@ -50,7 +51,7 @@ pub fn call(function: u8, parameter: u8, memory: &mut Memory) -> u32 {
     }
     let mut lent =
         Lent { volume: &mut memory.volume, control: &mut memory.control, buffer: &mut memory.buffer };
-    let answer = calls::call(&mut state, function, parameter, &mut lent);
+    let (answer, value) = calls::call(&mut state, function, parameter, &mut lent);
     memory.drive.copy_from_slice(&encode(&state));
-    answer
+    answer + 65536 * value
 }

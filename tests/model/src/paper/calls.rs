@@ -3,7 +3,7 @@
 
 use super::control;
 use super::state::{Drive, State};
-use super::{files, records, refusals};
+use super::{files, records, refusals, several};
 
 /// Both numbers of log-in.
 pub const LOG_INS: [u8; 2] = [13, 37];
@@ -24,9 +24,11 @@ pub const RANDOM_WRITE: u8 = 34;
 pub const SIZE: u8 = 35;
 pub const SET_RANDOM: u8 = 36;
 pub const ZERO_FILL_WRITE: u8 = 40;
+pub const READ_SEVERAL: u8 = 220;
+pub const WRITE_SEVERAL: u8 = 221;
 
 /// The calls other than log-in.
-pub const CALLS: [u8; 17] = [
+pub const CALLS: [u8; 19] = [
     OPEN,
     CLOSE,
     SEARCH_FIRST,
@@ -44,6 +46,8 @@ pub const CALLS: [u8; 17] = [
     SIZE,
     SET_RANDOM,
     ZERO_FILL_WRITE,
+    READ_SEVERAL,
+    WRITE_SEVERAL,
 ];
 
 pub fn is_served(function: u8) -> bool {
@@ -64,6 +68,12 @@ pub fn is_lent_control(function: u8) -> bool {
 pub fn is_lent_buffer(function: u8) -> bool {
     [SEARCH_FIRST, SEARCH_NEXT, SEQUENTIAL_READ, SEQUENTIAL_WRITE, RANDOM_READ, RANDOM_WRITE, ZERO_FILL_WRITE]
         .contains(&function)
+        || is_several(function)
+}
+
+/// The forms with several records; their parameter is the number of records.
+pub fn is_several(function: u8) -> bool {
+    [READ_SEVERAL, WRITE_SEVERAL].contains(&function)
 }
 
 /// What is put at a call's disposal. A call that is lent no volume, control
@@ -78,8 +88,17 @@ pub struct Lent<'a> {
 /// anything has been changed.
 pub type Outcome = Result<u32, u32>;
 
-/// One call other than log-in. The function is one of `CALLS`.
-pub fn call(drive: &mut Drive, function: u8, parameter: u8, lent: &mut Lent) -> u32 {
+/// One call other than log-in: its number, and the value beside it, which is 0
+/// but for several records. The function is one of `CALLS`.
+pub fn call(drive: &mut Drive, function: u8, parameter: u8, lent: &mut Lent) -> (u32, u32) {
+    if is_several(function) {
+        return several::several(drive, function, parameter, lent);
+    }
+    (single(drive, function, parameter, lent), 0)
+}
+
+/// One call that is neither log-in nor of several records.
+pub fn single(drive: &mut Drive, function: u8, parameter: u8, lent: &mut Lent) -> u32 {
     let state = match drive {
         Some(state) if state.within_rules() => state,
         _ => return 32,

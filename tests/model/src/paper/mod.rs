@@ -10,6 +10,7 @@
 //! | Control block and position | `control` |
 //! | What each call does when it succeeds | `files`, `records` |
 //! | Numbers of refusal, in order of test | `refusals`; the rows from 255 on in `files`, `records` |
+//! | (02, ii) Several records a call | `several` |
 //! | Examples to hold it to | `lister`, and `tests/examples.rs` |
 
 pub mod calls;
@@ -23,4 +24,5 @@ pub mod lister;
 pub mod names;
 pub mod records;
 pub mod refusals;
+pub mod several;
 pub mod state;

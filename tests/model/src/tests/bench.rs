@@ -65,10 +65,15 @@ impl Bench {
         self.drive.as_mut().expect("the drive is open")
     }
 
-    pub fn call_with(&mut self, function: u8, parameter: u8) -> u32 {
+    /// Number and value.
+    pub fn answer(&mut self, function: u8, parameter: u8) -> (u32, u32) {
         let mut lent =
             Lent { volume: &mut self.volume, control: &mut self.control, buffer: &mut self.buffer };
         calls::call(&mut self.drive, function, parameter, &mut lent)
+    }
+
+    pub fn call_with(&mut self, function: u8, parameter: u8) -> u32 {
+        self.answer(function, parameter).0
     }
 
     /// A call with the control block as it stands.

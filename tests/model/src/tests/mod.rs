@@ -1,6 +1,7 @@
 //! Hand-worked cases: the paper's examples, each refusal of the table and its
-//! order against the next ones, what succeeds, which block a write takes, the
-//! script's text, the seam's bytes, and mistakes that the comparison must find.
+//! order against the next ones, what succeeds, which block a write takes,
+//! several records a call, the script's text, the seam's bytes, and mistakes
+//! that the comparison must find.
 
 mod bench;
 mod chosen;
@@ -16,6 +17,7 @@ mod refused_by_record;
 mod refused_by_state_and_lengths;
 mod replay;
 mod seam;
+mod several;
 mod together;
 mod typing;
 
@@ -24,9 +26,9 @@ use bench::{control_for, name, Bench};
 use crate::paper::calls::MAKE;
 use crate::paper::held::Way;
 
-/// All calls that are lent a control block.
+/// All calls that are lent a control block, but those of several records.
 pub const WITH_CONTROL: [u8; 14] = [15, 16, 17, 19, 20, 21, 22, 23, 30, 33, 34, 35, 36, 40];
-/// All calls that are lent a transfer buffer.
+/// All calls that are lent a transfer buffer, but those of several records.
 pub const WITH_BUFFER: [u8; 7] = [17, 18, 20, 21, 33, 34, 40];
 
 /// B 1,024, T 8, D 1, with A.TXT (slot 0) that has records 0 to 2 in block 1.

@@ -1,0 +1,4 @@
+-- Laws of several single calls in order.
+pub mod LoopLaws
+pub mod SinglesLaws
+pub mod SeveralLaws

@@ -1,0 +1,2 @@
+-- Several records a call.
+pub mod Several
