@@ -36,7 +36,8 @@ fn pieces(r: &mut Random, faulty: bool) -> (u8, Vec<u8>) {
     let k = if r.percent(70) { r.between(1, 5) } else { r.between(1, 16) } as u8;
     let wrong = if faulty { 20 } else { 3 };
     let given = if r.percent(wrong) { r.pick(&[0, 17, 18, 128, 255]) } else { k };
-    let length = if r.percent(wrong) { r.pick(&[0, 1, 127, 128, 129, 2047, 2049]) } else { RECORD * k as usize };
+    let length =
+        if r.percent(wrong) { r.pick(&[0, 1, 127, 128, 129, 2047, 2049]) } else { RECORD * k as usize };
     (given, r.bytes(length))
 }
 
