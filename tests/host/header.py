@@ -70,6 +70,11 @@ def arms(source, function):
     return found
 
 
+def variant_of(path):
+    """the innermost name: ReadRandom of Call::ReadRandom, and where it stands in another variant"""
+    return re.findall(r"\w+", path)[-1]
+
+
 def spelled(variant):
     """SearchFirst as SEARCH_FIRST"""
     return re.sub(r"(?<=[a-z])(?=[A-Z])", "_", variant).upper()
@@ -79,7 +84,7 @@ def calls_in(source):
     """the numbers that call_of knows, rising"""
     named = {}
     for numbers, call in arms(source, "call_of"):
-        variant = call.split("::")[1]
+        variant = variant_of(call)
         names = CALLS.get(variant, [spelled(variant)])
         if numbers != "_":
             named.update(zip_longest(map(int, numbers.split(" | ")), names))
@@ -90,7 +95,7 @@ def refusals_in(source):
     """the numbers of refusal in the source's order; None is no refusal"""
     lines = []
     for refusal, number in arms(source, "refusal_number"):
-        variant = refusal.split("::")[1]
+        variant = variant_of(refusal)
         if variant != "None":
             lines.append(f"{REFUSALS.get(variant, spelled(variant))} = {number}")
     return list(dict.fromkeys(lines))
