@@ -9,7 +9,7 @@
 // A volume with one file, logged in with these bytes of drive: no search open, a pattern's, or one of dr 3FH.
 static void opened(unsigned search)
 {
-    fresh(1024, 40, 1);
+    fresh(V);
     memcpy(now.volume, "\0KEPT    TXT\0\0\0\1\1\0\0\0\0\0\0\0\0\0\0\0\0\0\0\0", ENTRY);
     memcpy(now.drive, "\0\4\50\0\1\0", 6);
     now.drive[32] = 2;
@@ -21,7 +21,6 @@ static void opened(unsigned search)
         now.drive[23] = 63;
     }
     block_for("KEPT    TXT");
-    as_it_stands();
 }
 
 // Does every number answer 32, and has nothing changed after all 256?
@@ -41,24 +40,19 @@ static void begins_open(void)
         char what[80];
         opened(search);
         snprintf(what, sizeof what, "a drive whose byte 8 is %u is open: 32 answers user 0", search);
-        answers(what, 32, 255, 0);
+        changes_nothing(what, 32, 255, 0);
     }
     opened(0);
-    want_shown(1024);
-    want_set_to(0, 0, 1, MAP(1), 0);
-    answers("and a random read is done", 33, 0, 0);
+    EXPECT("and a random read is done", 33, 0, 0, want_read(1024, ENTRY_WITH(.rc = 1, .map = {1}), 0));
     opened(0);
     now.drive[7] = 1;
-    as_it_stands();
-    answers("a drive whose byte 7 is 1 is open", 32, 255, 0);
+    changes_nothing("a drive whose byte 7 is 1 is open", 32, 255, 0);
     opened(2);
     memset(now.drive + 12, 0xFF, 12);
-    as_it_stands();
-    answers("a search of dr 3FH is kept with any pattern", 32, 255, 0);
+    changes_nothing("a search of dr 3FH is kept with any pattern", 32, 255, 0);
     opened(0);
     memset(now.drive + 32, 0xFF, 32);
-    as_it_stands();
-    answers("held blocks never close a drive", 32, 255, 0);
+    changes_nothing("held blocks never close a drive", 32, 255, 0);
 }
 
 static void closed_value(void)
@@ -80,7 +74,7 @@ static void lengths(void)
         snprintf(what, sizeof what, "a drive of %zu bytes is closed: 32 by every number, nothing changed", bytes);
         verdict(what, closed());
         snprintf(what, sizeof what, "log-in with a drive of %zu bytes: 32, nothing changed", bytes);
-        log_in(what, 1024, 40, 1, 32, 0);
+        log_in(what, V, 32, 0);
     }
 }
 

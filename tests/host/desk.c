@@ -13,13 +13,13 @@ struct lengths lent;
 static int passed;
 static int failed;
 
-void fresh(uint32_t block, uint32_t total, uint32_t directory)
+void fresh(struct geometry g)
 {
     memset(&now, 0xA5, sizeof now);
     memset(now.drive, 0, CHURAWEL_DRIVE_BYTES);
-    lent = (struct lengths){CHURAWEL_DRIVE_BYTES, (size_t)block * total, 36, RECORD};
+    lent = (struct lengths){CHURAWEL_DRIVE_BYTES, (size_t)g.block * g.total, 36, RECORD};
     for (size_t i = 0; i < lent.volume; i++)
-        now.volume[i] = i < block * directory ? 0xE5 : (uint8_t)(i % 251 + i / 1024);
+        now.volume[i] = i < g.block * g.directory ? 0xE5 : (uint8_t)(i % 251 + i / 1024);
     block_for("NOTHING    ");
     fill_buffer(1);
 }
@@ -43,7 +43,7 @@ static void say_where(void)
         {"the control block", now.fcb, want.fcb, sizeof now.fcb},
         {"the buffer", now.buffer, want.buffer, sizeof now.buffer},
     };
-    for (size_t p = 0; p < sizeof parts / sizeof *parts; p++)
+    for (size_t p = 0; p < COUNT(parts); p++)
         for (size_t i = 0; i < parts[p].bytes; i++)
             if (parts[p].is[i] != parts[p].should[i]) {
                 printf(" (%s, byte %zu: %u, not %u)", parts[p].name, i, parts[p].is[i], parts[p].should[i]);
@@ -103,10 +103,42 @@ uint32_t call(uint8_t function, uint8_t parameter)
                          lent.buffer);
 }
 
-void log_in(const char *what, uint32_t block, uint32_t total, uint32_t directory, uint32_t number, uint32_t value)
+void log_in(const char *what, struct geometry g, uint32_t number, uint32_t value)
 {
-    uint32_t is = churawel_log_in(block, total, directory, now.volume, lent.volume, now.drive, lent.drive);
+    uint32_t is = churawel_log_in(g.block, g.total, g.directory, now.volume, lent.volume, now.drive, lent.drive);
     compare(what, is, number | value << 16);
+}
+
+void log_in_refused(const char *what, struct geometry g, uint32_t number, uint32_t value)
+{
+    as_it_stands();
+    want_closed();
+    log_in(what, g, number, value);
+}
+
+// B, T and D at the drive's beginning, 16 bits each.
+static void want_geometry(struct geometry g)
+{
+    const uint32_t numbers[] = {g.block, g.total, g.directory};
+    for (size_t i = 0; i < COUNT(numbers); i++) {
+        want.drive[2 * i] = (uint8_t)numbers[i];
+        want.drive[2 * i + 1] = (uint8_t)(numbers[i] >> 8);
+    }
+}
+
+void logged_in(const char *what, struct geometry g, uint32_t free_blocks, const struct entry *entries, size_t count)
+{
+    fresh(g);
+    as_it_stands();
+    for (size_t i = 0; i < count; i++)
+        want_entry(entries[i]);
+    now = want;
+    want_geometry(g);
+    for (size_t i = 0; i < count; i++)
+        for (size_t place = 0; place < COUNT(entries[i].map); place++)
+            if (entries[i].map[place] != 0)
+                want_held(entries[i].map[place]);
+    log_in(what, g, 0, free_blocks);
 }
 
 void answers(const char *what, uint8_t function, uint8_t parameter, uint32_t answer)
@@ -114,10 +146,15 @@ void answers(const char *what, uint8_t function, uint8_t parameter, uint32_t ans
     compare(what, call(function, parameter), answer);
 }
 
-void refuses(const char *what, uint8_t function, uint32_t number)
+void changes_nothing(const char *what, uint8_t function, uint8_t parameter, uint32_t answer)
 {
     as_it_stands();
-    answers(what, function, 0, number);
+    answers(what, function, parameter, answer);
+}
+
+void refuses(const char *what, uint8_t function, uint32_t number)
+{
+    changes_nothing(what, function, 0, number);
 }
 
 int holds(uint8_t function, uint8_t parameter, uint32_t answer)
@@ -125,10 +162,24 @@ int holds(uint8_t function, uint8_t parameter, uint32_t answer)
     return call(function, parameter) == answer && same_bytes();
 }
 
+int all_hold(const uint8_t *functions, size_t count, uint32_t answer)
+{
+    int good = 1;
+    for (size_t i = 0; i < count; i++)
+        good &= holds(functions[i], 0, answer);
+    return good;
+}
+
 void block_for(const char *name)
 {
     memset(now.fcb, 0, 36);
     memcpy(now.fcb + 1, name, 11);
+}
+
+void block_to_rename(const char *name, const char *new_name)
+{
+    block_for(name);
+    memcpy(now.fcb + 17, new_name, 11);
 }
 
 void at_record(uint32_t n)
@@ -144,25 +195,21 @@ void fill_buffer(uint8_t seed)
         now.buffer[i] = (uint8_t)(seed * 31 + i * 3);
 }
 
-void want_entry(size_t slot, uint8_t user, const char *name, uint8_t ex, uint8_t s2, uint8_t rc, const uint8_t *map)
+void want_entry(struct entry e)
 {
-    uint8_t *e = want.volume + slot * ENTRY;
-    e[0] = user;
-    memcpy(e + 1, name, 11);
-    e[12] = ex;
-    e[13] = 0;
-    e[14] = s2;
-    e[15] = rc;
-    memcpy(e + 16, map, 16);
+    uint8_t *slot = want.volume + e.slot * ENTRY;
+    slot[0] = e.user;
+    memcpy(slot + 1, e.name, 11);
+    slot[12] = e.ex;
+    slot[13] = 0;
+    slot[14] = e.s2;
+    slot[15] = e.rc;
+    memcpy(slot + 16, e.map, 16);
 }
 
-void want_set_to(uint8_t ex, uint8_t s2, uint8_t rc, const uint8_t *map, uint8_t cr)
+void want_made(size_t slot, const char *name)
 {
-    want.fcb[12] = ex;
-    want.fcb[14] = s2;
-    want.fcb[15] = rc;
-    memcpy(want.fcb + 16, map, 16);
-    want.fcb[32] = cr;
+    want_entry(ENTRY_WITH(.slot = slot, .name = name));
 }
 
 void want_stored(size_t at)
@@ -175,9 +222,22 @@ void want_shown(size_t at)
     memcpy(want.buffer, now.volume + at, RECORD);
 }
 
-void want_held(unsigned block)
+void want_set_to(struct entry e, uint8_t cr)
 {
-    want.drive[32 + block / 8] |= (uint8_t)(1u << block % 8);
+    want.fcb[12] = e.ex;
+    want.fcb[14] = e.s2;
+    want.fcb[15] = e.rc;
+    memcpy(want.fcb + 16, e.map, 16);
+    want.fcb[32] = cr;
+}
+
+void want_opened(struct entry e)
+{
+    memcpy(want.fcb + 1, e.name, 11);
+    want.fcb[13] = 0;
+    want.fcb[14] = 0;
+    want.fcb[15] = e.rc;
+    memcpy(want.fcb + 16, e.map, 16);
 }
 
 void want_random(uint8_t r0, uint8_t r1, uint8_t r2)
@@ -185,4 +245,37 @@ void want_random(uint8_t r0, uint8_t r1, uint8_t r2)
     want.fcb[33] = r0;
     want.fcb[34] = r1;
     want.fcb[35] = r2;
+}
+
+void want_held(unsigned block)
+{
+    want.drive[32 + block / 8] |= (uint8_t)(1u << block % 8);
+}
+
+void want_closed(void)
+{
+    memset(want.drive, 0, 64);
+}
+
+void want_read(size_t at, struct entry e, uint8_t cr)
+{
+    want_shown(at);
+    want_set_to(e, cr);
+}
+
+void want_written(size_t at, struct entry e, uint8_t cr)
+{
+    want_stored(at);
+    want_entry(e);
+    want_set_to(e, cr);
+}
+
+void want_found(uint8_t search, uint8_t user, uint8_t slot, const char *pattern, uint8_t ex)
+{
+    want.drive[8] = search;
+    want.drive[9] = user;
+    want.drive[10] = slot;
+    memcpy(want.drive + 12, pattern, 11);
+    want.drive[23] = ex;
+    want_shown(slot / 4 * RECORD);
 }

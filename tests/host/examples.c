@@ -11,12 +11,9 @@ static void count_slots(void)
     int good = 1;
     block_for("NOTHING    ");
     now.fcb[0] = 0x3F;
-    for (unsigned slot = 0; slot < 32; slot++) {
+    for (uint8_t slot = 0; slot < 32; slot++) {
         as_it_stands();
-        want.drive[8] = 2;
-        want.drive[10] = (uint8_t)slot;
-        memcpy(want.drive + 12, "NOTHING    ", 11);
-        want_shown(slot / 4 * RECORD);
+        want_found(2, 0, slot, "NOTHING    ", 0);
         good &= holds(slot == 0 ? 17 : 18, 0, slot % 4);
     }
     as_it_stands();
@@ -27,11 +24,7 @@ static void count_slots(void)
 // "Log-in of V: 39 free, 32 slots."
 static void log_in_v(void)
 {
-    static const uint8_t geometry[6] = {0x00, 0x04, 40, 0, 1, 0};
-    fresh(1024, 40, 1);
-    as_it_stands();
-    memcpy(want.drive, geometry, 6);
-    log_in("log-in of V: 39 free", 1024, 40, 1, 0, 39);
+    logged_in("log-in of V: 39 free", V, 39, NULL, 0);
 }
 
 // "Make SIGLA.TXT: code 0. Again: 43. Rename to itself: 43."
@@ -39,13 +32,10 @@ static void make_sigla(void)
 {
     block_for(SIGLA);
     memset(now.fcb + 13, 0x77, 23);
-    as_it_stands();
-    want_entry(0, 0, SIGLA, 0, 0, 0, MAP(0));
-    memset(want.fcb + 12, 0, 20);
-    answers("make SIGLA.TXT: code 0, slot 0 gets user and name, all else 0; control block 12..31 become 0", 22, 0, 0);
+    EXPECT("make SIGLA.TXT: code 0, slot 0 gets user and name, all else 0; control block 12..31 become 0", 22, 0, 0,
+           want_made(0, SIGLA), memset(want.fcb + 12, 0, 20));
     refuses("make SIGLA.TXT again: 43", 22, 43);
-    block_for(SIGLA);
-    memcpy(now.fcb + 17, SIGLA, 11);
+    block_to_rename(SIGLA, SIGLA);
     refuses("rename SIGLA.TXT to itself: 43", 23, 43);
 }
 
@@ -55,20 +45,12 @@ static void write_0_and_20(void)
     block_for(SIGLA);
     at_record(0);
     fill_buffer(2);
-    as_it_stands();
-    want_stored(1024);
-    want_entry(0, 0, SIGLA, 0, 0, 1, MAP(1));
-    want_set_to(0, 0, 1, MAP(1), 0);
-    want_held(1);
-    answers("write 0: block 1, rc 1, bytes at 1,024", 34, 0, 0);
+    EXPECT("write 0: block 1, rc 1, bytes at 1,024", 34, 0, 0,
+           want_written(1024, ENTRY_WITH(.name = SIGLA, .rc = 1, .map = {1}), 0), want_held(1));
     at_record(20);
     fill_buffer(3);
-    as_it_stands();
-    want_stored(2560);
-    want_entry(0, 0, SIGLA, 0, 0, 21, MAP(1, 0, 2));
-    want_set_to(0, 0, 21, MAP(1, 0, 2), 20);
-    want_held(2);
-    answers("write 20: place 2, block 2, bytes at 2,560, rc 21", 34, 0, 0);
+    EXPECT("write 20: place 2, block 2, bytes at 2,560, rc 21", 34, 0, 0,
+           want_written(2560, ENTRY_WITH(.name = SIGLA, .rc = 21, .map = {1, 0, 2}), 20), want_held(2));
 }
 
 // "Read 8: 1. Read 21: 1. Read 16: present, old bytes of block 2."
@@ -79,10 +61,8 @@ static void read_8_21_16(void)
     at_record(21);
     refuses("read 21: 1", 33, 1);
     at_record(16);
-    as_it_stands();
-    want_shown(2048);
-    want_set_to(0, 0, 21, MAP(1, 0, 2), 16);
-    answers("read 16: present, old bytes of block 2", 33, 0, 0);
+    EXPECT("read 16: present, old bytes of block 2", 33, 0, 0,
+           want_read(2048, ENTRY_WITH(.rc = 21, .map = {1, 0, 2}), 16));
     uint8_t old[RECORD];
     for (size_t i = 0; i < RECORD; i++)
         old[i] = (uint8_t)((2048 + i) % 251 + 2);
@@ -95,27 +75,19 @@ static void extent_1(void)
     at_record(128);
     refuses("read 128: 4", 33, 4);
     fill_buffer(4);
-    as_it_stands();
-    want_stored(3072);
-    want_entry(1, 0, SIGLA, 1, 0, 1, MAP(3));
-    want_set_to(1, 0, 1, MAP(3), 0);
-    want_held(3);
-    answers("write 128: slot 1, ex 1, rc 1, block 3", 34, 0, 0);
+    EXPECT("write 128: slot 1, ex 1, rc 1, block 3", 34, 0, 0,
+           want_written(3072, ENTRY_WITH(.slot = 1, .name = SIGLA, .ex = 1, .rc = 1, .map = {3}), 0), want_held(3));
     at_record(0x555555);
-    as_it_stands();
-    want_random(129, 0, 0);
-    answers("size 129", 35, 0, 0);
+    EXPECT("size 129", 35, 0, 0, want_random(129, 0, 0));
 }
 
 // What the lister's example counts: "FREE 36".
 static void log_in_again(void)
 {
     as_it_stands();
-    log_in("log-in after the writes 0, 20, 128: 36 free, the same held blocks", 1024, 40, 1, 0, 36);
-    as_it_stands();
-    answers("log-in by function 13 does the same", 13, 0, 36u << 16);
-    as_it_stands();
-    answers("log-in by function 37 does the same", 37, 0, 36u << 16);
+    log_in("log-in after the writes 0, 20, 128: 36 free, the same held blocks", V, 0, 36);
+    changes_nothing("log-in by function 13 does the same", 13, 0, 36u << 16);
+    changes_nothing("log-in by function 37 does the same", 37, 0, 36u << 16);
 }
 
 // "Write 65,535 in a new file: ex 31, s2 15, rc 128, place 15; size bytes 0, 0, 1."
@@ -123,42 +95,25 @@ static void last_record(void)
 {
     log_in_v();
     block_for("LAST       ");
-    as_it_stands();
-    want_entry(0, 0, "LAST       ", 0, 0, 0, MAP(0));
-    answers("make a new file: code 0", 22, 0, 0);
+    EXPECT("make a new file: code 0", 22, 0, 0, want_made(0, "LAST       "));
     at_record(65535);
     fill_buffer(5);
-    as_it_stands();
-    want_stored(1024 + 7 * RECORD);
-    want_entry(1, 0, "LAST       ", 31, 15, 128, MAP([15] = 1));
-    want_set_to(31, 15, 128, MAP([15] = 1), 127);
-    want_held(1);
-    answers("write 65,535 in a new file: ex 31, s2 15, rc 128, place 15", 34, 0, 0);
-    as_it_stands();
-    want_random(0, 0, 1);
-    answers("its size: bytes 0, 0, 1", 35, 0, 0);
+    const struct entry last = {1, 0, "LAST       ", 31, 15, 128, {[15] = 1}};
+    EXPECT("write 65,535 in a new file: ex 31, s2 15, rc 128, place 15", 34, 0, 0,
+           want_written(1024 + 7 * RECORD, last, 127), want_held(1));
+    EXPECT("its size: bytes 0, 0, 1", 35, 0, 0, want_random(0, 0, 1));
 }
 
 // "B 2,048, new file, write 200: ex 1, rc 73, place 12. Read 5: 1."
 static void two_extents_an_entry(void)
 {
-    static const uint8_t geometry[6] = {0x00, 0x08, 40, 0, 1, 0};
-    fresh(2048, 40, 1);
-    as_it_stands();
-    memcpy(want.drive, geometry, 6);
-    log_in("B 2,048: log-in, 39 free", 2048, 40, 1, 0, 39);
+    logged_in("B 2,048: log-in, 39 free", (struct geometry){2048, 40, 1}, 39, NULL, 0);
     block_for("WIDE       ");
-    as_it_stands();
-    want_entry(0, 0, "WIDE       ", 0, 0, 0, MAP(0));
-    answers("B 2,048: make a new file", 22, 0, 0);
+    EXPECT("B 2,048: make a new file", 22, 0, 0, want_made(0, "WIDE       "));
     at_record(200);
     fill_buffer(6);
-    as_it_stands();
-    want_stored(2048 + 8 * RECORD);
-    want_entry(0, 0, "WIDE       ", 1, 0, 73, MAP([12] = 1));
-    want_set_to(1, 0, 73, MAP([12] = 1), 72);
-    want_held(1);
-    answers("B 2,048: write 200: ex 1, rc 73, place 12", 34, 0, 0);
+    const struct entry wide = {0, 0, "WIDE       ", 1, 0, 73, {[12] = 1}};
+    EXPECT("B 2,048: write 200: ex 1, rc 73, place 12", 34, 0, 0, want_written(2048 + 8 * RECORD, wide, 72), want_held(1));
     at_record(5);
     refuses("B 2,048: read 5: 1", 33, 1);
 }
@@ -173,7 +128,7 @@ static int take_slots(unsigned from, unsigned slots)
         name[5] = (char)('0' + slot % 10);
         block_for(name);
         as_it_stands();
-        want_entry(slot, 0, name, 0, 0, 0, MAP(0));
+        want_made(slot, name);
         good &= holds(22, 0, slot % 4);
     }
     return good;
@@ -185,18 +140,16 @@ static void nothing_left(void)
     log_in_v();
     int good = take_slots(0, 1);
     // 39 blocks: all places of groups 0 and 1, and seven of group 2.
-    for (unsigned k = 0; k < 39; k++) {
-        uint8_t map[16] = {0};
-        unsigned slot = k / 16, rc = k % 16 * 8 + 1;
-        for (unsigned p = 0; p <= k % 16; p++)
-            map[p] = (uint8_t)(slot * 16 + p + 1);
-        block_for("FULL00     ");
-        at_record(k * 8);
+    for (uint8_t k = 0; k < 39; k++) {
+        uint8_t group = k / 16, place = k % 16;
+        struct entry e = {.slot = group, .name = "FULL00     ", .ex = group, .rc = place * 8 + 1};
+        for (uint8_t p = 0; p <= place; p++)
+            e.map[p] = group * 16 + p + 1;
+        block_for(e.name);
+        at_record(k * 8u);
         as_it_stands();
-        want_stored((k + 1) * 1024);
-        want_entry(slot, 0, "FULL00     ", (uint8_t)slot, 0, (uint8_t)rc, map);
-        want_set_to((uint8_t)slot, 0, (uint8_t)rc, map, (uint8_t)(k * 8 % 128));
-        want_held(k + 1);
+        want_written((k + 1) * 1024, e, place * 8);
+        want_held(k + 1u);
         good &= holds(34, 0, 0);
     }
     verdict("a file takes all 39 blocks, one write each", good);
@@ -214,18 +167,10 @@ static void nothing_left(void)
 // "T 2, D 1: the second block asked for: 2."
 static void second_block(void)
 {
-    static const uint8_t geometry[6] = {0x00, 0x04, 2, 0, 1, 0};
-    fresh(1024, 2, 1);
-    as_it_stands();
-    memcpy(want.drive, geometry, 6);
-    log_in("T 2, D 1: log-in, 1 free", 1024, 2, 1, 0, 1);
+    logged_in("T 2, D 1: log-in, 1 free", (struct geometry){1024, 2, 1}, 1, NULL, 0);
     verdict("T 2, D 1: make", take_slots(0, 1));
-    as_it_stands();
-    want_stored(1024);
-    want_entry(0, 0, "FULL00     ", 0, 0, 1, MAP(1));
-    want_set_to(0, 0, 1, MAP(1), 0);
-    want_held(1);
-    answers("T 2, D 1: write 0", 34, 0, 0);
+    EXPECT("T 2, D 1: write 0", 34, 0, 0, want_written(1024, ENTRY_WITH(.name = "FULL00     ", .rc = 1, .map = {1}), 0),
+           want_held(1));
     at_record(8);
     refuses("T 2, D 1: the second block asked for: 2", 34, 2);
 }
@@ -233,21 +178,15 @@ static void second_block(void)
 // "cr 128 is taken, 129 is 40."
 static void positions(void)
 {
+    const struct entry second = {1, 0, "FULL00     ", 1, 0, 1, {1}};
     log_in_v();
     verdict("make a file for positions", take_slots(0, 1));
     now.fcb[32] = 128;
-    as_it_stands();
-    want_stored(1024);
-    want_entry(1, 0, "FULL00     ", 1, 0, 1, MAP(1));
-    want_set_to(1, 0, 1, MAP(1), 1);
-    want_held(1);
-    answers("sequential write with cr 128 is taken: record 128, ex 1, cr 1", 21, 0, 0);
+    EXPECT("sequential write with cr 128 is taken: record 128, ex 1, cr 1", 21, 0, 0, want_written(1024, second, 1),
+           want_held(1));
     now.fcb[12] = 0;
     now.fcb[32] = 128;
-    as_it_stands();
-    want_shown(1024);
-    want_set_to(1, 0, 1, MAP(1), 1);
-    answers("sequential read with cr 128 is taken", 20, 0, 0);
+    EXPECT("sequential read with cr 128 is taken", 20, 0, 0, want_read(1024, second, 1));
     now.fcb[12] = 0;
     now.fcb[32] = 129;
     refuses("sequential write with cr 129: 40", 21, 40);
@@ -262,15 +201,11 @@ static void pattern_delete(void)
     verdict("make four files", take_slots(0, 4));
     block_for("FULL02     ");
     now.fcb[9] |= 0x80;
-    as_it_stands();
-    want.volume[2 * ENTRY + 9] |= 0x80;
-    answers("one of them becomes read-only", 30, 0, 0);
+    EXPECT("one of them becomes read-only", 30, 0, 0, want.volume[2 * ENTRY + 9] |= 0x80);
     block_for("FULL0?     ");
     refuses("pattern delete with one read-only match: 38, nothing gone", 19, 38);
     block_for("FULL02     ");
-    as_it_stands();
-    want.volume[2 * ENTRY + 9] &= 0x7F;
-    answers("it becomes writable again", 30, 0, 0);
+    EXPECT("it becomes writable again", 30, 0, 0, want.volume[2 * ENTRY + 9] &= 0x7F);
     block_for("FULL0?     ");
     as_it_stands();
     for (size_t slot = 0; slot < 4; slot++)

@@ -14,33 +14,22 @@ static void lengths(void)
     block_for(DRAFT);
     now.fcb[0] = 9;
     as_it_stands();
-    int good = 1;
     lent.buffer = 127;
-    for (size_t i = 0; i < sizeof buffer; i++)
-        good &= holds(buffer[i], 0, 35);
+    int good = all_hold(buffer, sizeof buffer, 35);
     lent.buffer = 129;
-    for (size_t i = 0; i < sizeof buffer; i++)
-        good &= holds(buffer[i], 0, 35);
+    good &= all_hold(buffer, sizeof buffer, 35);
     verdict("35 for a buffer of 127 or 129 bytes, before 42", good);
-    good = 1;
     lent.fcb = 35;
-    for (size_t i = 0; i < sizeof block; i++)
-        good &= holds(block[i], 0, 34);
+    good = all_hold(block, sizeof block, 34);
     lent.fcb = 37;
-    for (size_t i = 0; i < sizeof block; i++)
-        good &= holds(block[i], 0, 34);
+    good &= all_hold(block, sizeof block, 34);
     verdict("34 for a control block of 35 or 37 bytes, before 35", good);
-    good = 1;
     lent.volume -= 1;
-    for (size_t i = 0; i < sizeof volume; i++)
-        good &= holds(volume[i], 0, 33);
+    good = all_hold(volume, sizeof volume, 33);
     lent.volume += 2;
-    for (size_t i = 0; i < sizeof volume; i++)
-        good &= holds(volume[i], 0, 33);
+    good &= all_hold(volume, sizeof volume, 33);
     verdict("33 for a volume one byte short or long, before 34", good);
-    as_it_stands();
-    memset(want.drive, 0, 64);
-    answers("13 with a volume of another length: 33, and the drive is closed", 13, 0, 33);
+    EXPECT("13 with a volume of another length: 33, and the drive is closed", 13, 0, 33, want_closed());
 }
 
 // What a function doesn't use may have any length, here 0.
@@ -48,51 +37,44 @@ static void not_lent(void)
 {
     static const uint8_t no_buffer[] = {15, 16, 19, 23, 30, 35};
     some_files();
-    block_for("NOTHING    ");
-    memcpy(now.fcb + 17, "OTHER      ", 11);
+    block_to_rename("NOTHING    ", "OTHER      ");
     as_it_stands();
     lent.buffer = 0;
-    int good = 1;
-    for (size_t i = 0; i < sizeof no_buffer; i++)
-        good &= holds(no_buffer[i], 0, 255);
-    verdict("15, 16, 19, 23, 30 and 35 look at no buffer", good);
+    verdict("15, 16, 19, 23, 30 and 35 look at no buffer", all_hold(no_buffer, sizeof no_buffer, 255));
     lent.fcb = 0;
     verdict("13 and 37 look at no control block and no buffer", holds(13, 0, 20u << 16) && holds(37, 0, 20u << 16));
     lent.buffer = RECORD;
     verdict("18 looks at no control block", holds(18, 0, 255));
     lent.volume = lent.buffer = 0;
     verdict("32 looks at nothing that is lent", holds(32, 255, 0));
-    as_it_stands();
-    want.drive[7] = 1;
-    answers("28 looks at nothing that is lent", 28, 0, 0);
+    EXPECT("28 looks at nothing that is lent", 28, 0, 0, want.drive[7] = 1);
     lent.fcb = 36;
-    as_it_stands();
-    want_random(0, 0, 0);
-    answers("36 looks at no volume and no buffer", 36, 0, 0);
+    EXPECT("36 looks at no volume and no buffer", 36, 0, 0, want_random(0, 0, 0));
 }
 
-// Log-in's refusals: 32, 33, 36, and the closed value in the drive.
-static void log_in_refusals(void)
+// Log-in's refusals: 32 and 33, and the closed value in the drive.
+static void outside_the_rules(void)
 {
     // The last three are within the rules if only 16 bits of each number are looked at.
-    static const uint32_t outside[][3] = {
-        {0, 40, 1},    {512, 40, 1},  {1023, 40, 1}, {8192, 40, 1},  {1024, 0, 1},     {1024, 1, 1},       {1024, 257, 1},
-        {1024, 40, 0}, {1024, 2, 2},  {1024, 16, 16}, {1024, 40, 17}, {66560, 40, 1}, {1024, 65576, 1}, {1024, 40, 65537},
+    static const struct geometry outside[] = {
+        {0, 40, 1},    {512, 40, 1}, {1023, 40, 1},  {8192, 40, 1},  {1024, 0, 1},   {1024, 1, 1},     {1024, 257, 1},
+        {1024, 40, 0}, {1024, 2, 2}, {1024, 16, 16}, {1024, 40, 17}, {66560, 40, 1}, {1024, 65576, 1}, {1024, 40, 65537},
     };
-    for (size_t i = 0; i < sizeof outside / sizeof *outside; i++) {
+    for (size_t i = 0; i < COUNT(outside); i++) {
         char what[100];
-        const uint32_t *g = outside[i];
+        struct geometry g = outside[i];
         some_files();
-        as_it_stands();
-        memset(want.drive, 0, 64);
-        snprintf(what, sizeof what, "log-in with B %u, T %u, D %u: 32, the drive is closed", g[0], g[1], g[2]);
-        log_in(what, g[0], g[1], g[2], 32, 0);
+        snprintf(what, sizeof what, "log-in with B %u, T %u, D %u: 32, the drive is closed", g.block, g.total, g.directory);
+        log_in_refused(what, g, 32, 0);
     }
     some_files();
     lent.volume++;
-    as_it_stands();
-    memset(want.drive, 0, 64);
-    log_in("log-in with a volume one byte long: 33, the drive is closed", 1024, 40, 1, 33, 0);
+    log_in_refused("log-in with a volume one byte long: 33, the drive is closed", V, 33, 0);
+}
+
+// And 36, by one byte of an entry.
+static void bad_slots(void)
+{
     static const struct {
         const char *what;
         uint8_t at, byte;
@@ -112,23 +94,20 @@ static void log_in_refusals(void)
         {"slot 4 has a block twice: 36 with 4 above", 31, 19},
         {"slot 4 has a lower slot's block: 36 with 4 above", 31, 18},
     };
-    for (size_t i = 0; i < sizeof bad / sizeof *bad; i++) {
+    for (size_t i = 0; i < COUNT(bad); i++) {
         some_files();
         now.volume[4 * ENTRY + bad[i].at] = bad[i].byte;
-        as_it_stands();
-        memset(want.drive, 0, 64);
-        log_in(bad[i].what, 1024, 40, 1, 36, 4);
+        log_in_refused(bad[i].what, V, 36, 4);
     }
     some_files();
     memcpy(now.volume + 4 * ENTRY + 1, DRAFT, 11);
-    as_it_stands();
-    memset(want.drive, 0, 64);
-    log_in("the same user, name and group as in a lower slot: 36 with slot 4 above", 1024, 40, 1, 36, 4);
+    log_in_refused("the same user, name and group as in a lower slot: 36 with slot 4 above", V, 36, 4);
 }
 
 void lent_and_log_in(void)
 {
     lengths();
     not_lent();
-    log_in_refusals();
+    outside_the_rules();
+    bad_slots();
 }

@@ -12,14 +12,15 @@ static void lend_pieces(size_t k)
         now.buffer[i] = (uint8_t)(17 * (i / RECORD) + i % RECORD * 5 + 3);
 }
 
-static void want_piece_shown(size_t piece, size_t at)
+// So many pieces, from one of them on, show the records from this byte of the volume on, or are stored there.
+static void want_pieces_shown(size_t piece, size_t pieces, size_t at)
 {
-    memcpy(want.buffer + piece * RECORD, now.volume + at, RECORD);
+    memcpy(want.buffer + piece * RECORD, now.volume + at, pieces * RECORD);
 }
 
-static void want_piece_stored(size_t piece, size_t at)
+static void want_pieces_stored(size_t piece, size_t pieces, size_t at)
 {
-    memcpy(want.volume + at, now.buffer + piece * RECORD, RECORD);
+    memcpy(want.volume + at, now.buffer + piece * RECORD, pieces * RECORD);
 }
 
 static uint32_t done(uint32_t number, uint32_t count)
@@ -30,53 +31,38 @@ static uint32_t done(uint32_t number, uint32_t count)
 // DRAFT has records 0 to 129; blocks 16 and 17 hold those from 120 on.
 static void reads(void)
 {
+    const struct entry last = {.ex = 1, .rc = 2, .map = {17}};
     some_files();
     block_for(DRAFT);
     now.fcb[32] = 126;
     lend_pieces(3);
-    as_it_stands();
-    want_piece_shown(0, 16 * 1024 + 6 * RECORD);
-    want_piece_shown(1, 16 * 1024 + 7 * RECORD);
-    want_piece_shown(2, 17 * 1024);
-    want_set_to(1, 0, 2, MAP(17), 1);
-    answers("220 reads three records over the border of an extent: 0 with 3 above", 220, 3, done(0, 3));
+    EXPECT("220 reads three records over the border of an extent: 0 with 3 above", 220, 3, done(0, 3),
+           want_pieces_shown(0, 2, 16 * 1024 + 6 * RECORD), want_pieces_shown(2, 1, 17 * 1024), want_set_to(last, 1));
     lend_pieces(4);
-    as_it_stands();
-    want_piece_shown(0, 17 * 1024 + RECORD);
-    want_set_to(1, 0, 2, MAP(17), 2);
-    answers("220 at the file's end: 1 with 1 above, the other pieces stay", 220, 4, done(1, 1));
-    as_it_stands();
-    answers("220 again: 1 with 0 above, nothing changes", 220, 4, done(1, 0));
+    EXPECT("220 at the file's end: 1 with 1 above, the other pieces stay", 220, 4, done(1, 1),
+           want_pieces_shown(0, 1, 17 * 1024 + RECORD), want_set_to(last, 2));
+    changes_nothing("220 again: 1 with 0 above, nothing changes", 220, 4, done(1, 0));
 }
 
 // FINAL has records 0 to 2 in block 19; blocks 20 to 39 are free.
 static void writes(void)
 {
+    struct entry final = {.slot = 4, .name = FINAL, .rc = 10, .map = {19, 20}};
     some_files();
     block_for(FINAL);
     now.fcb[32] = 6;
     lend_pieces(4);
-    as_it_stands();
-    want_piece_stored(0, 19 * 1024 + 6 * RECORD);
-    want_piece_stored(1, 19 * 1024 + 7 * RECORD);
-    want_piece_stored(2, 20 * 1024);
-    want_piece_stored(3, 20 * 1024 + RECORD);
-    want_entry(4, 0, FINAL, 0, 0, 10, MAP(19, 20));
-    want_set_to(0, 0, 10, MAP(19, 20), 10);
-    want_held(20);
-    answers("221 writes four records and takes a block: 0 with 4 above", 221, 4, done(0, 4));
+    EXPECT("221 writes four records and takes a block: 0 with 4 above", 221, 4, done(0, 4),
+           want_pieces_stored(0, 2, 19 * 1024 + 6 * RECORD), want_pieces_stored(2, 2, 20 * 1024), want_entry(final),
+           want_set_to(final, 10), want_held(20));
     for (unsigned b = 21; b < 40; b++)
         now.drive[32 + b / 8] |= (uint8_t)(1u << b % 8);
     now.fcb[32] = 14;
     lend_pieces(16);
-    as_it_stands();
-    want_piece_stored(0, 20 * 1024 + 6 * RECORD);
-    want_piece_stored(1, 20 * 1024 + 7 * RECORD);
-    want_entry(4, 0, FINAL, 0, 0, 16, MAP(19, 20));
-    want_set_to(0, 0, 16, MAP(19, 20), 16);
-    answers("221 with no block left: 2 with 2 above, what was done stays done", 221, 16, done(2, 2));
-    as_it_stands();
-    answers("221 again: 2 with 0 above, nothing changes", 221, 16, done(2, 0));
+    final.rc = 16;
+    EXPECT("221 with no block left: 2 with 2 above, what was done stays done", 221, 16, done(2, 2),
+           want_pieces_stored(0, 2, 20 * 1024 + 6 * RECORD), want_entry(final), want_set_to(final, 16));
+    changes_nothing("221 again: 2 with 0 above, nothing changes", 221, 16, done(2, 0));
 }
 
 // 46 stands between 34 and 35.

@@ -11,14 +11,7 @@
 // V with a=b in slot 0, record 0 in block 1, logged in.
 static void old_file(void)
 {
-    static const uint8_t geometry[6] = {0x00, 0x04, 40, 0, 1, 0};
-    fresh(1024, 40, 1);
-    as_it_stands();
-    want_entry(0, 0, OLD, 0, 0, 1, MAP(1));
-    now = want;
-    memcpy(want.drive, geometry, 6);
-    want_held(1);
-    log_in("log-in of V with a file called a=b: 38 free", 1024, 40, 1, 0, 38);
+    logged_in("log-in of V with a file called a=b: 38 free", V, 38, &ENTRY_WITH(.name = OLD, .rc = 1, .map = {1}), 1);
 }
 
 // Make of these eleven bytes, and a rename of a=b to them: both refused by 45, and nothing changes?
@@ -27,8 +20,7 @@ static int both_refused(const char *name)
     block_for(name);
     as_it_stands();
     int good = holds(22, 0, 45);
-    block_for(OLD);
-    memcpy(now.fcb + 17, name, 11);
+    block_to_rename(OLD, name);
     as_it_stands();
     return good && holds(23, 0, 45);
 }
@@ -58,16 +50,14 @@ static void blanks(void)
     static const char *const refused[] = {"A B        ", "AB   C     ", "A       A B", "A        BC", "A        B ", "A         C"};
     static const char *const taken[] = {"A          ", "ABCDEFG TXT", "ABCDEFGHT  ", "ABCDEFGHTX "};
     char what[80];
-    for (size_t i = 0; i < sizeof refused / sizeof *refused; i++) {
+    for (size_t i = 0; i < COUNT(refused); i++) {
         snprintf(what, sizeof what, "the new name '%s': 45 from make and rename", refused[i]);
         verdict(what, both_refused(refused[i]));
     }
-    for (uint8_t i = 0; i < sizeof taken / sizeof *taken; i++) {
+    for (uint8_t i = 0; i < COUNT(taken); i++) {
         snprintf(what, sizeof what, "make '%s': done", taken[i]);
         block_for(taken[i]);
-        as_it_stands();
-        want_entry(i + 1u, 0, taken[i], 0, 0, 0, MAP(0));
-        answers(what, 22, 0, (i + 1u) % 4);
+        EXPECT(what, 22, 0, (i + 1u) % 4, want_made(i + 1u, taken[i]));
     }
 }
 
@@ -77,18 +67,15 @@ static void in_order(void)
     old_file();
     block_for("a=?        ");
     refuses("make a=?: 39, before 45", 22, 39);
-    block_for("A?         ");
-    memcpy(now.fcb + 17, OLD, 11);
+    block_to_rename("A?         ", OLD);
     refuses("rename with 3FH in the old name to a=b: 39, before 45", 23, 39);
-    block_for("NOTHING    ");
-    memcpy(now.fcb + 17, OLD, 11);
+    block_to_rename("NOTHING    ", OLD);
     refuses("rename of a file that is not there to a=b: 45, before 255", 23, 45);
     block_for(OLD);
     refuses("make a=b, which exists: 45, before 43", 22, 45);
     now.fcb[12] = 1;
     refuses("make a=b with ex 1: 45, before 40", 22, 45);
-    block_for(OLD);
-    memcpy(now.fcb + 17, OLD, 11);
+    block_to_rename(OLD, OLD);
     refuses("rename a=b to itself: 45, before 43", 23, 45);
     now.drive[7] = 1;
     refuses("the same on a protected drive: 45, before 37", 23, 45);
@@ -96,44 +83,28 @@ static void in_order(void)
 
 static void read_and_written(void)
 {
+    struct entry file = {.name = OLD, .rc = 1, .map = {1}};
     old_file();
     block_for(OLD);
-    as_it_stands();
-    want.fcb[15] = 1;
-    want.fcb[16] = 1;
-    answers("a=b is opened", 15, 0, 0);
+    EXPECT("a=b is opened", 15, 0, 0, want_opened(file));
     at_record(0);
-    as_it_stands();
-    want_shown(1024);
-    want_set_to(0, 0, 1, MAP(1), 0);
-    answers("a=b is read", 33, 0, 0);
+    EXPECT("a=b is read", 33, 0, 0, want_read(1024, file, 0));
     at_record(1);
     fill_buffer(8);
-    as_it_stands();
-    want_stored(1024 + RECORD);
-    want_entry(0, 0, OLD, 0, 0, 2, MAP(1));
-    want_set_to(0, 0, 2, MAP(1), 1);
-    answers("a=b is written", 34, 0, 0);
-    as_it_stands();
-    answers("a=b is closed", 16, 0, 0);
+    file.rc = 2;
+    EXPECT("a=b is written", 34, 0, 0, want_written(1024 + RECORD, file, 1));
+    changes_nothing("a=b is closed", 16, 0, 0);
 }
 
 static void renamed_and_deleted(void)
 {
-    block_for(OLD);
-    memcpy(now.fcb + 17, SIGLA, 11);
-    as_it_stands();
-    memcpy(want.volume + 1, SIGLA, 11);
-    answers("a=b is renamed away", 23, 0, 0);
-    block_for(SIGLA);
-    memcpy(now.fcb + 17, OLD, 11);
+    block_to_rename(OLD, SIGLA);
+    EXPECT("a=b is renamed away", 23, 0, 0, memcpy(want.volume + 1, SIGLA, 11));
+    block_to_rename(SIGLA, OLD);
     refuses("and not back: 45", 23, 45);
     old_file();
     block_for(OLD);
-    as_it_stands();
-    want.volume[0] = 0xE5;
-    want.drive[32] = 0;
-    answers("a=b is deleted, and its block is free", 19, 0, 0);
+    EXPECT("a=b is deleted, and its block is free", 19, 0, 0, want.volume[0] = 0xE5, want.drive[32] = 0);
     refuses("and not made again: 45", 22, 45);
 }
 

@@ -1,65 +1,36 @@
 // One door to the file calls: the function's number decides which call is done.
 ghost use mathlib.Core.Path.{_≡_};
 ghost use Rattle.filecalls.specs.Outcome.{left};
-ghost use Rattle.bdos.specs.Step.{callOf, does, asked, step};
+ghost use Rattle.bdos.specs.Step.{carries, does, step};
+ghost use Rattle.served.specs.Asked.{asked};
 use answers::Refusal;
 use filecalls::Drive;
 use filecalls::Reply;
+use geometry::Geometry;
+use served::Call;
+use served::Transfer;
 use several::read::read_several;
 use several::write::write_several;
-use volume::Geometry;
 
-// The calls that are served, and one for every number that is not.
-pub enum Call {
-    LogIn,
-    Open,
-    Close,
-    SearchFirst,
-    SearchNext,
-    Delete,
-    ReadSequential,
-    WriteSequential,
-    Make,
-    Rename,
-    Protect,
-    Attributes,
-    User,
-    ReadRandom,
-    WriteRandom,
-    Size,
-    SetRandom,
-    WriteZeroFill,
-    ReadSeveral,
-    WriteSeveral,
-    Unserved,
-}
-
-// The call of a function's number.
-fn call_of(function: u8) -> Call
-    ensures { λ r. ⌜ r ≡ callOf function ⌝ }
+// Moves records: a read or a write, of one record or of several.
+fn carry(
+    kind: Transfer,
+    parameter: u8,
+    drive: Drive,
+    volume: &mut [u8],
+    f: &mut [u8],
+    buffer: &mut [u8],
+) -> Reply
+    ensures { λ r. ⌜ left r (now (volume .exit)) (now (f .exit)) (now (buffer .exit)) ≡ carries kind parameter drive (now (volume .entry)) (now (f .entry)) (now (buffer .entry)) ⌝ }
 {
-    match function {
-        13 | 37 => Call::LogIn,
-        15 => Call::Open,
-        16 => Call::Close,
-        17 => Call::SearchFirst,
-        18 => Call::SearchNext,
-        19 => Call::Delete,
-        20 => Call::ReadSequential,
-        21 => Call::WriteSequential,
-        22 => Call::Make,
-        23 => Call::Rename,
-        28 => Call::Protect,
-        30 => Call::Attributes,
-        32 => Call::User,
-        33 => Call::ReadRandom,
-        34 => Call::WriteRandom,
-        35 => Call::Size,
-        36 => Call::SetRandom,
-        40 => Call::WriteZeroFill,
-        220 => Call::ReadSeveral,
-        221 => Call::WriteSeveral,
-        _ => Call::Unserved,
+    match kind {
+        Transfer::ReadSequential => drive.read_sequential(volume, f, buffer),
+        Transfer::WriteSequential => drive.write_sequential(volume, f, buffer),
+        Transfer::ReadRandom => drive.read_random(volume, f, buffer),
+        Transfer::WriteRandom => drive.write_random(volume, f, buffer),
+        Transfer::WriteZeroFill => drive.write_zero_fill(volume, f, buffer),
+        Transfer::ReadSeveral => read_several(drive, volume, f, buffer, parameter),
+        Transfer::WriteSeveral => write_several(drive, volume, f, buffer, parameter),
     }
 }
 
@@ -82,20 +53,14 @@ fn serve(
         Call::SearchFirst => drive.search_first(volume, f, buffer),
         Call::SearchNext => drive.search_next(volume, buffer),
         Call::Delete => drive.delete(volume, f),
-        Call::ReadSequential => drive.read_sequential(volume, f, buffer),
-        Call::WriteSequential => drive.write_sequential(volume, f, buffer),
         Call::Make => drive.make(volume, f),
         Call::Rename => drive.rename(volume, f),
         Call::Protect => drive.protect(),
         Call::Attributes => drive.set_attributes(volume, f),
         Call::User => drive.user_code(parameter),
-        Call::ReadRandom => drive.read_random(volume, f, buffer),
-        Call::WriteRandom => drive.write_random(volume, f, buffer),
         Call::Size => drive.file_size(volume, f),
         Call::SetRandom => drive.set_random(f),
-        Call::WriteZeroFill => drive.write_zero_fill(volume, f, buffer),
-        Call::ReadSeveral => read_several(drive, volume, f, buffer, parameter),
-        Call::WriteSeveral => write_several(drive, volume, f, buffer, parameter),
+        Call::Moves(moved) => carry(moved, parameter, drive, volume, f, buffer),
         Call::Unserved => drive.refused(Refusal::NotServed),
     }
 }
@@ -112,6 +77,6 @@ pub fn enter(
 ) -> Reply
     ensures { λ r. ⌜ left r (now (volume .exit)) (now (f .exit)) (now (buffer .exit)) ≡ step g (asked function parameter (now (f .entry)) (now (buffer .entry))) drive (now (volume .entry)) ⌝ }
 {
-    let kind = call_of(function);
+    let kind = served::call_of(function);
     serve(g, kind, parameter, drive, volume, f, buffer)
 }

@@ -4,14 +4,15 @@ use mathlib.Core.Path.{_≡_, refl}
 use mathlib.Core.Bool.{Bool}
 use mathlib.Core.List.{List, []}
 use Prim.Native.Nat.{ℕ, _≤_, _<_}
-use Rattle.volume.specs.declared.Geometry.{Geometry}
-use Rattle.volume.specs.Geometry.{placeOf}
+use Rattle.geometry.specs.declared.Geometry.{Geometry}
+use Rattle.geometry.specs.Geometry.{placeOf}
 use Rattle.volume.specs.Entry.{Entry}
 use Rattle.volume.specs.Name.{nameOf}
 use Rattle.blocks.specs.Held.{holds}
 use Rattle.answers.specs.declared.Refusal.the-variants.{NotServed}
-use Rattle.writing.specs.Write.{alloc, baseEntry, writeBlock, writeTests}
-use Rattle.writing.proofs.AllocLaws.{alloc-ext}
+use Rattle.deciding.specs.Write.{baseEntry, writeBlock, writeTests}
+use Rattle.entries.specs.Alloc.{alloc}
+use Rattle.entries.proofs.AllocLaws.{alloc-ext}
 use Rattle.filecalls.specs.declared.Drive.{Drive}
 use Rattle.filecalls.specs.State.{isOpen}
 use Rattle.filecalls.specs.Open.{openTests, openAct, closeTests, closeAct, sizeTests, sizeAct}
@@ -22,9 +23,10 @@ use Rattle.filecalls.specs.Write.{writeEntry, writeChange, writeDone, writeSequ
 use Rattle.filecalls.specs.Small.{protectTests, protectAct, userTests, userAct, setRandomTests, setRandomAct}
 use Rattle.filecalls.specs.Outcome.{Change, keeps, takes, frees, protects, becomes, searches, Act, deny, done, changedState, withHeld, Outcome, outcome}
 use Rattle.several.specs.Several.{readOne, writeOne, several}
-use Rattle.bdos.specs.declared.Call.{Call}
-use Rattle.bdos.specs.declared.Call.the-variants.{LogIn, Open, Close, SearchFirst, SearchNext, Delete, ReadSequential, WriteSequential, Make, Rename, Protect, Attributes, User, ReadRandom, WriteRandom, Size, SetRandom, WriteZeroFill, ReadSeveral, WriteSeveral, Unserved}
-use Rattle.bdos.specs.Step.{keepsBuffer, keepsBlock, keepsVolume, does}
+use Rattle.served.specs.declared.Call.{Call}
+use Rattle.served.specs.declared.Call.the-variants.{LogIn, Open, Close, SearchFirst, SearchNext, Delete, Make, Rename, Protect, Attributes, User, Size, SetRandom, Moves, Unserved}
+use Rattle.served.specs.declared.Transfer.the-variants.{ReadSequential, WriteSequential, ReadRandom, WriteRandom, WriteZeroFill, ReadSeveral, WriteSeveral}
+use Rattle.bdos.specs.Step.{keepsBuffer, keepsBlock, keepsVolume, carries, does}
 use Rattle.demands.proofs.Acts.{Consistent, outcome-keeps}
 use Rattle.demands.proofs.WritesKeep.{write-sequential-keeps}
 use Rattle.demands.proofs.CallsKeep.{Nothing, read-sequential-keeps}
@@ -167,25 +169,25 @@ module _ (d : Drive) (k v f b : List ℕ) where
     same = held-same d k v kept worked-out
 
     pub does-alike : (g : Geometry) (call : Call) (p : ℕ) → Alike (does g call p d v f b) (does g call p (withHeld d k) v f b)
-    unfolding does
+    unfolding does carries
     does-alike g LogIn p = record { answer = refl; volume = refl; block = refl; buffer = refl; drive = refl }
     does-alike g Open p = buffer-kept (by-act d k v f [] (open-alike d k v f b))
     does-alike g Close p = buffer-kept (by-act d k v f [] (close-alike d k v f b))
     does-alike g SearchFirst p = by-act d k v f b (first-alike d k v f b)
     does-alike g SearchNext p = block-kept (by-act d k v [] b (next-alike d k v f b))
     does-alike g Delete p = buffer-kept (by-act d k v f [] (delete-alike d k v f b))
-    does-alike g ReadSequential p = by-act d k v f b (read-sequential-alike d k v f b)
-    does-alike g WriteSequential p = by-act d k v f b (sequential-alike d k v same f b)
+    does-alike g (Moves ReadSequential) p = by-act d k v f b (read-sequential-alike d k v f b)
+    does-alike g (Moves WriteSequential) p = by-act d k v f b (sequential-alike d k v same f b)
     does-alike g Make p = buffer-kept (by-act d k v f [] (make-alike d k v f b))
     does-alike g Rename p = buffer-kept (by-act d k v f [] (rename-alike d k v f b))
     does-alike g Protect p = volume-kept (block-kept (buffer-kept (by-act d k [] [] [] (protect-alike d k v f b))))
     does-alike g Attributes p = buffer-kept (by-act d k v f [] (attributes-alike d k v f b))
     does-alike g User p = volume-kept (block-kept (buffer-kept (by-act d k [] [] [] (user-alike d k v f b p))))
-    does-alike g ReadRandom p = by-act d k v f b (read-random-alike d k v f b)
-    does-alike g WriteRandom p = by-act d k v f b (random-alike d k v same f b)
+    does-alike g (Moves ReadRandom) p = by-act d k v f b (read-random-alike d k v f b)
+    does-alike g (Moves WriteRandom) p = by-act d k v f b (random-alike d k v same f b)
     does-alike g Size p = buffer-kept (by-act d k v f [] (size-alike d k v f b))
     does-alike g SetRandom p = volume-kept (buffer-kept (by-act d k [] f [] (set-random-alike d k v f b)))
-    does-alike g WriteZeroFill p = by-act d k v f b (zero-fill-alike d k v same f b)
-    does-alike g ReadSeveral p = read-several-alike d k v f b p kept worked-out
-    does-alike g WriteSeveral p = write-several-alike d k v f b p kept worked-out
+    does-alike g (Moves WriteZeroFill) p = by-act d k v f b (zero-fill-alike d k v same f b)
+    does-alike g (Moves ReadSeveral) p = read-several-alike d k v f b p kept worked-out
+    does-alike g (Moves WriteSeveral) p = write-several-alike d k v f b p kept worked-out
     does-alike g Unserved p = outcome-alike d k v f b (deny NotServed)

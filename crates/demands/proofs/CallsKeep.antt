@@ -7,8 +7,8 @@ use native.Mathlib.Omega.{arith}
 use lib.Dec.{eqb}
 use lib.ListN.{length}
 use borrow.Author.Tests.{eq-eqb, le-ltb}
-use Rattle.volume.specs.declared.Geometry.{Geometry}
-use Rattle.volume.specs.Geometry.{lawful, bytes, slots}
+use Rattle.geometry.specs.declared.Geometry.{Geometry}
+use Rattle.geometry.specs.Geometry.{lawful, bytes, slots}
 use Rattle.volume.specs.Directory.{slotAt}
 use Rattle.volume.specs.Name.{nameOf}
 use Rattle.blocks.specs.Held.{freeCount}
@@ -17,8 +17,8 @@ use Rattle.answers.specs.declared.Refusal.{Refusal}
 use Rattle.answers.specs.declared.Refusal.the-variants.{NoGroup, Absent, NotServed}
 use Rattle.answers.specs.declared.Answer.the-variants as answer
 use Rattle.answers.specs.Refusal.{Test, isNone, firstMet}
-use Rattle.inspection.specs.GoodSlot.{lowestBad}
-use Rattle.inspection.specs.Named.{heldOf}
+use Rattle.goodslots.specs.GoodSlot.{lowestBad}
+use Rattle.goodslots.specs.Named.{heldOf}
 use Rattle.reading.specs.Read.{readTests}
 use Rattle.filecalls.specs.declared.Drive.{Drive}
 use Rattle.filecalls.specs.State.{loggedIn}
@@ -30,8 +30,9 @@ use Rattle.filecalls.specs.Small.{protectTests, protectAct, userTests, userAct,
 use Rattle.filecalls.specs.Outcome.{keeps, protects, becomes, Store, Act, deny, done, unless, changedState, Outcome, outcome, left}
 use Rattle.several.specs.Several.{readOne}
 use Rattle.several.proofs.SeveralLaws.{read-refuses}
-use Rattle.bdos.specs.declared.Call.{Call}
-use Rattle.bdos.specs.declared.Call.the-variants.{LogIn, Open, Close, SearchFirst, SearchNext, Delete, ReadSequential, WriteSequential, Make, Rename, Protect, Attributes, User, ReadRandom, WriteRandom, Size, SetRandom, WriteZeroFill, ReadSeveral, WriteSeveral, Unserved}
+use Rattle.served.specs.declared.Call.{Call}
+use Rattle.served.specs.declared.Call.the-variants.{LogIn, Open, Close, SearchFirst, SearchNext, Delete, Make, Rename, Protect, Attributes, User, Size, SetRandom, Moves, Unserved}
+use Rattle.served.specs.declared.Transfer.the-variants.{ReadSequential, WriteSequential, ReadRandom, WriteRandom, WriteZeroFill, ReadSeveral, WriteSeveral}
 use Rattle.bdos.specs.Step.{keepsBuffer, keepsBlock, keepsVolume}
 use Rattle.bdos.specs.Step as door
 use Rattle.demands.specs.Demand3.{Bytes, names}
@@ -147,27 +148,27 @@ log-in-keeps touches d v f b c =
 
 module _ (g : Geometry) (p : ℕ) (d : Drive) (v f b : List ℕ) (same : d .geometry ≡ g) (c : Consistent d v) (small : Bytes f) where
   pub does-keeps : (call : Call) → StepKeeps (λ u name. names call (d .user) f u name) d v (door.does g call p d v f b)
-  unfolding door.does
+  unfolding door.does door.carries
   does-keeps LogIn = rw (← same) (log-in-keeps Nothing d v f b c)
   does-keeps Open = buffer-kept b (outcome-keeps Nothing d v f [] (openAct d v f) c (open-keeps d v f b c))
   does-keeps Close = buffer-kept b (outcome-keeps Nothing d v f [] (closeAct d v f) c (close-keeps d v f b c))
   does-keeps SearchFirst = outcome-keeps Nothing d v f b (searchFirstAct d v f b) c (first-keeps d v f b c)
   does-keeps SearchNext = block-kept f (outcome-keeps Nothing d v [] b (searchNextAct d v b) c (next-keeps d v f b c))
   does-keeps Delete = buffer-kept b (outcome-keeps _ d v f [] _ c (delete-keeps d v f c))
-  does-keeps ReadSequential = outcome-keeps Nothing d v f b (readSequentialAct d v f b) c (read-sequential-keeps d v f b c)
-  does-keeps WriteSequential = outcome-keeps _ d v f b _ c (write-sequential-keeps d v f b c)
+  does-keeps (Moves ReadSequential) = outcome-keeps Nothing d v f b (readSequentialAct d v f b) c (read-sequential-keeps d v f b c)
+  does-keeps (Moves WriteSequential) = outcome-keeps _ d v f b _ c (write-sequential-keeps d v f b c)
   does-keeps Make = buffer-kept b (outcome-keeps _ d v f [] _ c (make-keeps d v f c))
   does-keeps Rename = buffer-kept b (outcome-keeps _ d v f [] _ c (rename-keeps d v f c))
   does-keeps Protect = block-kept f (buffer-kept b (small-keeps Nothing d v [] [] [] (protectAct d) c (protect-small d)))
   does-keeps Attributes = buffer-kept b (outcome-keeps _ d v f [] _ c (attributes-keep d v f c))
   does-keeps User = block-kept f (buffer-kept b (small-keeps Nothing d v [] [] [] (userAct d p) c (user-small d p)))
-  does-keeps ReadRandom = outcome-keeps Nothing d v f b (readRandomAct d v f b) c (read-random-keeps d v f b c)
-  does-keeps WriteRandom = outcome-keeps _ d v f b _ c (write-random-keeps d v f b c small)
+  does-keeps (Moves ReadRandom) = outcome-keeps Nothing d v f b (readRandomAct d v f b) c (read-random-keeps d v f b c)
+  does-keeps (Moves WriteRandom) = outcome-keeps _ d v f b _ c (write-random-keeps d v f b c small)
   does-keeps Size = buffer-kept b (outcome-keeps Nothing d v f [] (sizeAct d v f) c (size-keeps d v f b c))
   does-keeps SetRandom = buffer-kept b (small-keeps Nothing d v [] f [] (setRandomAct d f) c (set-random-small d f))
-  does-keeps WriteZeroFill = outcome-keeps _ d v f b _ c (write-zero-fill-keeps d v f b c small)
-  does-keeps ReadSeveral =
+  does-keeps (Moves WriteZeroFill) = outcome-keeps _ d v f b _ c (write-zero-fill-keeps d v f b c small)
+  does-keeps (Moves ReadSeveral) =
       several-keeps readOne (λ w h u name. false) read-refuses (λ d v f b c. outcome-keeps Nothing d v f b (readSequentialAct d v f b) c (read-sequential-keeps d v f b c))
       (λ d v f b u name. refl) d v f b p c
-  does-keeps WriteSeveral = write-several-keeps d v f b p c
+  does-keeps (Moves WriteSeveral) = write-several-keeps d v f b p c
   does-keeps Unserved = outcome-keeps Nothing d v f b (deny NotServed) c denied

@@ -13,23 +13,24 @@ use Rattle.lists.specs.Bytes.{byte}
 use Rattle.lists.specs.Search.{anyFrom}
 use Rattle.lists.proofs.BoolLaws.{and-parts}
 use Rattle.lists.proofs.SearchLaws.{any-true, any-intro, any-false, any-none}
-use Rattle.volume.specs.declared.Geometry.{Geometry}
-use Rattle.volume.specs.Geometry.{lawful, bytes, slots}
+use Rattle.geometry.specs.declared.Geometry.{Geometry}
+use Rattle.geometry.specs.Geometry.{lawful, bytes, slots}
 use Rattle.volume.specs.Name.{nameOf, like}
-use Rattle.volume.specs.Entry.{Entry, isEmpty, places, blockIn, matches}
+use Rattle.volume.specs.Entry.{Entry, isEmpty, blockIn, matches}
+use Rattle.geometry.specs.Geometry.{places}
 use Rattle.volume.specs.Directory.{slotAt, mapSlots}
-use Rattle.volume.proofs.GeometryLaws.{bounds}
+use Rattle.geometry.proofs.GeometryLaws.{bounds}
 use Rattle.volume.proofs.DirectoryLaws.{slot-length}
-use Rattle.volume.proofs.SweepLaws.{mapSlots-length, mapSlots-slot, mapSlots-record}
+use Rattle.sweeping.proofs.SweepLaws.{mapSlots-length, mapSlots-slot, mapSlots-record}
 use Rattle.blocks.specs.Held.{holds}
 use Rattle.answers.specs.declared.Refusal.the-variants.{Closed}
 use Rattle.answers.specs.Refusal.{isNone, firstMet}
 use Rattle.answers.proofs.Ladder.{unmet}
-use Rattle.inspection.specs.GoodSlot.{inPlaces}
-use Rattle.naming.specs.declared.Edit.the-variants.{Erase}
-use Rattle.naming.specs.Sweep.{erased, changed}
-use Rattle.naming.specs.Delete.{freeMatches}
-use Rattle.writing.proofs.WriteLaws.{is-inside}
+use Rattle.goodslots.specs.GoodSlot.{inPlaces}
+use Rattle.sweeping.specs.declared.Edit.the-variants.{Erase}
+use Rattle.sweeping.specs.Sweep.{erased, changed}
+use Rattle.deleting.specs.Delete.{freeMatches}
+use Rattle.entries.proofs.InsideLaws.{is-inside}
 use Rattle.filecalls.specs.declared.Drive.{Drive}
 use Rattle.filecalls.specs.State.{isOpen}
 use Rattle.filecalls.specs.Outcome.{stored, storedAll, changedState}

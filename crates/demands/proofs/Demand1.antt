@@ -8,7 +8,7 @@ use Prim.Native.Nat.{ℕ, _%_, _<_}
 use native.Mathlib.Omega.{arith}
 use lib.Dec.{ltb, eqb}
 use borrow.Author.Tests.{eqb-true, lt-ltb, not-false}
-use Rattle.volume.specs.declared.Geometry.{Geometry}
+use Rattle.geometry.specs.declared.Geometry.{Geometry}
 use Rattle.answers.specs.declared.Refusal.{Refusal}
 use Rattle.answers.specs.declared.Refusal.the-variants.{Closed, NotServed}
 use Rattle.answers.specs.declared.Answer.{Answer}
@@ -16,12 +16,12 @@ use Rattle.answers.specs.declared.Answer.the-variants.{BadSlot, Refused}
 use Rattle.answers.specs.Refusal.{Test, test, refusalNumber, isNone, firstMet}
 use Rattle.answers.specs.Answer.{numberOf, succeeded}
 use Rattle.answers.proofs.Ladder.{unmet}
-use Rattle.naming.specs.Delete.{deleteTests}
-use Rattle.naming.specs.Make.{makeTests}
+use Rattle.deleting.specs.Delete.{deleteTests}
+use Rattle.making.specs.Make.{makeTests}
 use Rattle.naming.specs.Rename.{renameTests}
 use Rattle.reading.specs.Read.{readTests}
-use Rattle.writing.specs.Write.{writeTests}
-use Rattle.inspection.specs.GoodSlot.{lowestBad}
+use Rattle.deciding.specs.Write.{writeTests}
+use Rattle.goodslots.specs.GoodSlot.{lowestBad}
 use Rattle.filecalls.specs.declared.Drive.{Drive}
 use Rattle.filecalls.specs.Outcome.{Change, keeps, becomes, Store, Act, deny, done, unless, Outcome, outcome}
 use Rattle.filecalls.specs.State.{isOpen, closed}
@@ -33,12 +33,15 @@ use Rattle.filecalls.specs.Read.{sequentialTests, randomTests, readDone, readSe
 use Rattle.filecalls.specs.Write.{writeDone, writeSequentialAct, writeRandomAct, writeZeroFillAct}
 use Rattle.filecalls.specs.Small.{protectTests, protectAct, userTests, userAct, setRandomTests, setRandomAct}
 use Rattle.filecalls.proofs.StateLaws.{is-open}
-use Rattle.several.specs.Several.{Single, readOne, writeOne, severalTests, several}
+use Rattle.several.specs.Several.{Single, readOne, writeOne, several}
+use Rattle.lent.specs.Lent.{severalTests}
 use Rattle.several.proofs.SinglesLaws.{Refuses}
 use Rattle.several.proofs.SeveralLaws.{leaves-all, read-refuses, write-refuses}
-use Rattle.bdos.specs.declared.Call.{Call}
-use Rattle.bdos.specs.declared.Call.the-variants.{LogIn, Open, Close, SearchFirst, SearchNext, Delete, ReadSequential, WriteSequential, Make, Rename, Protect, Attributes, User, ReadRandom, WriteRandom, Size, SetRandom, WriteZeroFill, ReadSeveral, WriteSeveral, Unserved}
-use Rattle.bdos.specs.Step.{Asked, does, step}
+use Rattle.served.specs.declared.Call.{Call}
+use Rattle.served.specs.declared.Call.the-variants.{LogIn, Open, Close, SearchFirst, SearchNext, Delete, Make, Rename, Protect, Attributes, User, Size, SetRandom, Moves, Unserved}
+use Rattle.served.specs.declared.Transfer.the-variants.{ReadSequential, WriteSequential, ReadRandom, WriteRandom, WriteZeroFill, ReadSeveral, WriteSeveral}
+use Rattle.bdos.specs.Step.{carries, does, step}
+use Rattle.served.specs.Asked.{Asked}
 use Rattle.demands.specs.Order.{paperTable, numbersOf, reasons, inOrder, testsOf, refusalsOf, among, answersOf}
 use Rattle.demands.specs.Demand1.{call, tests, answer, Leaves, Demand1}
 use Rattle.demands.proofs.Says.{Says, was-met, was-none, number-among}
@@ -64,7 +67,7 @@ several-kept single refuses d v f b k h =
 
 call-kept : (g : Geometry) (k : Call) (p : ℕ) (d : Drive) (v f b : List ℕ) → k ≢ LogIn → succeeded (does g k p d v f b .answer) ≡ false
     → Leaves (does g k p d v f b) d v f b
-unfolding does
+unfolding does carries
 call-kept g LogIn p d v f b n h = absurd (n refl)
 call-kept g Open p d v f b n h =
     let k = kept d v f [] (openAct d v f) h in
@@ -79,8 +82,8 @@ call-kept g SearchNext p d v f b n h =
 call-kept g Delete p d v f b n h =
     let k = kept d v f [] (deleteAct d v f) h in
     record { state-is = k .state-is; volume-kept = k .volume-kept; block-kept = k .block-kept; buffer-kept = refl }
-call-kept g ReadSequential p d v f b n h = kept d v f b (readSequentialAct d v f b) h
-call-kept g WriteSequential p d v f b n h = kept d v f b (writeSequentialAct d v f b) h
+call-kept g (Moves ReadSequential) p d v f b n h = kept d v f b (readSequentialAct d v f b) h
+call-kept g (Moves WriteSequential) p d v f b n h = kept d v f b (writeSequentialAct d v f b) h
 call-kept g Make p d v f b n h =
     let k = kept d v f [] (makeAct d v f) h in
     record { state-is = k .state-is; volume-kept = k .volume-kept; block-kept = k .block-kept; buffer-kept = refl }
@@ -96,17 +99,17 @@ call-kept g Attributes p d v f b n h =
 call-kept g User p d v f b n h =
     let k = kept d [] [] [] (userAct d p) h in
     record { state-is = k .state-is; volume-kept = refl; block-kept = refl; buffer-kept = refl }
-call-kept g ReadRandom p d v f b n h = kept d v f b (readRandomAct d v f b) h
-call-kept g WriteRandom p d v f b n h = kept d v f b (writeRandomAct d v f b) h
+call-kept g (Moves ReadRandom) p d v f b n h = kept d v f b (readRandomAct d v f b) h
+call-kept g (Moves WriteRandom) p d v f b n h = kept d v f b (writeRandomAct d v f b) h
 call-kept g Size p d v f b n h =
     let k = kept d v f [] (sizeAct d v f) h in
     record { state-is = k .state-is; volume-kept = k .volume-kept; block-kept = k .block-kept; buffer-kept = refl }
 call-kept g SetRandom p d v f b n h =
     let k = kept d [] f [] (setRandomAct d f) h in
     record { state-is = k .state-is; volume-kept = refl; block-kept = k .block-kept; buffer-kept = refl }
-call-kept g WriteZeroFill p d v f b n h = kept d v f b (writeZeroFillAct d v f b) h
-call-kept g ReadSeveral p d v f b n h = several-kept readOne read-refuses d v f b p h
-call-kept g WriteSeveral p d v f b n h = several-kept writeOne write-refuses d v f b p h
+call-kept g (Moves WriteZeroFill) p d v f b n h = kept d v f b (writeZeroFillAct d v f b) h
+call-kept g (Moves ReadSeveral) p d v f b n h = several-kept readOne read-refuses d v f b p h
+call-kept g (Moves WriteSeveral) p d v f b n h = several-kept writeOne write-refuses d v f b p h
 call-kept g Unserved p d v f b n h = kept d v f b (deny NotServed) h
 
 -- ---- a refused log-in
@@ -120,7 +123,7 @@ log-in-closed g v h = go (isNone (firstMet (logInTests g v))) refl h
 
 closes : (g : Geometry) (k : Call) (p : ℕ) (d : Drive) (v f b : List ℕ) → k ≡ LogIn → succeeded (does g k p d v f b .answer) ≡ false
     → Leaves (does g k p d v f b) closed v f b
-unfolding does
+unfolding does carries
 closes g k p d v f b e h = rw e (record { state-is = log-in-closed g v (rw e at h); volume-kept = refl; block-kept = refl; buffer-kept = refl })
 
 -- ---- what each call's answer says of its tests
@@ -166,27 +169,27 @@ unserved-says d v f b = record { met = λ e. (refl, refl); none = λ e. absurd (
 
 module _ (g : Geometry) (p : ℕ) (d : Drive) (v f b : List ℕ) where
   pub call-says : (k : Call) → Says (does g k p d v f b .answer) (testsOf g k p d v f b) (answersOf k)
-  unfolding does openAct closeAct sizeAct searchFirstAct searchNextAct shown deleteAct makeAct renameAct attributesAct readSequentialAct readRandomAct readDone writeSequentialAct writeRandomAct writeZeroFillAct writeDone protectAct setRandomAct
+  unfolding does carries openAct closeAct sizeAct searchFirstAct searchNextAct shown deleteAct makeAct renameAct attributesAct readSequentialAct readRandomAct readDone writeSequentialAct writeRandomAct writeZeroFillAct writeDone protectAct setRandomAct
   call-says LogIn = log-in-says g v
   call-says Open = says d v f [] (testsOf g Open p d v f b) 4 _ _ _ _ _ (λ e. code-lt _)
   call-says Close = says d v f [] (testsOf g Close p d v f b) 4 _ _ _ _ _ (λ e. code-lt _)
   call-says SearchFirst = says d v f b (testsOf g SearchFirst p d v f b) 4 _ _ _ _ _ (λ e. code-lt _)
   call-says SearchNext = says d v [] b (testsOf g SearchNext p d v f b) 4 _ _ _ _ _ (λ e. code-lt _)
   call-says Delete = says d v f [] (testsOf g Delete p d v f b) 1 _ _ _ _ _ (λ e. omega arith)
-  call-says ReadSequential = says d v f b (testsOf g ReadSequential p d v f b) 1 _ _ _ _ _ (λ e. omega arith)
-  call-says WriteSequential = says d v f b (testsOf g WriteSequential p d v f b) 1 _ _ _ _ _ (λ e. omega arith)
+  call-says (Moves ReadSequential) = says d v f b (testsOf g (Moves ReadSequential) p d v f b) 1 _ _ _ _ _ (λ e. omega arith)
+  call-says (Moves WriteSequential) = says d v f b (testsOf g (Moves WriteSequential) p d v f b) 1 _ _ _ _ _ (λ e. omega arith)
   call-says Make = says d v f [] (testsOf g Make p d v f b) 4 _ _ _ _ _ (λ e. code-lt _)
   call-says Rename = says d v f [] (testsOf g Rename p d v f b) 1 _ _ _ _ _ (λ e. omega arith)
   call-says Protect = says d [] [] [] (testsOf g Protect p d v f b) 1 _ _ _ _ _ (λ e. omega arith)
   call-says Attributes = says d v f [] (testsOf g Attributes p d v f b) 1 _ _ _ _ _ (λ e. omega arith)
   call-says User = user-says d p
-  call-says ReadRandom = says d v f b (testsOf g ReadRandom p d v f b) 1 _ _ _ _ _ (λ e. omega arith)
-  call-says WriteRandom = says d v f b (testsOf g WriteRandom p d v f b) 1 _ _ _ _ _ (λ e. omega arith)
+  call-says (Moves ReadRandom) = says d v f b (testsOf g (Moves ReadRandom) p d v f b) 1 _ _ _ _ _ (λ e. omega arith)
+  call-says (Moves WriteRandom) = says d v f b (testsOf g (Moves WriteRandom) p d v f b) 1 _ _ _ _ _ (λ e. omega arith)
   call-says Size = says d v f [] (testsOf g Size p d v f b) 1 _ _ _ _ _ (λ e. omega arith)
   call-says SetRandom = says d [] f [] (testsOf g SetRandom p d v f b) 1 _ _ _ _ _ (λ e. omega arith)
-  call-says WriteZeroFill = says d v f b (testsOf g WriteZeroFill p d v f b) 1 _ _ _ _ _ (λ e. omega arith)
-  call-says ReadSeveral = read-says d v f b p
-  call-says WriteSeveral = write-says d v f b p
+  call-says (Moves WriteZeroFill) = says d v f b (testsOf g (Moves WriteZeroFill) p d v f b) 1 _ _ _ _ _ (λ e. omega arith)
+  call-says (Moves ReadSeveral) = read-says d v f b p
+  call-says (Moves WriteSeveral) = write-says d v f b p
   call-says Unserved = unserved-says d v f b
 
 -- ---- the order of tests, by computation
@@ -198,20 +201,20 @@ tests-are g Close p d v f b = refl
 tests-are g SearchFirst p d v f b = refl
 tests-are g SearchNext p d v f b = refl
 tests-are g Delete p d v f b = refl
-tests-are g ReadSequential p d v f b = refl
-tests-are g WriteSequential p d v f b = refl
+tests-are g (Moves ReadSequential) p d v f b = refl
+tests-are g (Moves WriteSequential) p d v f b = refl
 tests-are g Make p d v f b = refl
 tests-are g Rename p d v f b = refl
 tests-are g Protect p d v f b = refl
 tests-are g Attributes p d v f b = refl
 tests-are g User p d v f b = refl
-tests-are g ReadRandom p d v f b = refl
-tests-are g WriteRandom p d v f b = refl
+tests-are g (Moves ReadRandom) p d v f b = refl
+tests-are g (Moves WriteRandom) p d v f b = refl
 tests-are g Size p d v f b = refl
 tests-are g SetRandom p d v f b = refl
-tests-are g WriteZeroFill p d v f b = refl
-tests-are g ReadSeveral p d v f b = refl
-tests-are g WriteSeveral p d v f b = refl
+tests-are g (Moves WriteZeroFill) p d v f b = refl
+tests-are g (Moves ReadSeveral) p d v f b = refl
+tests-are g (Moves WriteSeveral) p d v f b = refl
 tests-are g Unserved p d v f b = refl
 
 in-table-order : (k : Call) → k ≢ Unserved → inOrder (refusalsOf k) paperTable ≡ true
@@ -221,20 +224,20 @@ in-table-order Close n = refl
 in-table-order SearchFirst n = refl
 in-table-order SearchNext n = refl
 in-table-order Delete n = refl
-in-table-order ReadSequential n = refl
-in-table-order WriteSequential n = refl
+in-table-order (Moves ReadSequential) n = refl
+in-table-order (Moves WriteSequential) n = refl
 in-table-order Make n = refl
 in-table-order Rename n = refl
 in-table-order Protect n = refl
 in-table-order Attributes n = refl
 in-table-order User n = refl
-in-table-order ReadRandom n = refl
-in-table-order WriteRandom n = refl
+in-table-order (Moves ReadRandom) n = refl
+in-table-order (Moves WriteRandom) n = refl
 in-table-order Size n = refl
 in-table-order SetRandom n = refl
-in-table-order WriteZeroFill n = refl
-in-table-order ReadSeveral n = refl
-in-table-order WriteSeveral n = refl
+in-table-order (Moves WriteZeroFill) n = refl
+in-table-order (Moves ReadSeveral) n = refl
+in-table-order (Moves WriteSeveral) n = refl
 in-table-order Unserved n = absurd (n refl)
 
 -- ---- all together

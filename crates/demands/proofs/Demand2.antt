@@ -15,23 +15,24 @@ use borrow.Author.Tests.{not-false, eqb-true, eq-eqb, leb-true, le-leb, le-ltb, 
 use Rattle.lists.specs.Search.{countFrom}
 use Rattle.lists.proofs.BoolLaws.{and-parts}
 use Rattle.lists.proofs.SearchLaws.{count-ext}
-use Rattle.volume.specs.declared.Geometry.{Geometry}
-use Rattle.volume.specs.Geometry.{lawful, bytes, slots, inside, placeOf}
+use Rattle.geometry.specs.declared.Geometry.{Geometry}
+use Rattle.geometry.specs.Geometry.{lawful, bytes, slots, inside, placeOf}
 use Rattle.volume.specs.Name.{nameOf}
-use Rattle.volume.proofs.GeometryLaws.{bounds}
+use Rattle.geometry.proofs.GeometryLaws.{bounds}
 use Rattle.blocks.specs.Held.{digit, holds, isFree, freeCount}
 use Rattle.blocks.proofs.WordsLaws.{length-words}
 use Rattle.answers.specs.declared.Refusal.the-variants.{Closed, VolumeLength, BadSlot, NoBlock}
 use Rattle.answers.specs.Refusal.{Test, test, refusalNumber, isNone, firstMet}
 use Rattle.answers.specs.Answer.{numberOf, valueOf, succeeded}
 use Rattle.answers.proofs.Ladder.{unmet, ladder-pass}
-use Rattle.inspection.specs.GoodSlot.{namedBelow, goodSlot, lowestBad}
-use Rattle.inspection.specs.Named.{named, heldOf}
-use Rattle.inspection.proofs.AcceptedLaws.{accepted, accepts, lowest-bad-le}
-use Rattle.inspection.proofs.NamedLaws.{holds-held}
-use Rattle.writing.specs.Write.{alloc, baseEntry, needsBlock, writeTests}
-use Rattle.writing.proofs.WriteLaws.{inside-is}
-use Rattle.writing.proofs.AllocLaws.{alloc-le, alloc-none, none-alloc}
+use Rattle.goodslots.specs.GoodSlot.{namedBelow, goodSlot, lowestBad}
+use Rattle.goodslots.specs.Named.{named, heldOf}
+use Rattle.goodslots.proofs.AcceptedLaws.{accepted, accepts, lowest-bad-le}
+use Rattle.goodslots.proofs.NamedLaws.{holds-held}
+use Rattle.deciding.specs.Write.{baseEntry, needsBlock, writeTests}
+use Rattle.entries.specs.Alloc.{alloc}
+use Rattle.entries.proofs.InsideLaws.{inside-is}
+use Rattle.entries.proofs.AllocLaws.{alloc-le, alloc-none, none-alloc}
 use Rattle.filecalls.specs.declared.Drive.{Drive}
 use Rattle.filecalls.specs.declared.Reply.{Reply}
 use Rattle.filecalls.specs.Outcome.{Outcome, left}
@@ -39,9 +40,10 @@ use Rattle.filecalls.specs.State.{isOpen, loggedIn}
 use Rattle.filecalls.specs.LogIn.{logInTests, logIn}
 use Rattle.filecalls.specs.Read.{sequentialTests, randomTests}
 use Rattle.filecalls.proofs.StateLaws.{is-open}
-use Rattle.bdos.specs.declared.Call.{Call}
-use Rattle.bdos.specs.declared.Call.the-variants.{LogIn}
-use Rattle.bdos.specs.Step.{Asked, does, step}
+use Rattle.served.specs.declared.Call.{Call}
+use Rattle.served.specs.declared.Call.the-variants.{LogIn}
+use Rattle.bdos.specs.Step.{does, step}
+use Rattle.served.specs.Asked.{Asked}
 use Rattle.demands.specs.Order.{testsOf, answersOf}
 use Rattle.demands.specs.Demand1.{call, tests, answer}
 use Rattle.demands.specs.Demand2.{Writes, sequential, direct, zero-filling, Reads, earlier, NoneFree, Sound, Present, Same, Demand2}

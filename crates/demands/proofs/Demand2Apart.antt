@@ -11,27 +11,31 @@ use lib.Dec.{eqb}
 use lib.ListN.{length}
 use borrow.Author.Tests.{ltb-true, eq-eqb}
 use Rattle.lists.proofs.BoolLaws.{and-left}
-use Rattle.volume.specs.declared.Geometry.{Geometry}
+use Rattle.geometry.specs.declared.Geometry.{Geometry}
 use Rattle.volume.specs.declared.Wanted.the-variants.{File, Group}
-use Rattle.volume.specs.Geometry.{lawful, bytes, slots, groupOf, placeOf}
-use Rattle.volume.specs.Entry.{Entry, isEmpty, extent, places, blockIn, ofFile, ofGroup}
+use Rattle.geometry.specs.Geometry.{lawful, bytes, slots, groupOf, placeOf}
+use Rattle.volume.specs.Entry.{Entry, isEmpty, extent, blockIn, ofFile, ofGroup}
+use Rattle.geometry.specs.Geometry.{places}
 use Rattle.volume.specs.Directory.{slotAt, findSlot}
 use Rattle.volume.specs.Record.{recordSlot, recordBlock}
 use Rattle.volume.proofs.DirectoryLaws.{slot-length}
 use Rattle.volume.proofs.FindLaws.{found-fits}
-use Rattle.volume.proofs.GeometryLaws.{bounds, place-lt}
+use Rattle.geometry.proofs.GeometryLaws.{bounds, place-lt}
 use Rattle.blocks.specs.Held.{holds, hold}
 use Rattle.blocks.proofs.HoldLaws.{length-hold, holds-hold-same, holds-hold-other}
 use Rattle.answers.specs.Refusal.{isNone, firstMet}
-use Rattle.inspection.specs.GoodSlot.{lowestBad}
-use Rattle.inspection.specs.Named.{named}
-use Rattle.inspection.proofs.AcceptedLaws.{good-entry, place-named, one-place}
-use Rattle.writing.specs.Write.{alloc, likeEntry, hasGroup, writeSlot, baseEntry, needsBlock, writeBlock, writeTests}
-use Rattle.writing.specs.WritePlan.{volumeAfter, heldAfter}
-use Rattle.writing.proofs.AllocLaws.{alloc-given}
+use Rattle.goodslots.specs.GoodSlot.{lowestBad}
+use Rattle.goodslots.specs.Named.{named}
+use Rattle.goodslots.proofs.AcceptedLaws.{good-entry, place-named, one-place}
+use Rattle.deciding.specs.Write.{hasGroup, writeSlot, baseEntry, needsBlock, writeBlock, writeTests}
+use Rattle.entries.specs.Grown.{likeEntry}
+use Rattle.entries.specs.Alloc.{alloc}
+use Rattle.deciding.specs.WritePlan.{volumeAfter, heldAfter}
+use Rattle.entries.proofs.AllocLaws.{alloc-given}
 use Rattle.writing.proofs.AfterLaws.{after-block, after-slot, after-slot-other}
-use Rattle.writing.proofs.GrowLaws.{written-other}
-use Rattle.writing.proofs.WriteLaws.{write-passed, inside-is}
+use Rattle.entries.proofs.GrowLaws.{written-other}
+use Rattle.deciding.proofs.WriteLaws.{write-passed}
+use Rattle.entries.proofs.InsideLaws.{inside-is}
 use Rattle.demands.proofs.Demand2Entries.{file-used, like-no-block}
 
 -- a place of the map of an entry

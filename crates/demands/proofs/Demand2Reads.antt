@@ -5,21 +5,21 @@ use mathlib.Core.Bool.{true, false}
 use mathlib.Core.List.{List}
 use Prim.Native.Nat.{ℕ, _/_, _%_, _+_, _≤_, _<_}
 use borrow.Author.Tests.{not-false, lt-leb}
-use Rattle.volume.specs.declared.Geometry.{Geometry}
+use Rattle.geometry.specs.declared.Geometry.{Geometry}
 use Rattle.volume.specs.declared.Wanted.the-variants.{File}
-use Rattle.volume.specs.Geometry.{lawful, slots, inside, groupOf, placeOf}
+use Rattle.geometry.specs.Geometry.{lawful, slots, inside, groupOf, placeOf}
 use Rattle.volume.specs.Name.{nameOf}
 use Rattle.volume.specs.Directory.{findSlot}
 use Rattle.volume.specs.Record.{recordSlot, present}
 use Rattle.volume.proofs.FindLaws.{group-file}
-use Rattle.volume.proofs.GeometryLaws.{place-lt}
+use Rattle.geometry.proofs.GeometryLaws.{place-lt}
 use Rattle.control.specs.Block.{position, random}
 use Rattle.answers.specs.declared.Refusal.{Refusal}
 use Rattle.answers.specs.declared.Refusal.the-variants.{Closed, NoFile, NoGroup, Absent}
 use Rattle.answers.specs.Refusal.{Test, isNone, firstMet}
 use Rattle.answers.proofs.Ladder.{unmet, ladder-pass}
 use Rattle.reading.specs.Read.{readBlock, readTests, readBytes}
-use Rattle.writing.proofs.WriteLaws.{is-inside}
+use Rattle.entries.proofs.InsideLaws.{is-inside}
 use Rattle.filecalls.specs.declared.Drive.{Drive}
 use Rattle.filecalls.specs.Outcome.{unless, Outcome, outcome}
 use Rattle.filecalls.specs.Ready.{Open}
@@ -28,9 +28,10 @@ use Rattle.filecalls.specs.Read.{sequentialTests, randomTests, readDone, readSe
 use Rattle.filecalls.proofs.OutcomeLaws as laws
 use Rattle.filecalls.proofs.StateLaws.{both-clear}
 use Rattle.filecalls.proofs.StateLaws.{is-open}
-use Rattle.bdos.specs.declared.Call.{Call}
-use Rattle.bdos.specs.declared.Call.the-variants.{ReadSequential, ReadRandom}
-use Rattle.bdos.specs.Step.{does}
+use Rattle.served.specs.declared.Call.{Call}
+use Rattle.served.specs.declared.Call.the-variants.{Moves}
+use Rattle.served.specs.declared.Transfer.the-variants.{ReadSequential, ReadRandom}
+use Rattle.bdos.specs.Step.{carries, does}
 use Rattle.demands.specs.Order.{testsOf}
 use Rattle.demands.specs.Demand2.{Reads, in-sequence, at-random, Present}
 use Rattle.demands.proofs.Demand2Apart.{Apart, group-used}
@@ -73,18 +74,18 @@ module _ (g : Geometry) (p : ℕ) (d : Drive) (v f b : List ℕ) where
 
   pub shows : {k : Call} {n : ℕ} {ts : List Test} → Reads d v f b k n ts → isNone (firstMet (testsOf g k p d v f b)) ≡ true
       → Present d f v n (does g k p d v f b .buffer)
-  unfolding does readSequentialAct readRandomAct
+  unfolding does carries readSequentialAct readRandomAct
   shows in-sequence e =
       let c = both-clear (sequentialTests d v f b) (readTests (d .geometry) v (d .user) (nameOf f) (position f) Absent) e in
       record {
         is-present = found-present (d .geometry) v (d .user) (nameOf f) (position f) Absent refl (c .1);
-        has-bytes = sym (buffer-left (position f) (position f % 128 + 1) (testsOf g ReadSequential p d v f b) e);
+        has-bytes = sym (buffer-left (position f) (position f % 128 + 1) (testsOf g (Moves ReadSequential) p d v f b) e);
       }
   shows at-random e =
       let c = both-clear (randomTests d v f b) (readTests (d .geometry) v (d .user) (nameOf f) (random f) NoGroup) e in
       record {
         is-present = found-present (d .geometry) v (d .user) (nameOf f) (random f) NoGroup refl (c .1);
-        has-bytes = sym (buffer-left (random f) (random f % 128) (testsOf g ReadRandom p d v f b) e);
+        has-bytes = sym (buffer-left (random f) (random f % 128) (testsOf g (Moves ReadRandom) p d v f b) e);
       }
 
   opened : {k : Call} {n : ℕ} {ts : List Test} → Reads d v f b k n ts → isNone (firstMet ts) ≡ true → Open d

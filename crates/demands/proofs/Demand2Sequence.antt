@@ -8,19 +8,22 @@ use Prim.Native.Nat.{ℕ, zero, suc, _+_, _%_, _<_}
 use native.Mathlib.Omega.{arith}
 use lib.ListN.{length, getD}
 use Rattle.lists.proofs.BoolLaws.{and-parts}
-use Rattle.volume.specs.declared.Geometry.{Geometry}
+use Rattle.geometry.specs.declared.Geometry.{Geometry}
 use Rattle.volume.specs.Name.{nameOf}
 use Rattle.volume.specs.Record.{present}
 use Rattle.control.specs.Block.{position, setTo}
 use Rattle.answers.specs.Refusal.{isNone, firstMet}
 use Rattle.answers.specs.Answer.{succeeded}
-use Rattle.writing.specs.WritePlan.{entryAfter}
-use Rattle.writing.proofs.WriteLaws.{length-entryAfter}
+use Rattle.deciding.specs.WritePlan.{entryAfter}
+use Rattle.deciding.proofs.WriteLaws.{length-entryAfter}
 use Rattle.filecalls.specs.declared.Drive.{Drive}
 use Rattle.filecalls.specs.Outcome.{Outcome}
 use Rattle.filecalls.specs.Write.{writeSequentialAct}
-use Rattle.bdos.specs.declared.Call.the-variants.{WriteSequential}
-use Rattle.bdos.specs.Step.{asked, callOf, does, step}
+use Rattle.served.specs.declared.Call.the-variants.{Moves}
+use Rattle.served.specs.declared.Transfer.the-variants.{WriteSequential}
+use Rattle.bdos.specs.Step.{carries, does, step}
+use Rattle.served.specs.Asked.{asked}
+use Rattle.served.specs.Calls.{callOf}
 use Rattle.demands.specs.Order.{testsOf}
 use Rattle.demands.specs.Demand2.{sequential, Present, allWritten, volumeAtEnd}
 use Rattle.demands.proofs.Says.{was-none}
@@ -42,14 +45,14 @@ pub record Next (d : Drive) (v f r : List ℕ) (o : Outcome) : Type 0 where
   pub apart : Apart (d .geometry) (d .held) v → Apart (d .geometry) (o .drive .held) (o .volume)
 
 module _ (g : Geometry) (p : ℕ) (d : Drive) (v f r : List ℕ) where
-  block-is : isNone (firstMet (testsOf g WriteSequential p d v f r)) ≡ true
-      → does g WriteSequential p d v f r .block ≡ setTo f (entryAfter (d .geometry) (d .held) v (d .user) (nameOf f) (position f)) (position f) (position f % 128 + 1)
-  unfolding does writeSequentialAct
-  block-is e = block-left d v f (position f) (position f % 128 + 1) false r (testsOf g WriteSequential p d v f r) e
+  block-is : isNone (firstMet (testsOf g (Moves WriteSequential) p d v f r)) ≡ true
+      → does g (Moves WriteSequential) p d v f r .block ≡ setTo f (entryAfter (d .geometry) (d .held) v (d .user) (nameOf f) (position f)) (position f) (position f % 128 + 1)
+  unfolding does carries writeSequentialAct
+  block-is e = block-left d v f (position f) (position f % 128 + 1) false r (testsOf g (Moves WriteSequential) p d v f r) e
 
-  pub next-call : succeeded (does g WriteSequential p d v f r .answer) ≡ true → Next d v f r (does g WriteSequential p d v f r)
+  pub next-call : succeeded (does g (Moves WriteSequential) p d v f r .answer) ≡ true → Next d v f r (does g (Moves WriteSequential) p d v f r)
   next-call h =
-      let e = was-none (call-says g p d v f r WriteSequential) h in
+      let e = was-none (call-says g p d v f r (Moves WriteSequential)) h in
       let w = call-wrote g p d v f r sequential e in
       let c = call-clear g p d v f r sequential e in
       let n = position f in

@@ -10,8 +10,8 @@ use lib.ListN.{length, set, length-set}
 use lib.Seq.{getD-set-same, getD-set-other}
 use Rattle.lists.specs.Bytes.{byte, part}
 use Rattle.lists.proofs.PartLaws.{length-part, byte-out, part-apart, part-part}
-use Rattle.volume.specs.declared.Geometry.{Geometry}
-use Rattle.volume.specs.Geometry.{bytes}
+use Rattle.geometry.specs.declared.Geometry.{Geometry}
+use Rattle.geometry.specs.Geometry.{bytes}
 use Rattle.volume.specs.Name.{strip, nameAt, nameOf}
 use Rattle.volume.specs.Entry.{Entry, countOf}
 use Rattle.volume.specs.Record.{present}
@@ -20,10 +20,10 @@ use Rattle.blocks.specs.Held.{hold}
 use Rattle.answers.specs.declared.Refusal.the-variants.{Protected}
 use Rattle.answers.specs.Refusal.{Test, isNone, firstMet}
 use Rattle.answers.proofs.Ladder.{unmet}
-use Rattle.writing.specs.Write.{needsBlock, writeBlock, writeTests}
-use Rattle.writing.specs.WritePlan.{entryAfter, volumeAfter, heldAfter}
+use Rattle.deciding.specs.Write.{needsBlock, writeBlock, writeTests}
+use Rattle.deciding.specs.WritePlan.{entryAfter, volumeAfter, heldAfter}
 use Rattle.writing.proofs.AfterLaws.{after-present}
-use Rattle.writing.proofs.HeadLaws.{head, head-set}
+use Rattle.entries.proofs.HeadLaws.{head, head-set}
 use Rattle.filecalls.specs.declared.Drive.{Drive}
 use Rattle.filecalls.specs.Outcome.{keeps, takes, unless, Outcome, outcome, withHeld, changedState, stored, storedAll}
 use Rattle.filecalls.specs.Ready.{Open, Lent}
@@ -34,9 +34,10 @@ use Rattle.filecalls.proofs.LentLaws.{sequential-lent, random-lent}
 use Rattle.filecalls.proofs.OutcomeLaws as laws
 use Rattle.filecalls.proofs.StateLaws.{both-clear, named-clear}
 use Rattle.filecalls.proofs.WriteLaws.{leaves}
-use Rattle.bdos.specs.declared.Call.{Call}
-use Rattle.bdos.specs.declared.Call.the-variants.{WriteSequential, WriteRandom, WriteZeroFill}
-use Rattle.bdos.specs.Step.{does}
+use Rattle.served.specs.declared.Call.{Call}
+use Rattle.served.specs.declared.Call.the-variants.{Moves}
+use Rattle.served.specs.declared.Transfer.the-variants.{WriteSequential, WriteRandom, WriteZeroFill}
+use Rattle.bdos.specs.Step.{carries, does}
 use Rattle.demands.specs.Order.{testsOf}
 use Rattle.demands.specs.Demand1.{answer}
 use Rattle.demands.specs.Demand2.{Writes, sequential, direct, zero-filling, Present}
@@ -110,10 +111,10 @@ module _ (g : Geometry) (p : ℕ) (d : Drive) (v f b : List ℕ) where
 
   pub call-wrote : {k : Call} {n : ℕ} {r : List ℕ} (w : Writes f b k n r) → isNone (firstMet (testsOf g k p d v f b)) ≡ true
       → Wrote d v f n (filling w) r (does g k p d v f b)
-  unfolding does writeSequentialAct writeRandomAct writeZeroFillAct
-  call-wrote sequential e = wrote d v f (position f) (position f % 128 + 1) false b (testsOf g WriteSequential p d v f b) e
-  call-wrote direct e = wrote d v f (random f) (random f % 128) false b (testsOf g WriteRandom p d v f b) e
-  call-wrote zero-filling e = wrote d v f (random f) (random f % 128) true b (testsOf g WriteZeroFill p d v f b) e
+  unfolding does carries writeSequentialAct writeRandomAct writeZeroFillAct
+  call-wrote sequential e = wrote d v f (position f) (position f % 128 + 1) false b (testsOf g (Moves WriteSequential) p d v f b) e
+  call-wrote direct e = wrote d v f (random f) (random f % 128) false b (testsOf g (Moves WriteRandom) p d v f b) e
+  call-wrote zero-filling e = wrote d v f (random f) (random f % 128) true b (testsOf g (Moves WriteZeroFill) p d v f b) e
 
   -- ---- one write: its record, the others, and blocks that stand apart
   module _ {k : Call} {n : ℕ} {r : List ℕ} (w : Writes f b k n r) (e : isNone (firstMet (testsOf g k p d v f b)) ≡ true) where

@@ -5,20 +5,22 @@ use mathlib.Core.Bool.{true, false, _&&_, _||_}
 use mathlib.Core.List.{List, [], _∷_}
 use Prim.Native.Nat.{ℕ, _≤_}
 use lib.ListN.{length}
-use Rattle.volume.specs.declared.Geometry.{Geometry}
-use Rattle.volume.specs.Geometry.{lawful, bytes, slots}
+use Rattle.geometry.specs.declared.Geometry.{Geometry}
+use Rattle.geometry.specs.Geometry.{lawful, bytes, slots}
 use Rattle.blocks.specs.Held.{freeCount}
 use Rattle.answers.specs.declared.Answer.the-variants.{Ready}
 use Rattle.answers.specs.Answer.{succeeded}
-use Rattle.inspection.specs.GoodSlot.{lowestBad}
-use Rattle.inspection.specs.Named.{heldOf}
-use Rattle.inspection.proofs.AcceptedLaws.{one-place}
-use Rattle.naming.proofs.EditLaws.{or-false}
+use Rattle.goodslots.specs.GoodSlot.{lowestBad}
+use Rattle.goodslots.specs.Named.{heldOf}
+use Rattle.goodslots.proofs.AcceptedLaws.{one-place}
+use Rattle.sweeping.proofs.EditLaws.{or-false}
 use Rattle.filecalls.specs.declared.Drive.{Drive}
 use Rattle.filecalls.specs.State.{loggedIn}
 use Rattle.filecalls.specs.Outcome.{Outcome, withHeld}
-use Rattle.bdos.specs.declared.Call.the-variants.{LogIn}
-use Rattle.bdos.specs.Step.{Asked, callOf, does, step}
+use Rattle.served.specs.declared.Call.the-variants.{LogIn}
+use Rattle.bdos.specs.Step.{does, step}
+use Rattle.served.specs.Asked.{Asked}
+use Rattle.served.specs.Calls.{callOf}
 use Rattle.demands.specs.Run.{Seen, seen, answers, final, plainStep}
 use Rattle.demands.specs.Demand3.{Bytes, BytesLent, touches, touched, Kept, Demand3, NoBlockTwice}
 use Rattle.demands.proofs.Inspected.{accepted-sound, sound-accepted, held-of}

@@ -8,14 +8,14 @@ use native.Mathlib.Omega.{arith}
 use lib.Dec.{eqb}
 use lib.ListN.{length}
 use Rattle.lists.specs.Bytes.{byte}
-use Rattle.volume.specs.declared.Geometry.{Geometry}
-use Rattle.volume.specs.Geometry.{lawful, bytes, slots, groupOf}
+use Rattle.geometry.specs.declared.Geometry.{Geometry}
+use Rattle.geometry.specs.Geometry.{lawful, bytes, slots, groupOf}
 use Rattle.volume.specs.Name.{nameOf, goodName, same}
 use Rattle.volume.specs.Entry.{Entry, extent, blockIn, ofFile}
 use Rattle.volume.specs.Directory.{slotAt, mapSlots}
 use Rattle.volume.proofs.DirectoryLaws.{slot-length}
-use Rattle.volume.proofs.SweepLaws.{mapSlots-length, mapSlots-slot, mapSlots-record}
-use Rattle.inspection.proofs.TwinLaws.{Twins}
+use Rattle.sweeping.proofs.SweepLaws.{mapSlots-length, mapSlots-slot, mapSlots-record}
+use Rattle.goodslots.proofs.TwinLaws.{Twins}
 use Rattle.demands.proofs.Orderly.{InOrder, Orderly, Changed, Held, sound-changed, held-changed}
 use Rattle.demands.proofs.Frame.{Touch, unchanged, foreign, Apart}
 use Rattle.demands.proofs.Files.{IsOf, is-of, of-file, other-file, file-block}

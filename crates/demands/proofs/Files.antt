@@ -10,12 +10,13 @@ use borrow.Author.Tests.{eqb-true, eq-eqb, ne-eqb}
 use Rattle.lists.specs.Bytes.{byte}
 use Rattle.lists.proofs.BoolLaws.{and-parts}
 use Rattle.volume.specs.Name.{nameOf, same, like}
-use Rattle.volume.specs.declared.Geometry.{Geometry}
-use Rattle.volume.specs.Geometry.{slots}
-use Rattle.volume.specs.Entry.{Entry, places, blockIn, ofFile, matches}
+use Rattle.geometry.specs.declared.Geometry.{Geometry}
+use Rattle.geometry.specs.Geometry.{slots}
+use Rattle.volume.specs.Entry.{Entry, blockIn, ofFile, matches}
+use Rattle.geometry.specs.Geometry.{places}
 use Rattle.volume.specs.Directory.{slotAt}
 use Rattle.volume.proofs.NameLaws.{same-refl, same-true}
-use Rattle.writing.proofs.WriteLaws.{inside-is}
+use Rattle.entries.proofs.InsideLaws.{inside-is}
 use Rattle.demands.proofs.Orderly.{Live, Orderly}
 
 pub record IsOf (u : ℕ) (name : List ℕ) (e : Entry) : Type 0 where

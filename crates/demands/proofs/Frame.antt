@@ -9,14 +9,15 @@ use lib.Dec.{ltb, eqb}
 use borrow.Author.Tests.{ltb-true, not-true, eqb-false}
 use Rattle.lists.proofs.BoolLaws.{and-left, and-right, and-parts}
 use Rattle.lists.proofs.SearchLaws.{low-ext}
-use Rattle.volume.specs.declared.Geometry.{Geometry}
+use Rattle.geometry.specs.declared.Geometry.{Geometry}
 use Rattle.volume.specs.declared.Wanted.the-variants.{Group}
-use Rattle.volume.specs.Geometry.{lawful, slots, groupOf, placeOf}
-use Rattle.volume.specs.Entry.{Entry, places, blockIn, countOf, ofFile, ofGroup}
+use Rattle.geometry.specs.Geometry.{lawful, slots, groupOf, placeOf}
+use Rattle.volume.specs.Entry.{Entry, blockIn, countOf, ofFile, ofGroup}
+use Rattle.geometry.specs.Geometry.{places}
 use Rattle.volume.specs.Directory.{slotAt, findSlot, slotFits}
 use Rattle.volume.specs.Record.{recordSlot, recordBlock, recordAt, counted, present}
 use Rattle.volume.proofs.FindLaws.{found-fits}
-use Rattle.volume.proofs.GeometryLaws.{place-lt}
+use Rattle.geometry.proofs.GeometryLaws.{place-lt}
 use Rattle.reading.specs.Read.{readBlock, readBytes}
 
 -- an entry is as it was, or it was none of the file's and is none

@@ -8,18 +8,19 @@ use native.Mathlib.Omega.{arith}
 use native.Mathlib.Decide.{ℕ-discrete}
 use lib.Dec.{eqb}
 use Rattle.lists.proofs.BoolLaws.{and-right}
-use Rattle.volume.specs.declared.Geometry.{Geometry}
-use Rattle.volume.specs.Geometry.{lawful, slots, inside}
-use Rattle.volume.specs.Entry.{isEmpty, places, blockIn}
+use Rattle.geometry.specs.declared.Geometry.{Geometry}
+use Rattle.geometry.specs.Geometry.{lawful, slots, inside}
+use Rattle.volume.specs.Entry.{isEmpty, blockIn}
+use Rattle.geometry.specs.Geometry.{places}
 use Rattle.volume.specs.Directory.{slotAt}
-use Rattle.volume.proofs.GeometryLaws.{bounds}
-use Rattle.inspection.specs.GoodSlot.{namedBelow, goodSlot, lowestBad}
-use Rattle.inspection.specs.Named.{named, heldOf}
-use Rattle.inspection.proofs.GoodLaws.{Good, is-good, fields-good, good-fields}
-use Rattle.inspection.proofs.TwinLaws.{twin, twin-true, twins}
-use Rattle.inspection.proofs.AcceptedLaws.{accepts, good-entry, one-place, one-entry}
-use Rattle.inspection.proofs.NamedLaws.{named-at, at-named, holds-held, words-held}
-use Rattle.writing.proofs.WriteLaws.{is-inside}
+use Rattle.geometry.proofs.GeometryLaws.{bounds}
+use Rattle.goodslots.specs.GoodSlot.{namedBelow, goodSlot, lowestBad}
+use Rattle.goodslots.specs.Named.{named, heldOf}
+use Rattle.goodslots.proofs.GoodLaws.{Good, is-good, fields-good, good-fields}
+use Rattle.goodslots.proofs.TwinLaws.{twin, twin-true, twins}
+use Rattle.goodslots.proofs.AcceptedLaws.{accepts, good-entry, one-place, one-entry}
+use Rattle.goodslots.proofs.NamedLaws.{named-at, at-named, holds-held, words-held}
+use Rattle.entries.proofs.InsideLaws.{is-inside}
 use Rattle.demands.proofs.Orderly.{Live, InOrder, Orderly, HeldBy, Held}
 
 module _ (g : Geometry) (v : List ℕ) where

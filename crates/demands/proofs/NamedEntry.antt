@@ -14,10 +14,10 @@ use Rattle.lists.proofs.PartLaws.{length-part, length-put, part-put, part-apart
 use Rattle.volume.specs.Name.{strip, nameAt, nameOf}
 use Rattle.volume.specs.Entry.{Entry}
 use Rattle.volume.proofs.NameLaws.{length-strip, byte-strip, strip-strip}
-use Rattle.inspection.specs.GoodSlot.{goodTopBits}
-use Rattle.inspection.proofs.GoodLaws.{top-bits-good, good-top-bits}
-use Rattle.naming.specs.Sweep.{marked, renamed, attributed}
-use Rattle.naming.proofs.EditLaws.{named-and-marked}
+use Rattle.goodslots.specs.GoodSlot.{goodTopBits}
+use Rattle.goodslots.proofs.GoodLaws.{top-bits-good, good-top-bits}
+use Rattle.sweeping.specs.Sweep.{marked, renamed, attributed}
+use Rattle.sweeping.proofs.EditLaws.{named-and-marked}
 
 -- ---- what an edit that gives an entry the name `to` owes
 pub record Renames (to : List ℕ) (e e′ : Entry) : Type 0 where

@@ -9,14 +9,15 @@ use mathlib.Core.List.{List}
 use Prim.Native.Nat.{ℕ, _≤_, _<_}
 use native.Mathlib.Decide.{ℕ-discrete}
 use lib.ListN.{length}
-use Rattle.volume.specs.declared.Geometry.{Geometry}
-use Rattle.volume.specs.Geometry.{slots, inside}
+use Rattle.geometry.specs.declared.Geometry.{Geometry}
+use Rattle.geometry.specs.Geometry.{slots, inside}
 use Rattle.volume.specs.Name.{nameOf, goodName}
-use Rattle.volume.specs.Entry.{Entry, isEmpty, places, blockIn}
+use Rattle.volume.specs.Entry.{Entry, isEmpty, blockIn}
+use Rattle.geometry.specs.Geometry.{places}
 use Rattle.blocks.specs.Held.{holds}
-use Rattle.inspection.specs.GoodSlot.{goodTopBits}
-use Rattle.inspection.proofs.GoodLaws.{Fields}
-use Rattle.inspection.proofs.TwinLaws.{Twins}
+use Rattle.goodslots.specs.GoodSlot.{goodTopBits}
+use Rattle.goodslots.proofs.GoodLaws.{Fields}
+use Rattle.goodslots.proofs.TwinLaws.{Twins}
 
 abbrev pub Directory : Type 0
 Directory = ℕ → Entry

@@ -10,7 +10,7 @@ use borrow.Author.Tests.{not-false, eqb-true, ltb-false}
 use Rattle.lists.specs.Bytes.{part}
 use Rattle.lists.proofs.PartLaws.{length-part}
 use Rattle.volume.specs.declared.Wanted.the-variants.{File}
-use Rattle.volume.specs.Geometry.{slots}
+use Rattle.geometry.specs.Geometry.{slots}
 use Rattle.volume.specs.Name.{nameAt, nameOf, goodName, same}
 use Rattle.volume.specs.Entry.{Entry, ofFile}
 use Rattle.volume.specs.Directory.{slotAt, findSlot}
@@ -19,8 +19,8 @@ use Rattle.control.specs.Block.{newName}
 use Rattle.answers.specs.declared.Refusal.the-variants.{Closed, VolumeLength, BlockLength, DriveCode, Name, Untypeable, Protected, NoMatch, ReadOnly, Exists}
 use Rattle.answers.specs.Refusal.{isNone, firstMet}
 use Rattle.answers.proofs.Ladder.{unmet}
-use Rattle.naming.specs.declared.Edit.the-variants.{Rename}
-use Rattle.naming.specs.Sweep.{renamed, changed}
+use Rattle.sweeping.specs.declared.Edit.the-variants.{Rename}
+use Rattle.sweeping.specs.Sweep.{renamed, changed}
 use Rattle.naming.specs.Rename.{renameTests}
 use Rattle.filecalls.specs.declared.Drive.{Drive}
 use Rattle.filecalls.specs.Outcome.{stored, storedAll, changedState}

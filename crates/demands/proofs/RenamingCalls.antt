@@ -11,21 +11,21 @@ use Rattle.lists.specs.Bytes.{byte, part}
 use Rattle.lists.proofs.PartLaws.{length-part}
 use Rattle.volume.specs.declared.Wanted.{Wanted}
 use Rattle.volume.specs.declared.Wanted.the-variants.{File, ReadOnlyFile}
-use Rattle.volume.specs.Geometry.{lawful, bytes, slots}
+use Rattle.geometry.specs.Geometry.{lawful, bytes, slots}
 use Rattle.volume.specs.Name.{strip, nameAt, same, goodName}
-use Rattle.volume.specs.Typing.{typeable}
+use Rattle.typing.specs.Typing.{typeable}
 use Rattle.volume.specs.Entry.{Entry, readOnly, ofFile}
 use Rattle.volume.specs.Directory.{slotAt, slotFits, findSlot, mapSlots}
 use Rattle.volume.proofs.NameLaws.{same-refl, byte-strip}
 use Rattle.volume.proofs.FindLaws.{found-fits, not-found, find-low}
 use Rattle.volume.proofs.DirectoryLaws.{slot-length}
-use Rattle.volume.proofs.SweepLaws.{mapSlots-length, mapSlots-slot}
+use Rattle.sweeping.proofs.SweepLaws.{mapSlots-length, mapSlots-slot}
 use Rattle.answers.specs.declared.Refusal.the-variants.{Closed, VolumeLength, BlockLength, DriveCode, Name, Untypeable, Protected, NoMatch, ReadOnly, Exists}
 use Rattle.answers.specs.declared.Answer.the-variants.{Done}
-use Rattle.naming.specs.declared.Edit.the-variants.{Rename}
-use Rattle.naming.specs.Sweep.{renamed, changed}
+use Rattle.sweeping.specs.declared.Edit.the-variants.{Rename}
+use Rattle.sweeping.specs.Sweep.{renamed, changed}
 use Rattle.naming.specs.Rename.{renameTests}
-use Rattle.naming.proofs.EditLaws.{changed-keeps}
+use Rattle.sweeping.proofs.EditLaws.{changed-keeps}
 use Rattle.filecalls.specs.declared.Drive.{Drive}
 use Rattle.filecalls.specs.State.{isOpen}
 use Rattle.filecalls.specs.Outcome.{keeps, eachEntry, done, stored, storedAll, changedState, outcome}

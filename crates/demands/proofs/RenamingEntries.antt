@@ -14,10 +14,10 @@ use Rattle.lists.proofs.PartLaws.{byte-part}
 use Rattle.volume.specs.Name.{strip, topBit, nameAt, nameOf}
 use Rattle.volume.specs.Entry.{Entry}
 use Rattle.volume.proofs.NameLaws.{length-strip, byte-strip}
-use Rattle.inspection.specs.GoodSlot.{goodTopBits}
-use Rattle.inspection.proofs.GoodLaws.{top-bits-good}
-use Rattle.naming.specs.Sweep.{marked, renamed}
-use Rattle.naming.proofs.EditLaws.{named-and-marked}
+use Rattle.goodslots.specs.GoodSlot.{goodTopBits}
+use Rattle.goodslots.proofs.GoodLaws.{top-bits-good}
+use Rattle.sweeping.specs.Sweep.{marked, renamed}
+use Rattle.sweeping.proofs.EditLaws.{named-and-marked}
 use Rattle.demands.proofs.NamedEntry.{Renames, marks-nine, marks-ten, marks-other, laid-length, laid-byte, rename-renames}
 
 -- ---- the bytes of the entry e under a name without top bits

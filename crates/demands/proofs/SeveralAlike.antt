@@ -12,7 +12,8 @@ use Rattle.answers.specs.Answer.{succeeded, whyOf}
 use Rattle.filecalls.specs.declared.Drive.{Drive}
 use Rattle.filecalls.specs.State.{isOpen}
 use Rattle.filecalls.specs.Outcome.{Outcome, withHeld}
-use Rattle.several.specs.Several.{Single, ended, onPiece, singles, severalTests, several}
+use Rattle.several.specs.Several.{Single, ended, onPiece, singles, several}
+use Rattle.lent.specs.Lent.{severalTests}
 use Rattle.demands.proofs.Orderly.{held-agree}
 use Rattle.demands.proofs.Acts.{Consistent}
 use Rattle.demands.proofs.Alike.{Alike, otherwiseHeld, alike-is}

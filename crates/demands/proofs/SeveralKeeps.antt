@@ -6,7 +6,7 @@ use mathlib.Core.List.{List}
 use Prim.Native.Nat.{ℕ, _*_, _≤_}
 use lib.Dec.{eqb}
 use Rattle.lists.specs.Bytes.{part}
-use Rattle.volume.specs.declared.Geometry.{Geometry}
+use Rattle.geometry.specs.declared.Geometry.{Geometry}
 use Rattle.volume.specs.Name.{nameOf, same}
 use Rattle.answers.specs.Answer.{succeeded}
 use Rattle.filecalls.specs.declared.Drive.{Drive}
@@ -15,7 +15,7 @@ use Rattle.filecalls.specs.Write.{writeSequentialAct}
 use Rattle.several.specs.Several.{Single, writeOne, onPiece, several}
 use Rattle.several.proofs.SinglesLaws.{Holds, Refuses}
 use Rattle.several.proofs.SeveralLaws as laws
-use Rattle.bdos.specs.Step.{does}
+use Rattle.bdos.specs.Step.{carries, does}
 use Rattle.demands.proofs.Acts.{Consistent, Leaves, leaves-all, StepKeeps, outcome-keeps}
 use Rattle.demands.proofs.WritesKeep.{write-sequential-keeps}
 use Rattle.demands.proofs.Demand2Sequence.{next-call}
@@ -80,7 +80,7 @@ module _ (d : Drive) (v f b : List ℕ) where
     name-is : nameOf (writeOne d v f b .block) ≡ nameOf f
 
   done-same : succeeded (writeOne d v f b .answer) ≡ true → SameFile
-  unfolding does
+  unfolding does carries
   done-same e = let n = next-call (d .geometry) 0 d v f b e in record { user-is = n .user-is; name-is = n .name-is }
 
   refused-same : succeeded (writeOne d v f b .answer) ≡ false → SameFile

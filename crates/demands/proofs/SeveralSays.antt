@@ -10,7 +10,7 @@ use lib.ListN.{length, drop}
 use borrow.Author.Tests.{eq-eqb}
 use Rattle.lists.specs.Bytes.{part}
 use Rattle.lists.proofs.PartLaws.{length-part}
-use Rattle.volume.specs.Geometry.{bytes}
+use Rattle.geometry.specs.Geometry.{bytes}
 use Rattle.volume.specs.Name.{nameOf}
 use Rattle.control.specs.Block.{position}
 use Rattle.answers.specs.declared.Refusal.{Refusal}
@@ -21,16 +21,19 @@ use Rattle.answers.specs.Refusal.{Test, refusalNumber, isNone, firstMet}
 use Rattle.answers.specs.Answer.{numberOf, succeeded, whyOf}
 use Rattle.answers.proofs.Ladder.{ladder-stop, ladder-pass}
 use Rattle.reading.specs.Read.{readTests}
-use Rattle.writing.specs.Write.{writeTests}
+use Rattle.deciding.specs.Write.{writeTests}
 use Rattle.filecalls.specs.declared.Drive.{Drive}
 use Rattle.filecalls.specs.Tests.{closedState, volumeLength, blockLength, bufferLength}
 use Rattle.filecalls.specs.Outcome.{Outcome, unless, outcome}
 use Rattle.filecalls.specs.Read.{sequentialTests, readDone, readSequentialAct}
 use Rattle.filecalls.specs.Write.{directoryTests, writeDone, writeSequentialAct}
-use Rattle.several.specs.Several.{Single, readOne, writeOne, onPiece, singles, severalTests, several}
+use Rattle.several.specs.Several.{Single, readOne, writeOne, onPiece, singles, several}
+use Rattle.lent.specs.Lent.{severalTests}
 use Rattle.several.proofs.SinglesLaws.{piece-answer, first-refused, first-done, stop-number}
-use Rattle.several.proofs.SeveralLaws.{Lent, lent, several-refused, several-passed}
-use Rattle.bdos.specs.declared.Call.the-variants.{ReadSequential, WriteSequential, ReadSeveral, WriteSeveral}
+use Rattle.several.proofs.SeveralLaws.{several-refused, several-passed}
+use Rattle.lent.proofs.LentLaws.{Lent, lent}
+use Rattle.served.specs.declared.Call.the-variants.{Moves}
+use Rattle.served.specs.declared.Transfer.the-variants.{ReadSequential, WriteSequential, ReadSeveral, WriteSeveral}
 use Rattle.demands.specs.Order.{numbersOf, reasons, blockTests, refusalsOf, among, answersOf}
 use Rattle.demands.proofs.Says.{Says, number-among}
 
@@ -140,12 +143,12 @@ one-more false false false true e x h = refl
 one-more false false false false true x h = refl
 one-more false false false false false x h = h
 
-pub read-says : (d : Drive) (v f b : List ℕ) (k : ℕ) → Says (several readOne d v f b k .answer) (severalTests d v f b k ++ (blockTests f ++ readRest d v f)) (answersOf ReadSeveral)
+pub read-says : (d : Drive) (v f b : List ℕ) (k : ℕ) → Says (several readOne d v f b k .answer) (severalTests d v f b k ++ (blockTests f ++ readRest d v f)) (answersOf (Moves ReadSeveral))
 unfolding sequentialTests readTests
-read-says = several-says readOne readRest read-single (answersOf ReadSeveral) refl
-    (λ d v f r n h. one-more (ltb n 1) (eqb n 32) (eqb n 33) (eqb n 34) (eqb n 46) (among n (numbersOf (drop 3 (refusalsOf ReadSequential)))) h)
+read-says = several-says readOne readRest read-single (answersOf (Moves ReadSeveral)) refl
+    (λ d v f r n h. one-more (ltb n 1) (eqb n 32) (eqb n 33) (eqb n 34) (eqb n 46) (among n (numbersOf (drop 3 (refusalsOf (Moves ReadSequential))))) h)
 
-pub write-says : (d : Drive) (v f b : List ℕ) (k : ℕ) → Says (several writeOne d v f b k .answer) (severalTests d v f b k ++ (blockTests f ++ writeRest d v f)) (answersOf WriteSeveral)
+pub write-says : (d : Drive) (v f b : List ℕ) (k : ℕ) → Says (several writeOne d v f b k .answer) (severalTests d v f b k ++ (blockTests f ++ writeRest d v f)) (answersOf (Moves WriteSeveral))
 unfolding sequentialTests writeTests
-write-says = several-says writeOne writeRest write-single (answersOf WriteSeveral) refl
-    (λ d v f r n h. one-more (ltb n 1) (eqb n 32) (eqb n 33) (eqb n 34) (eqb n 46) (among n (numbersOf (drop 3 (refusalsOf WriteSequential)))) h)
+write-says = several-says writeOne writeRest write-single (answersOf (Moves WriteSeveral)) refl
+    (λ d v f r n h. one-more (ltb n 1) (eqb n 32) (eqb n 33) (eqb n 34) (eqb n 46) (among n (numbersOf (drop 3 (refusalsOf (Moves WriteSequential))))) h)

@@ -2,11 +2,12 @@
 use mathlib.Core.Path.{_≡_, refl, sym, ap, _∙_}
 use mathlib.Core.List.{List, [], _∷_}
 use Prim.Native.Nat.{ℕ}
-use Rattle.volume.specs.declared.Geometry.{Geometry}
+use Rattle.geometry.specs.declared.Geometry.{Geometry}
 use Rattle.filecalls.specs.declared.Drive.{Drive}
 use Rattle.filecalls.specs.declared.Reply.{Reply}
 use Rattle.filecalls.specs.Outcome.{Outcome, left}
-use Rattle.bdos.specs.Step.{Asked, step}
+use Rattle.bdos.specs.Step.{step}
+use Rattle.served.specs.Asked.{Asked}
 use Rattle.demands.specs.Run.{Seen, seen, answers, final}
 use Rattle.demands.specs.Tie.{Ran, ended, called, IsStep, Tie}
 

@@ -12,25 +12,29 @@ use lib.ListN.{length}
 use borrow.Author.Tests.{ltb-true, ltb-false, eqb-true, eq-eqb}
 use Rattle.lists.specs.Bytes.{byte}
 use Rattle.lists.proofs.BoolLaws.{and-left, and-right}
-use Rattle.volume.specs.declared.Geometry.{Geometry}
+use Rattle.geometry.specs.declared.Geometry.{Geometry}
 use Rattle.volume.specs.declared.Wanted.the-variants.{Empty, File, Group}
-use Rattle.volume.specs.Geometry.{lawful, bytes, slots, inside, groupOf, placeOf}
+use Rattle.geometry.specs.Geometry.{lawful, bytes, slots, inside, groupOf, placeOf}
 use Rattle.volume.specs.Name.{nameOf, same}
-use Rattle.volume.specs.Entry.{Entry, isEmpty, extent, places, blockIn, ofFile, ofGroup}
+use Rattle.volume.specs.Entry.{Entry, isEmpty, extent, blockIn, ofFile, ofGroup}
+use Rattle.geometry.specs.Geometry.{places}
 use Rattle.volume.specs.Directory.{slotAt, findSlot}
 use Rattle.volume.specs.Record.{recordSlot, recordBlock, recordAt}
 use Rattle.volume.proofs.FindLaws.{found-fits, not-found}
-use Rattle.volume.proofs.GeometryLaws.{bounds, place-lt}
+use Rattle.geometry.proofs.GeometryLaws.{bounds, place-lt}
 use Rattle.volume.proofs.DirectoryLaws.{slot-length}
 use Rattle.blocks.specs.Held.{holds, hold}
 use Rattle.blocks.proofs.HoldLaws.{length-hold, holds-hold-same, holds-hold-other}
 use Rattle.answers.specs.Refusal.{isNone, firstMet}
-use Rattle.inspection.proofs.TwinLaws.{Twins}
-use Rattle.writing.specs.Write.{alloc, likeEntry, hasGroup, writeSlot, baseEntry, needsBlock, writeBlock, writeTests}
-use Rattle.writing.specs.WritePlan.{entryAfter, volumeAfter, heldAfter}
-use Rattle.writing.proofs.AllocLaws.{alloc-given}
-use Rattle.writing.proofs.GrowLaws.{written-block, written-other}
-use Rattle.writing.proofs.WriteLaws.{is-inside, length-base, write-passed}
+use Rattle.goodslots.proofs.TwinLaws.{Twins}
+use Rattle.deciding.specs.Write.{hasGroup, writeSlot, baseEntry, needsBlock, writeBlock, writeTests}
+use Rattle.entries.specs.Grown.{likeEntry}
+use Rattle.entries.specs.Alloc.{alloc}
+use Rattle.deciding.specs.WritePlan.{entryAfter, volumeAfter, heldAfter}
+use Rattle.entries.proofs.AllocLaws.{alloc-given}
+use Rattle.entries.proofs.GrowLaws.{written-block, written-other}
+use Rattle.deciding.proofs.WriteLaws.{length-base, write-passed}
+use Rattle.entries.proofs.InsideLaws.{is-inside}
 use Rattle.writing.proofs.AfterLaws.{after-file, after-group, after-size, after-slot, after-slot-other, after-record-other}
 use Rattle.demands.proofs.Orderly.{Live, InOrder, Orderly, Laid, Fresh, Held, InMap, HeldAnew, sound-laid, held-laid}
 use Rattle.demands.proofs.Frame.{Touch, unchanged, foreign, Apart}

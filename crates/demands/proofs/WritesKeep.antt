@@ -12,8 +12,8 @@ use Rattle.control.specs.Block.{position, random}
 use Rattle.answers.specs.declared.Refusal.the-variants.{Protected}
 use Rattle.answers.specs.Refusal.{isNone, firstMet}
 use Rattle.answers.proofs.Ladder.{unmet}
-use Rattle.writing.specs.Write.{needsBlock, writeBlock, writeTests}
-use Rattle.writing.specs.WritePlan.{volumeAfter}
+use Rattle.deciding.specs.Write.{needsBlock, writeBlock, writeTests}
+use Rattle.deciding.specs.WritePlan.{volumeAfter}
 use Rattle.filecalls.specs.declared.Drive.{Drive}
 use Rattle.filecalls.specs.Ready.{Open}
 use Rattle.filecalls.specs.Outcome.{keeps, takes, stored, storedAll, changedState, withHeld}

@@ -7,15 +7,15 @@ use native.Mathlib.Decide.{decLt}
 use lib.ListN.{length, set, length-set}
 use lib.Seq.{getD-set-same, getD-set-other}
 use Rattle.lists.specs.Bytes.{byte}
-use Rattle.volume.specs.declared.Geometry.{Geometry}
-use Rattle.volume.specs.Geometry.{placeOf}
+use Rattle.geometry.specs.declared.Geometry.{Geometry}
+use Rattle.geometry.specs.Geometry.{placeOf}
 use Rattle.volume.specs.Name.{nameOf}
 use Rattle.volume.specs.Entry.{Entry, extent, withBlock}
-use Rattle.inspection.specs.GoodSlot.{goodTopBits}
-use Rattle.inspection.proofs.GoodLaws.{Fields, top-bits-good, good-top-bits}
-use Rattle.writing.specs.Write.{grown, writtenEntry}
-use Rattle.writing.proofs.HeadLaws.{head-byte, head-name}
-use Rattle.writing.proofs.GrowLaws.{grown-later, grown-own, grown-earlier, byte-grown, head-written, length-written}
+use Rattle.goodslots.specs.GoodSlot.{goodTopBits}
+use Rattle.goodslots.proofs.GoodLaws.{Fields, top-bits-good, good-top-bits}
+use Rattle.entries.specs.Grown.{grown, writtenEntry}
+use Rattle.entries.proofs.HeadLaws.{head-byte, head-name}
+use Rattle.entries.proofs.GrowLaws.{grown-later, grown-own, grown-earlier, byte-grown, head-written, length-written}
 
 module _ (e : Entry) (n : ℕ) (e32 : length e ≡ 32) (n< : n < 65536) (f : Fields e) where
   grown-fields : Fields (grown e n)

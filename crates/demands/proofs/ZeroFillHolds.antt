@@ -8,21 +8,21 @@ use Prim.Native.Nat.{ℕ, _+_, _*_, _/_, _%_}
 use native.Mathlib.Nat.{div-add-mod'}
 use lib.ListN.{length, replicate}
 use Rattle.lists.specs.Bytes.{byte}
-use Rattle.volume.specs.declared.Geometry.{Geometry}
+use Rattle.geometry.specs.declared.Geometry.{Geometry}
 use Rattle.volume.specs.declared.Wanted.the-variants.{Group}
-use Rattle.volume.specs.Geometry.{lawful, bytes, records, placeOf}
+use Rattle.geometry.specs.Geometry.{lawful, bytes, records, placeOf}
 use Rattle.volume.specs.Name.{nameOf}
 use Rattle.volume.specs.Entry.{Entry, blockIn}
 use Rattle.volume.specs.Directory.{slotAt, findSlot}
 use Rattle.volume.specs.Record.{recordSlot, recordBlock, recordAt, OffBlock}
-use Rattle.volume.proofs.GeometryLaws.{same-place, same-group}
+use Rattle.geometry.proofs.GeometryLaws.{same-place, same-group}
 use Rattle.control.specs.Block.{random, setTo}
 use Rattle.answers.specs.declared.Answer.the-variants.{Done, Refused}
 use Rattle.answers.specs.Refusal.{Test, isNone, firstMet}
 use Rattle.answers.specs.Answer.{succeeded}
 use Rattle.reading.specs.Read.{readBlock, readBytes}
-use Rattle.writing.specs.Write.{needsBlock, writeBlock, writeSlot, writeTests}
-use Rattle.writing.specs.WritePlan.{entryAfter, volumeAfter, heldAfter}
+use Rattle.deciding.specs.Write.{needsBlock, writeBlock, writeSlot, writeTests}
+use Rattle.deciding.specs.WritePlan.{entryAfter, volumeAfter, heldAfter}
 use Rattle.writing.proofs.AfterLaws.{after-size, after-byte, after-block, after-slot, after-recordSlot, after-record-within}
 use Rattle.filecalls.specs.declared.Drive.{Drive}
 use Rattle.filecalls.specs.Outcome.{Outcome, outcome, unless, withHeld}
@@ -30,7 +30,9 @@ use Rattle.filecalls.specs.Read.{randomTests}
 use Rattle.filecalls.specs.Write.{directoryTests, writeDone, writeDirectAct, writeRandomAct, writeZeroFillAct}
 use Rattle.filecalls.proofs.OutcomeLaws as laws
 use Rattle.filecalls.proofs.WriteLaws.{leaves}
-use Rattle.bdos.specs.Step.{callOf, does, asked, step}
+use Rattle.bdos.specs.Step.{carries, does, step}
+use Rattle.served.specs.Asked.{asked}
+use Rattle.served.specs.Calls.{callOf}
 use Rattle.demands.specs.Demand2.{Present}
 use Rattle.demands.specs.ZeroFill.{by34, by40, gives, blockOf, ZeroFill}
 use Rattle.demands.proofs.Demand2Writes.{Clear, clear-random}
@@ -149,7 +151,7 @@ module _ (d : Drive) (v f b : List ℕ) where
   volume-is e = ap (λ (o : Outcome). o .volume) (result-is true true e)
 
 pub zero-fill : ZeroFill
-unfolding step does callOf writeRandomAct writeZeroFillAct
+unfolding step does carries callOf writeRandomAct writeZeroFillAct
 zero-fill = record {
   same-answer = λ g p d v f b. alike d v f b (λ o. o .answer) (λ t e. ap (λ (o : Outcome). o .answer) (but-volume d v f b t));
   same-state = λ g p d v f b. alike d v f b (λ o. o .drive) (λ t e. ap (λ (o : Outcome). o .drive) (but-volume d v f b t));

@@ -11,38 +11,40 @@ use mathlib.Core.List.{List, [], _∷_}
 use Prim.Native.Nat.{ℕ, _+_, _-_, _≤_, _<_}
 use lib.ListN.{length, getD}
 use Rattle.lists.specs.Search.{countFrom}
-use Rattle.volume.specs.declared.Geometry.{Geometry}
-use Rattle.volume.specs.Geometry.{lawful, bytes, slots}
+use Rattle.geometry.specs.declared.Geometry.{Geometry}
+use Rattle.geometry.specs.Geometry.{lawful, bytes, slots}
 use Rattle.volume.specs.Name.{nameOf}
 use Rattle.volume.specs.Record.{present}
 use Rattle.control.specs.Block.{position, random}
 use Rattle.blocks.specs.Held.{holds}
 use Rattle.answers.specs.Refusal.{Test, isNone, firstMet}
 use Rattle.answers.specs.Answer.{numberOf, valueOf, succeeded}
-use Rattle.inspection.specs.GoodSlot.{namedBelow, goodSlot, lowestBad}
-use Rattle.inspection.specs.Named.{named}
+use Rattle.goodslots.specs.GoodSlot.{namedBelow, goodSlot, lowestBad}
+use Rattle.goodslots.specs.Named.{named}
 use Rattle.reading.specs.Read.{readBytes}
-use Rattle.writing.specs.Write.{needsBlock}
+use Rattle.deciding.specs.Write.{needsBlock}
 use Rattle.filecalls.specs.declared.Drive.{Drive}
 use Rattle.filecalls.specs.declared.Reply.{Reply}
 use Rattle.filecalls.specs.Outcome.{left}
 use Rattle.filecalls.specs.Read.{sequentialTests, randomTests}
-use Rattle.bdos.specs.declared.Call.{Call}
-use Rattle.bdos.specs.declared.Call.the-variants.{LogIn, ReadSequential, WriteSequential, ReadRandom, WriteRandom, WriteZeroFill}
-use Rattle.bdos.specs.Step.{Asked, asked, step}
+use Rattle.served.specs.declared.Call.{Call}
+use Rattle.served.specs.declared.Call.the-variants.{LogIn, Moves}
+use Rattle.served.specs.declared.Transfer.the-variants.{ReadSequential, WriteSequential, ReadRandom, WriteRandom, WriteZeroFill}
+use Rattle.bdos.specs.Step.{step}
+use Rattle.served.specs.Asked.{Asked, asked}
 use Rattle.demands.specs.Demand1.{call, tests, answer}
 
 -- ---- what the statement is written with
 -- one of the writes: given control block and buffer, the record that it means and the bytes that it writes there
 pub data Writes (f b : List ℕ) : Call → ℕ → List ℕ → Type 0 where
-  sequential : Writes f b WriteSequential (position f) b
-  direct : Writes f b WriteRandom (random f) b
-  zero-filling : Writes f b WriteZeroFill (random f) b
+  sequential : Writes f b (Moves WriteSequential) (position f) b
+  direct : Writes f b (Moves WriteRandom) (random f) b
+  zero-filling : Writes f b (Moves WriteZeroFill) (random f) b
 
 -- one of the reads: the record that it means, and its tests of what is lent
 pub data Reads (d : Drive) (v f b : List ℕ) : Call → ℕ → List Test → Type 0 where
-  in-sequence : Reads d v f b ReadSequential (position f) (sequentialTests d v f b)
-  at-random : Reads d v f b ReadRandom (random f) (randomTests d v f b)
+  in-sequence : Reads d v f b (Moves ReadSequential) (position f) (sequentialTests d v f b)
+  at-random : Reads d v f b (Moves ReadRandom) (random f) (randomTests d v f b)
 
 -- all tests but the last
 abbrev pub earlier : List Test → List Test

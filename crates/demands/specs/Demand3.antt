@@ -17,20 +17,24 @@ use Prim.Native.Nat.{ℕ, _≤_, _<_}
 use lib.Dec.{eqb}
 use lib.ListN.{length}
 use Rattle.lists.specs.Bytes.{byte}
-use Rattle.volume.specs.declared.Geometry.{Geometry}
-use Rattle.volume.specs.Geometry.{lawful, bytes, slots}
+use Rattle.geometry.specs.declared.Geometry.{Geometry}
+use Rattle.geometry.specs.Geometry.{lawful, bytes, slots}
 use Rattle.volume.specs.Name.{nameOf, same, like}
-use Rattle.volume.specs.Entry.{isEmpty, places, blockIn}
+use Rattle.volume.specs.Entry.{isEmpty, blockIn}
+use Rattle.geometry.specs.Geometry.{places}
 use Rattle.volume.specs.Directory.{slotAt}
 use Rattle.volume.specs.Record.{present}
 use Rattle.control.specs.Block.{newName}
 use Rattle.answers.specs.Answer.{succeeded}
-use Rattle.inspection.specs.GoodSlot.{lowestBad}
+use Rattle.goodslots.specs.GoodSlot.{lowestBad}
 use Rattle.reading.specs.Read.{readBytes}
 use Rattle.filecalls.specs.declared.Drive.{Drive}
-use Rattle.bdos.specs.declared.Call.{Call}
-use Rattle.bdos.specs.declared.Call.the-variants.{LogIn, Open, Close, SearchFirst, SearchNext, Delete, ReadSequential, WriteSequential, Make, Rename, Protect, Attributes, User, ReadRandom, WriteRandom, Size, SetRandom, WriteZeroFill, ReadSeveral, WriteSeveral, Unserved}
-use Rattle.bdos.specs.Step.{Asked, callOf, step}
+use Rattle.served.specs.declared.Call.{Call}
+use Rattle.served.specs.declared.Call.the-variants.{LogIn, Open, Close, SearchFirst, SearchNext, Delete, Make, Rename, Protect, Attributes, User, Size, SetRandom, Moves, Unserved}
+use Rattle.served.specs.declared.Transfer.the-variants.{ReadSequential, WriteSequential, ReadRandom, WriteRandom, WriteZeroFill, ReadSeveral, WriteSeveral}
+use Rattle.bdos.specs.Step.{step}
+use Rattle.served.specs.Asked.{Asked}
+use Rattle.served.specs.Calls.{callOf}
 use Rattle.demands.specs.Run.{answers, final, plainStep}
 
 -- bytes are below 256
@@ -45,20 +49,20 @@ BytesLent (c ∷ cs) = Bytes (c .block) × BytesLent cs
 abbrev pub names : Call → ℕ → List ℕ → ℕ → List ℕ → Bool
 names Delete w f u name = eqb u w && like name (nameOf f)
 names Make w f u name = eqb u w && same name (nameOf f)
-names WriteSequential w f u name = eqb u w && same name (nameOf f)
-names WriteRandom w f u name = eqb u w && same name (nameOf f)
-names WriteZeroFill w f u name = eqb u w && same name (nameOf f)
+names (Moves WriteSequential) w f u name = eqb u w && same name (nameOf f)
+names (Moves WriteRandom) w f u name = eqb u w && same name (nameOf f)
+names (Moves WriteZeroFill) w f u name = eqb u w && same name (nameOf f)
 names Attributes w f u name = eqb u w && same name (nameOf f)
 names Rename w f u name = eqb u w && (same name (nameOf f) || same name (newName f))
-names WriteSeveral w f u name = eqb u w && same name (nameOf f)
+names (Moves WriteSeveral) w f u name = eqb u w && same name (nameOf f)
 names LogIn w f u name = false
 names Open w f u name = false
 names Close w f u name = false
 names SearchFirst w f u name = false
 names SearchNext w f u name = false
-names ReadSequential w f u name = false
-names ReadRandom w f u name = false
-names ReadSeveral w f u name = false
+names (Moves ReadSequential) w f u name = false
+names (Moves ReadRandom) w f u name = false
+names (Moves ReadSeveral) w f u name = false
 names Size w f u name = false
 names Protect w f u name = false
 names User w f u name = false

@@ -4,7 +4,7 @@ use mathlib.Core.Bool.{Bool, true, false, cond, _||_}
 use mathlib.Core.List.{List, [], _∷_, _++_}
 use Prim.Native.Nat.{ℕ}
 use lib.Dec.{ltb, eqb}
-use Rattle.volume.specs.declared.Geometry.{Geometry}
+use Rattle.geometry.specs.declared.Geometry.{Geometry}
 use Rattle.volume.specs.Name.{nameOf}
 use Rattle.control.specs.Block.{position, positionFits, random}
 use Rattle.answers.specs.declared.Refusal.{Refusal}
@@ -20,9 +20,10 @@ use Rattle.filecalls.specs.Names.{deleteLadder, makeLadder, renameLadder, attri
 use Rattle.filecalls.specs.Read.{sequentialTests, randomTests}
 use Rattle.filecalls.specs.Write.{directoryTests}
 use Rattle.filecalls.specs.Small.{protectTests, userTests, setRandomTests}
-use Rattle.several.specs.Several.{severalTests}
-use Rattle.bdos.specs.declared.Call.{Call}
-use Rattle.bdos.specs.declared.Call.the-variants.{LogIn, Open, Close, SearchFirst, SearchNext, Delete, ReadSequential, WriteSequential, Make, Rename, Protect, Attributes, User, ReadRandom, WriteRandom, Size, SetRandom, WriteZeroFill, ReadSeveral, WriteSeveral, Unserved}
+use Rattle.lent.specs.Lent.{severalTests}
+use Rattle.served.specs.declared.Call.{Call}
+use Rattle.served.specs.declared.Call.the-variants.{LogIn, Open, Close, SearchFirst, SearchNext, Delete, Make, Rename, Protect, Attributes, User, Size, SetRandom, Moves, Unserved}
+use Rattle.served.specs.declared.Transfer.the-variants.{ReadSequential, WriteSequential, ReadRandom, WriteRandom, WriteZeroFill, ReadSeveral, WriteSeveral}
 
 -- the paper's table from top to bottom, 46 "straight before 35" and 45 "straight after 39"; "5 .. make answers 255 here" is two
 -- cases of one row
@@ -94,20 +95,20 @@ testsOf g Close p d v f b = closeTests d v f
 testsOf g SearchFirst p d v f b = firstTests d v f b
 testsOf g SearchNext p d v f b = nextTests d v b
 testsOf g Delete p d v f b = deleteLadder d v f
-testsOf g ReadSequential p d v f b = sequentialTests d v f b ++ readTests (d .geometry) v (d .user) (nameOf f) (position f) Absent
-testsOf g WriteSequential p d v f b = sequentialTests d v f b ++ directoryTests d v f (position f)
+testsOf g (Moves ReadSequential) p d v f b = sequentialTests d v f b ++ readTests (d .geometry) v (d .user) (nameOf f) (position f) Absent
+testsOf g (Moves WriteSequential) p d v f b = sequentialTests d v f b ++ directoryTests d v f (position f)
 testsOf g Make p d v f b = makeLadder d v f
 testsOf g Rename p d v f b = renameLadder d v f
 testsOf g Protect p d v f b = protectTests d
 testsOf g Attributes p d v f b = attributesLadder d v f
 testsOf g User p d v f b = userTests d p
-testsOf g ReadRandom p d v f b = randomTests d v f b ++ readTests (d .geometry) v (d .user) (nameOf f) (random f) NoGroup
-testsOf g WriteRandom p d v f b = randomTests d v f b ++ directoryTests d v f (random f)
+testsOf g (Moves ReadRandom) p d v f b = randomTests d v f b ++ readTests (d .geometry) v (d .user) (nameOf f) (random f) NoGroup
+testsOf g (Moves WriteRandom) p d v f b = randomTests d v f b ++ directoryTests d v f (random f)
 testsOf g Size p d v f b = sizeTests d v f
 testsOf g SetRandom p d v f b = setRandomTests d f
-testsOf g WriteZeroFill p d v f b = randomTests d v f b ++ directoryTests d v f (random f)
-testsOf g ReadSeveral p d v f b = severalTests d v f b p ++ (blockTests f ++ readTests (d .geometry) v (d .user) (nameOf f) (position f) Absent)
-testsOf g WriteSeveral p d v f b = severalTests d v f b p ++ (blockTests f ++ directoryTests d v f (position f))
+testsOf g (Moves WriteZeroFill) p d v f b = randomTests d v f b ++ directoryTests d v f (random f)
+testsOf g (Moves ReadSeveral) p d v f b = severalTests d v f b p ++ (blockTests f ++ readTests (d .geometry) v (d .user) (nameOf f) (position f) Absent)
+testsOf g (Moves WriteSeveral) p d v f b = severalTests d v f b p ++ (blockTests f ++ directoryTests d v f (position f))
 testsOf g Unserved p d v f b = test NotServed true ∷ []
 
 -- the refusals of every call, as the paper's table gives them
@@ -118,9 +119,9 @@ refusalsOf Close = Closed ∷ VolumeLength ∷ BlockLength ∷ DriveCode ∷ Nam
 refusalsOf SearchFirst = Closed ∷ VolumeLength ∷ BlockLength ∷ BufferLength ∷ DriveCode ∷ Name ∷ Position ∷ NoMatch ∷ []
 refusalsOf SearchNext = Closed ∷ VolumeLength ∷ BufferLength ∷ NoMatch ∷ []
 refusalsOf Delete = Closed ∷ VolumeLength ∷ BlockLength ∷ DriveCode ∷ Name ∷ Protected ∷ NoMatch ∷ ReadOnly ∷ []
-refusalsOf ReadSequential =
+refusalsOf (Moves ReadSequential) =
     Closed ∷ VolumeLength ∷ BlockLength ∷ BufferLength ∷ DriveCode ∷ Name ∷ Position ∷ Beyond ∷ NoFile ∷ Absent ∷ Absent ∷ Outside ∷ []
-refusalsOf WriteSequential =
+refusalsOf (Moves WriteSequential) =
     Closed ∷ VolumeLength ∷ BlockLength ∷ BufferLength ∷ DriveCode ∷ Name ∷ Position ∷ Beyond ∷ Protected ∷ NoFile ∷ ReadOnly ∷ Outside
     ∷ NoSlot ∷ NoBlock ∷ []
 refusalsOf Make = Closed ∷ VolumeLength ∷ BlockLength ∷ DriveCode ∷ Name ∷ Untypeable ∷ Position ∷ Protected ∷ Exists ∷ NoRoom ∷ []
@@ -128,19 +129,19 @@ refusalsOf Rename = Closed ∷ VolumeLength ∷ BlockLength ∷ DriveCode ∷ Na
 refusalsOf Protect = Closed ∷ []
 refusalsOf Attributes = Closed ∷ VolumeLength ∷ BlockLength ∷ DriveCode ∷ Name ∷ Protected ∷ NoMatch ∷ []
 refusalsOf User = Closed ∷ UserCode ∷ []
-refusalsOf ReadRandom =
+refusalsOf (Moves ReadRandom) =
     Closed ∷ VolumeLength ∷ BlockLength ∷ BufferLength ∷ DriveCode ∷ Name ∷ Beyond ∷ NoFile ∷ NoGroup ∷ Absent ∷ Outside ∷ []
-refusalsOf WriteRandom =
+refusalsOf (Moves WriteRandom) =
     Closed ∷ VolumeLength ∷ BlockLength ∷ BufferLength ∷ DriveCode ∷ Name ∷ Beyond ∷ Protected ∷ NoFile ∷ ReadOnly ∷ Outside ∷ NoSlot
     ∷ NoBlock ∷ []
 refusalsOf Size = Closed ∷ VolumeLength ∷ BlockLength ∷ DriveCode ∷ Name ∷ NoMatch ∷ []
 refusalsOf SetRandom = Closed ∷ BlockLength ∷ DriveCode ∷ Position ∷ []
-refusalsOf WriteZeroFill =
+refusalsOf (Moves WriteZeroFill) =
     Closed ∷ VolumeLength ∷ BlockLength ∷ BufferLength ∷ DriveCode ∷ Name ∷ Beyond ∷ Protected ∷ NoFile ∷ ReadOnly ∷ Outside ∷ NoSlot
     ∷ NoBlock ∷ []
-refusalsOf ReadSeveral =
+refusalsOf (Moves ReadSeveral) =
     Closed ∷ VolumeLength ∷ BlockLength ∷ BadCount ∷ BufferLength ∷ DriveCode ∷ Name ∷ Position ∷ Beyond ∷ NoFile ∷ Absent ∷ Absent ∷ Outside ∷ []
-refusalsOf WriteSeveral =
+refusalsOf (Moves WriteSeveral) =
     Closed ∷ VolumeLength ∷ BlockLength ∷ BadCount ∷ BufferLength ∷ DriveCode ∷ Name ∷ Position ∷ Beyond ∷ Protected ∷ NoFile ∷ ReadOnly
     ∷ Outside ∷ NoSlot ∷ NoBlock ∷ []
 refusalsOf Unserved = NotServed ∷ []
@@ -153,20 +154,14 @@ codesOf Close = 4
 codesOf SearchFirst = 4
 codesOf SearchNext = 4
 codesOf Delete = 1
-codesOf ReadSequential = 1
-codesOf WriteSequential = 1
 codesOf Make = 4
 codesOf Rename = 1
 codesOf Protect = 1
 codesOf Attributes = 1
 codesOf User = 16
-codesOf ReadRandom = 1
-codesOf WriteRandom = 1
 codesOf Size = 1
 codesOf SetRandom = 1
-codesOf WriteZeroFill = 1
-codesOf ReadSeveral = 1
-codesOf WriteSeveral = 1
+codesOf (Moves t) = 1
 codesOf Unserved = 0
 
 -- n is one of the numbers
@@ -182,20 +177,20 @@ isSeveral Close = false
 isSeveral SearchFirst = false
 isSeveral SearchNext = false
 isSeveral Delete = false
-isSeveral ReadSequential = false
-isSeveral WriteSequential = false
+isSeveral (Moves ReadSequential) = false
+isSeveral (Moves WriteSequential) = false
 isSeveral Make = false
 isSeveral Rename = false
 isSeveral Protect = false
 isSeveral Attributes = false
 isSeveral User = false
-isSeveral ReadRandom = false
-isSeveral WriteRandom = false
+isSeveral (Moves ReadRandom) = false
+isSeveral (Moves WriteRandom) = false
 isSeveral Size = false
 isSeveral SetRandom = false
-isSeveral WriteZeroFill = false
-isSeveral ReadSeveral = true
-isSeveral WriteSeveral = true
+isSeveral (Moves WriteZeroFill) = false
+isSeveral (Moves ReadSeveral) = true
+isSeveral (Moves WriteSeveral) = true
 isSeveral Unserved = false
 
 -- what it may answer when it succeeds: one of its codes, or, of several records, the number that stopped it after the first

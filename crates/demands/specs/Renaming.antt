@@ -13,14 +13,14 @@ use lib.Dec.{ltb}
 use lib.ListN.{length}
 use Rattle.lists.specs.Bytes.{byte}
 use Rattle.volume.specs.declared.Wanted.the-variants.{File, ReadOnlyFile}
-use Rattle.volume.specs.Geometry.{bytes, slots}
+use Rattle.geometry.specs.Geometry.{bytes, slots}
 use Rattle.volume.specs.Name.{topBit, nameOf, same, goodName}
-use Rattle.volume.specs.Typing.{typeable}
+use Rattle.typing.specs.Typing.{typeable}
 use Rattle.volume.specs.Entry.{Entry}
 use Rattle.volume.specs.Directory.{slotAt, findSlot}
 use Rattle.control.specs.Block.{newName}
 use Rattle.answers.specs.declared.Answer.the-variants.{Done}
-use Rattle.inspection.specs.GoodSlot.{lowestBad}
+use Rattle.goodslots.specs.GoodSlot.{lowestBad}
 use Rattle.filecalls.specs.declared.Drive.{Drive}
 use Rattle.filecalls.specs.State.{isOpen}
 use Rattle.filecalls.specs.Outcome.{Outcome, outcome}

@@ -10,18 +10,19 @@ use native.Mathlib.Omega.{arith}
 use lib.ListN.{replicate, set}
 use Rattle.lists.specs.Search.{lowFrom, anyFrom, everyFrom, countFrom, fold}
 use Rattle.lists.specs.Bytes.{byte, part, put, all}
-use Rattle.volume.specs.declared.Geometry.{Geometry}
-use Rattle.volume.specs.Geometry.{lawful, start, slotStart, groupOf, inside}
+use Rattle.geometry.specs.declared.Geometry.{Geometry}
+use Rattle.geometry.specs.Geometry.{lawful, start, slotStart, groupOf, inside}
 use Rattle.volume.specs.Name.{strip, nameAt, same, goodName}
-use Rattle.volume.specs.Typing.{typeableByte, blankBefore, typeable}
-use Rattle.volume.specs.Entry.{Entry, places, blockIn, ofFile, ofGroup}
+use Rattle.typing.specs.Typing.{typeableByte, blankBefore, typeable}
+use Rattle.volume.specs.Entry.{Entry, blockIn, ofFile, ofGroup}
+use Rattle.geometry.specs.Geometry.{places}
 use Rattle.volume.specs.Directory.{slotAt, putSlot, findSlot, mapSlot}
 use Rattle.blocks.specs.Held.{digit, holds, wordOf, wordsOf, freeCount}
 use Rattle.answers.specs.declared.Answer.the-variants.{Done, Ready}
 use Rattle.answers.specs.Refusal.{firstMet}
-use Rattle.inspection.specs.GoodSlot.{goodFields, goodTopBits, inPlaces, names, namedBelow, goodPlace, seenBelow, goodSlot, lowestBad}
-use Rattle.inspection.specs.Named.{named, heldOf}
-use Rattle.naming.specs.Sweep.{renamed, changed}
+use Rattle.goodslots.specs.GoodSlot.{goodFields, goodTopBits, inPlaces, names, namedBelow, goodPlace, seenBelow, goodSlot, lowestBad}
+use Rattle.goodslots.specs.Named.{named, heldOf}
+use Rattle.sweeping.specs.Sweep.{renamed, changed}
 use Rattle.naming.specs.Rename.{renameTests}
 use Rattle.filecalls.specs.declared.Drive.{Drive}
 use Rattle.filecalls.specs.State.{isOpen, loggedIn}

@@ -9,11 +9,12 @@ use lib.Dec.{eqb}
 use lib.ListN.{replicate, set}
 use Rattle.lists.specs.Search.{lowFrom, anyFrom, everyFrom, countFrom, fold, every}
 use Rattle.lists.specs.Bytes.{byte, part, put, all}
-use Rattle.volume.specs.declared.Geometry.{Geometry}
-use Rattle.volume.specs.Geometry.{lawful, start, slots, slotStart, recordStart, groupOf, placeOf, inside}
+use Rattle.geometry.specs.declared.Geometry.{Geometry}
+use Rattle.geometry.specs.Geometry.{lawful, start, slots, slotStart, recordStart, groupOf, placeOf, inside}
 use Rattle.volume.specs.Name.{strip, nameAt, nameOf, same, like, goodName}
-use Rattle.volume.specs.Typing.{typeableByte, blankBefore, typeable}
-use Rattle.volume.specs.Entry.{isEmpty, places, blockIn, withBlock, countOf, ofFile, ofGroup, matches}
+use Rattle.typing.specs.Typing.{typeableByte, blankBefore, typeable}
+use Rattle.volume.specs.Entry.{isEmpty, blockIn, withBlock, countOf, ofFile, ofGroup, matches}
+use Rattle.geometry.specs.Geometry.{places}
 use Rattle.volume.specs.Directory.{slotAt, putSlot, findSlot, mapSlot}
 use Rattle.volume.specs.Record.{recordSlot, counted, present, recordAt, putRecord, fillRecord, putFilled}
 use Rattle.blocks.specs.Held.{digit, holds, hold, release, wordOf, wordsOf, lowestFree, freeCount}
@@ -22,13 +23,15 @@ use Rattle.answers.specs.declared.Refusal.the-variants.{NotServed}
 use Rattle.answers.specs.declared.Answer.the-variants.{Refused, Ready}
 use Rattle.answers.specs.Refusal.{firstMet}
 use Rattle.answers.specs.Answer.{succeeded}
-use Rattle.inspection.specs.GoodSlot.{goodFields, goodTopBits, inPlaces, names, namedBelow, goodPlace, seenBelow, goodSlot, lowestBad}
-use Rattle.inspection.specs.Named.{named, heldOf}
+use Rattle.goodslots.specs.GoodSlot.{goodFields, goodTopBits, inPlaces, names, namedBelow, goodPlace, seenBelow, goodSlot, lowestBad}
+use Rattle.goodslots.specs.Named.{named, heldOf}
 use Rattle.reading.specs.Read.{readBlock, readTests, readBytes}
-use Rattle.naming.specs.Sweep.{changed}
-use Rattle.naming.specs.Delete.{deleteTests, freePlace, freeEntry, freeSlot, freeMatches}
-use Rattle.naming.specs.Make.{makeTests, freshEntry}
-use Rattle.writing.specs.Write.{alloc, likeEntry, grown, writeSlot, baseEntry, needsBlock, writeBlock, writtenEntry, writeTests}
+use Rattle.sweeping.specs.Sweep.{changed}
+use Rattle.deleting.specs.Delete.{deleteTests, freePlace, freeEntry, freeSlot, freeMatches}
+use Rattle.making.specs.Make.{makeTests, freshEntry}
+use Rattle.deciding.specs.Write.{writeSlot, baseEntry, needsBlock, writeBlock, writeTests}
+use Rattle.entries.specs.Grown.{likeEntry, grown, writtenEntry}
+use Rattle.entries.specs.Alloc.{alloc}
 use Rattle.filecalls.specs.declared.Drive.{Drive}
 use Rattle.filecalls.specs.Outcome.{Outcome, unless, outcome, left, withHeld, stored, storedAll, changedState}
 use Rattle.filecalls.specs.State.{isOpen, closed, loggedIn}
@@ -36,7 +39,9 @@ use Rattle.filecalls.specs.LogIn.{logInTests, refusedLogIn, logIn}
 use Rattle.filecalls.specs.Names.{deleteLadder, deleteAct, makeLadder, makeAct}
 use Rattle.filecalls.specs.Read.{randomTests, readDone, readRandomAct}
 use Rattle.filecalls.specs.Write.{writeEntry, writeChange, writeDone, writeRandomAct, writeZeroFillAct}
-use Rattle.bdos.specs.Step.{Asked, asked, callOf, does, step}
+use Rattle.bdos.specs.Step.{carries, does, step}
+use Rattle.served.specs.Asked.{Asked, asked}
+use Rattle.served.specs.Calls.{callOf}
 
 -- ---- a way to do the calls, and the wrong ones
 abbrev pub Way : Type 0
@@ -206,7 +211,7 @@ oldBlock = logsIn ∷ makes nameA ∷ writes nameA 0 7 ∷ deletes nameA ∷ mak
 -- demand 2: after its write record 0 of A has the bytes written, and it keeps them through what other files and other
 -- records are given
 unfoldable pub keepsRecord : Way → Bool
-unfolding ran lowFrom anyFrom everyFrom countFrom fold part put all lawful start slotStart recordStart groupOf placeOf inside strip nameAt same like goodName typeable typeableByte blankBefore places blockIn withBlock countOf ofFile ofGroup matches slotAt putSlot findSlot mapSlot recordSlot counted present recordAt putRecord putFilled digit holds hold release wordOf wordsOf lowestFree freeCount random setTo made firstMet goodFields goodTopBits inPlaces names namedBelow goodPlace seenBelow goodSlot lowestBad named heldOf readBlock readTests readBytes changed deleteTests freePlace freeEntry freeSlot freeMatches makeTests freshEntry alloc likeEntry grown writeSlot baseEntry needsBlock writeBlock writtenEntry writeTests isOpen outcome unless stored storedAll changedState logIn logInTests refusedLogIn deleteLadder deleteAct makeLadder makeAct randomTests writeEntry writeChange writeDone writeRandomAct callOf does step
+unfolding ran lowFrom anyFrom everyFrom countFrom fold part put all lawful start slotStart recordStart groupOf placeOf inside strip nameAt same like goodName typeable typeableByte blankBefore places blockIn withBlock countOf ofFile ofGroup matches slotAt putSlot findSlot mapSlot recordSlot counted present recordAt putRecord putFilled digit holds hold release wordOf wordsOf lowestFree freeCount random setTo made firstMet goodFields goodTopBits inPlaces names namedBelow goodPlace seenBelow goodSlot lowestBad named heldOf readBlock readTests readBytes changed deleteTests freePlace freeEntry freeSlot freeMatches makeTests freshEntry alloc likeEntry grown writeSlot baseEntry needsBlock writeBlock writtenEntry writeTests isOpen outcome unless stored storedAll changedState logIn logInTests refusedLogIn deleteLadder deleteAct makeLadder makeAct randomTests writeEntry writeChange writeDone writeRandomAct callOf does carries step
 keepsRecord way =
     let o : Outcome = ran way twoFiles (from emptyVolume) in
     present small (o .volume) 0 nameA 0 && same (readBytes small (o .volume) 0 nameA 0) (bytesOf 7)

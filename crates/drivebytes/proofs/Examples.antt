@@ -7,7 +7,7 @@ use lib.ListN.{replicate}
 use Rattle.lists.specs.Bytes.{part, all}
 use Rattle.finding.specs.declared.Kept.the-variants.{Pattern}
 use Rattle.filecalls.specs.declared.Drive.{Drive}
-use Rattle.drivebytes.specs.Numbers.{bytesOf, number, bytesFrom}
+use Rattle.numbers.specs.Numbers.{bytesOf, number, bytesFrom}
 use Rattle.drivebytes.specs.Layout.{headBytes, keptBytes, searchBytes, heldBytes, encoded, kindOf, fields, isDrive, decoded}
 
 -- SIGLA???.TX? with ex 3FH

@@ -1,6 +1,4 @@
--- Laws of numbers as bytes, of bytes laid one part after the other, and the round trips.
-pub mod NumberLaws
-pub mod LayLaws
+-- What is read of a drive's bytes, and the round trips.
 pub mod LoadLaws
 pub mod RoundTripHolds
 pub mod Examples

@@ -1,29 +1,17 @@
--- What code reads of a drive's bytes is what the layout says: words, and the test of the bytes that must be zero.
+-- What code reads of a drive's bytes is what the layout says: the test of the bytes that must be zero.
 use mathlib.Core.Path.{_≡_, refl, sym, ap, ap₂, _∙_}
 use mathlib.Core.Bool.{Bool, true, false, not, cond, _&&_, _||_}
 use mathlib.Core.List.{List, [], _∷_, _++_}
-use Prim.Native.Nat.{ℕ, _+_, _*_}
+use Prim.Native.Nat.{ℕ}
 use native.Mathlib.Omega.{arith}
 use lib.Dec.{eqb}
 use lib.ListN.{length}
 use borrow.Author.Tests.{eqb-true}
 use Rattle.lists.specs.Bytes.{byte, part, all}
 use Rattle.lists.proofs.BoolLaws.{and-left}
-use Rattle.drivebytes.specs.Numbers.{number, bytesFrom, zeros}
+use Rattle.numbers.specs.Numbers.{number, bytesFrom, zeros}
 use Rattle.drivebytes.specs.Layout.{isDrive}
-use Rattle.drivebytes.proofs.NumberLaws.{zeros-number, part-bytes, bytes-from}
-
--- ---- two bytes and eight bytes as a number
-pub number-two : (l : List ℕ) → length l ≡ 2 → number l ≡ byte l 0 + 256 * byte l 1
-unfolding number bytesFrom
-number-two l e = ap number (sym (bytes-from l 2 e)) ∙ omega arith
-
-pub number-eight : (l : List ℕ) → length l ≡ 8
-    → number l
-    ≡ byte l 0 + 256 * byte l 1 + 65536 * (byte l 2 + 256 * byte l 3)
-    + 4294967296 * (byte l 4 + 256 * byte l 5 + 65536 * (byte l 6 + 256 * byte l 7))
-unfolding number bytesFrom
-number-eight l e = ap number (sym (bytes-from l 8 e)) ∙ omega arith
+use Rattle.numbers.proofs.NumberLaws.{zeros-number, part-bytes}
 
 -- ---- the bytes beside a search that is not kept
 all-append : (p : ℕ → Bool) (l m : List ℕ) → all p (l ++ m) ≡ (all p l && all p m)

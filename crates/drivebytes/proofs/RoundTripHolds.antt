@@ -11,17 +11,17 @@ use borrow.Author.Tests.{leb-true, eq-eqb, ne-eqb}
 use Rattle.lists.specs.Bytes.{byte, part, all}
 use Rattle.lists.proofs.BoolLaws.{and-parts}
 use Rattle.lists.proofs.PartLaws.{length-part}
-use Rattle.volume.specs.Geometry.{lawful}
+use Rattle.geometry.specs.Geometry.{lawful}
 use Rattle.finding.specs.declared.Kept.{Kept}
 use Rattle.finding.specs.declared.Kept.the-variants.{Nothing, Pattern, Everything}
 use Rattle.filecalls.specs.declared.Drive.{Drive}
 use Rattle.filecalls.specs.State.{isOpen, closed, noSearch}
 use Rattle.filecalls.specs.Outcome.{withSearch}
 use Rattle.filecalls.specs.Search.{isKept}
-use Rattle.drivebytes.specs.Numbers.{bytesOf, number, bytesFrom, zeros}
+use Rattle.numbers.specs.Numbers.{Bytes, bytesOf, number, bytesFrom, zeros}
 use Rattle.drivebytes.specs.Layout.{headBytes, keptBytes, searchBytes, heldBytes, encoded, kindOf, fields, isDrive, decoded}
-use Rattle.drivebytes.specs.RoundTrip.{Bytes, Carried, DecodeEncode, EncodeDecode, ReadCarried, ClosedIsZeros}
-use Rattle.drivebytes.proofs.NumberLaws.{number-bytes, bytes-number, number-low, part-bytes, bytes-from, zeros-are}
+use Rattle.drivebytes.specs.RoundTrip.{Carried, DecodeEncode, EncodeDecode, ReadCarried, ClosedIsZeros}
+use Rattle.numbers.proofs.NumberLaws.{number-bytes, bytes-number, number-low, part-bytes, bytes-from, zeros-are}
 use Rattle.drivebytes.proofs.LoadLaws.{drive-whole}
 
 -- ---- a flag as a byte

@@ -8,12 +8,12 @@ use Prim.Native.Nat.{ℕ}
 use lib.Dec.{leb, eqb}
 use lib.ListN.{length, replicate}
 use Rattle.lists.specs.Bytes.{byte, part}
-use Rattle.volume.specs.declared.Geometry.{Geometry}
+use Rattle.geometry.specs.declared.Geometry.{Geometry}
 use Rattle.finding.specs.declared.Kept.{Kept}
 use Rattle.finding.specs.declared.Kept.the-variants.{Nothing, Pattern, Everything}
 use Rattle.filecalls.specs.declared.Drive.{Drive}
 use Rattle.filecalls.specs.State.{closed}
-use Rattle.drivebytes.specs.Numbers.{bytesOf, number, bytesFrom, zeros}
+use Rattle.numbers.specs.Numbers.{bytesOf, number, bytesFrom, zeros}
 
 -- ---- from the state to bytes
 -- 0..7

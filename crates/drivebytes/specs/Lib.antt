@@ -1,4 +1,3 @@
 -- The drive's state as 64 bytes.
-pub mod Numbers
 pub mod Layout
 pub mod RoundTrip

@@ -6,14 +6,11 @@ use mathlib.Core.List.{List}
 use Prim.Native.Nat.{ℕ, _<_, _^_}
 use lib.ListN.{length, replicate}
 use Rattle.lists.specs.Bytes.{byte}
+use Rattle.numbers.specs.Numbers.{Bytes}
 use Rattle.finding.specs.declared.Kept.the-variants.{Nothing}
 use Rattle.filecalls.specs.declared.Drive.{Drive}
 use Rattle.filecalls.specs.State.{noSearch, isOpen, closed}
 use Rattle.drivebytes.specs.Layout.{encoded, decoded}
-
--- a list of bytes
-abbrev pub Bytes : List ℕ → Type 0
-Bytes l = (k : ℕ) → byte l k < 256
 
 -- what 64 bytes can carry of a state: sizes and last slot of 16 bits, twelve bytes of pattern, four words of 64 bits; and
 -- where no search is kept there is nothing beside it. Every state that a log-in or a call leaves is so (crate `emulator`).

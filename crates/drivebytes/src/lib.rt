@@ -1,9 +1,8 @@
-// The drive's state as 64 lent bytes: decoded from them, and encoded into them.
+// The drive's state decoded from 64 lent bytes.
 ghost use mathlib.Core.Path.{_≡_};
-ghost use Rattle.drivebytes.specs.Layout.{decoded, encodedIn};
+ghost use Rattle.drivebytes.specs.Layout.{decoded};
 use filecalls::Drive;
 
-mod lay;
 mod load;
 
 // How many bytes a drive has.
@@ -17,13 +16,4 @@ pub fn decode(s: &[u8]) -> Drive
         return Drive::closed();
     }
     load::fields(s)
-}
-
-// Lays the state into 64 bytes; any other number of bytes stays as it is.
-pub fn encode(d: Drive, out: &mut [u8])
-    ensures { λ _. ⌜ now (out .exit) ≡ encodedIn d (now (out .entry)) ⌝ }
-{
-    if out.len() == DRIVE_BYTES {
-        lay::put_drive(out, d);
-    }
 }

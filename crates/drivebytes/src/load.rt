@@ -1,46 +1,14 @@
-// The state read from bytes: numbers low byte first, and the test that the bytes are laid out as a drive's.
+// The state read from bytes, and the test that they are laid out as a drive's.
 ghost use mathlib.Core.Path.{_≡_};
-ghost use Prim.Native.Nat.{_+_, _*_, _<_};
 ghost use lib.ListN.{length};
-ghost use Rattle.drivebytes.specs.Numbers.{number};
 ghost use Rattle.drivebytes.specs.Layout.{kindOf, fields, isDrive};
 use crate::DRIVE_BYTES;
 use filecalls::Drive;
 use filecalls::Search;
 use finding::Kept;
-use volume::Geometry;
-
-// A byte as a word.
-fn wide(b: u8) -> u64
-    ensures { λ r. ⌜ (r ≡ b) × (r < 256) ⌝ }
-{
-    b as u64
-}
-
-// Two bytes as a word.
-fn pair(low: u8, high: u8) -> u64
-    ensures { λ r. ⌜ (r ≡ low + 256 * high) × (r < 65536) ⌝ }
-{
-    wide(low) + 256 * wide(high)
-}
-
-// The number in two bytes.
-fn two_of(b: &[u8]) -> usize
-    requires { ⌜ length (now b) ≡ 2 ⌝ }
-    ensures { λ r. ⌜ r ≡ number (now (b .entry)) ⌝ }
-{
-    lists::wide(b[0]) + 256 * lists::wide(b[1])
-}
-
-// The number in eight bytes.
-fn eight_of(b: &[u8]) -> u64
-    requires { ⌜ length (now b) ≡ 8 ⌝ }
-    ensures { λ r. ⌜ r ≡ number (now (b .entry)) ⌝ }
-{
-    let low = pair(b[0], b[1]) + 65536 * pair(b[2], b[3]);
-    let high = pair(b[4], b[5]) + 65536 * pair(b[6], b[7]);
-    low + 4294967296 * high
-}
+use geometry::Geometry;
+use numbers::eight_of;
+use numbers::two_at;
 
 // Are the bytes laid out as a drive's? Where no search is kept, bytes 8 to 23 are all zero.
 pub(crate) fn is_drive(s: &[u8]) -> bool
@@ -74,9 +42,9 @@ fn geometry_at(s: &[u8]) -> Geometry
     requires { ⌜ length (now s) ≡ 64 ⌝ }
     ensures { λ r. ⌜ r ≡ fields (now (s .entry)) .geometry ⌝ }
 {
-    let block = two_of(&s[0..2]);
-    let total = two_of(&s[2..4]);
-    let directory = two_of(&s[4..6]);
+    let block = two_at(s, 0);
+    let total = two_at(s, 2);
+    let directory = two_at(s, 4);
     Geometry {
         block,
         total,
@@ -90,7 +58,7 @@ fn search_at(s: &[u8]) -> Search
     ensures { λ r. ⌜ r ≡ fields (now (s .entry)) .search ⌝ }
 {
     let kind = kind_of(s[8]);
-    let last = two_of(&s[10..12]);
+    let last = two_at(s, 10);
     let mut pattern = [0u8; 12];
     lists::copy(&mut pattern, &s[12..24]);
     Search {

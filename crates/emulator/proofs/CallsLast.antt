@@ -10,7 +10,7 @@ use borrow.Author.Tests.{not-false, eqb-true, eqb-false, ltb-false, lt-ltb, le-l
 use Rattle.lists.specs.Bytes.{byte}
 use Rattle.lists.proofs.BoolLaws.{and-parts}
 use Rattle.lists.proofs.PartLaws.{length-part}
-use Rattle.volume.specs.Geometry.{slots}
+use Rattle.geometry.specs.Geometry.{slots}
 use Rattle.volume.specs.Name.{nameOf, goodName}
 use Rattle.control.specs.Block.{position, random}
 use Rattle.answers.specs.declared.Refusal.the-variants.{Closed, VolumeLength, BlockLength, BufferLength, DriveCode, UserCode, Name, Position, NoMatch, NoGroup, Absent}
@@ -21,7 +21,7 @@ use Rattle.finding.specs.declared.Kept.{Kept}
 use Rattle.finding.specs.declared.Kept.the-variants.{Nothing, Pattern, Everything}
 use Rattle.finding.specs.Search.{kindOf, patternOf}
 use Rattle.reading.specs.Read.{readTests}
-use Rattle.writing.specs.Write.{needsBlock, writeBlock}
+use Rattle.deciding.specs.Write.{needsBlock, writeBlock}
 use Rattle.filecalls.specs.declared.Drive.{Drive}
 use Rattle.filecalls.specs.State.{goodPattern, goodKept}
 use Rattle.filecalls.specs.Outcome.{keeps, takes, becomes, protects, frees, searches, done, changedState}

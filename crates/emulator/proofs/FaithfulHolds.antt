@@ -9,9 +9,9 @@ use native.Mathlib.Omega.{arith}
 use lib.Dec.{eqb}
 use lib.ListN.{length}
 use borrow.Author.Tests.{not-false, eq-eqb}
-use Rattle.volume.specs.declared.Geometry.{Geometry}
-use Rattle.volume.specs.Geometry.{lawful}
-use Rattle.volume.proofs.GeometryLaws.{bounds}
+use Rattle.geometry.specs.declared.Geometry.{Geometry}
+use Rattle.geometry.specs.Geometry.{lawful}
+use Rattle.geometry.proofs.GeometryLaws.{bounds}
 use Rattle.answers.specs.declared.Refusal.{Refusal}
 use Rattle.answers.specs.declared.Refusal.the-variants.{Closed}
 use Rattle.answers.specs.declared.Answer.the-variants as answer
@@ -20,9 +20,9 @@ use Rattle.answers.specs.Answer.{succeeded}
 use Rattle.answers.proofs.Ladder.{unmet}
 use Rattle.blocks.specs.Held.{freeCount}
 use Rattle.blocks.proofs.WordsLaws.{Words, words-none}
-use Rattle.inspection.specs.GoodSlot.{lowestBad}
-use Rattle.inspection.specs.Named.{heldOf}
-use Rattle.inspection.proofs.NamedLaws.{words-held}
+use Rattle.goodslots.specs.GoodSlot.{lowestBad}
+use Rattle.goodslots.specs.Named.{heldOf}
+use Rattle.goodslots.proofs.NamedLaws.{words-held}
 use Rattle.filecalls.specs.declared.Drive.{Drive}
 use Rattle.filecalls.specs.declared.Reply.{Reply}
 use Rattle.filecalls.specs.State.{isOpen, closed, loggedIn}
@@ -31,9 +31,12 @@ use Rattle.filecalls.specs.LogIn.{logInTests, refusedLogIn, logIn}
 use Rattle.filecalls.proofs.OutcomeLaws.{sameAll, outcome-refused}
 use Rattle.several.specs.Several.{readOne, writeOne}
 use Rattle.several.proofs.SeveralLaws.{leaves-all, read-refuses, write-refuses}
-use Rattle.bdos.specs.declared.Call.{Call}
-use Rattle.bdos.specs.declared.Call.the-variants.{LogIn, Open, Close, SearchFirst, SearchNext, Delete, ReadSequential, WriteSequential, Make, Rename, Protect, Attributes, User, ReadRandom, WriteRandom, Size, SetRandom, WriteZeroFill, ReadSeveral, WriteSeveral, Unserved}
-use Rattle.bdos.specs.Step.{Asked, asked, keepsBuffer, keepsBlock, keepsVolume, callOf, does, step}
+use Rattle.served.specs.declared.Call.{Call}
+use Rattle.served.specs.declared.Call.the-variants.{LogIn, Open, Close, SearchFirst, SearchNext, Delete, Make, Rename, Protect, Attributes, User, Size, SetRandom, Moves, Unserved}
+use Rattle.served.specs.declared.Transfer.the-variants.{ReadSequential, WriteSequential, ReadRandom, WriteRandom, WriteZeroFill, ReadSeveral, WriteSeveral}
+use Rattle.bdos.specs.Step.{keepsBuffer, keepsBlock, keepsVolume, carries, does, step}
+use Rattle.served.specs.Asked.{Asked, asked}
+use Rattle.served.specs.Calls.{callOf}
 use Rattle.drivebytes.specs.Layout.{encoded, decoded}
 use Rattle.drivebytes.specs.RoundTrip.{Carried}
 use Rattle.drivebytes.proofs.RoundTripHolds.{decode-encode, encode-decode, read-carried, closed-is-zeros}
@@ -111,27 +114,27 @@ log-in-opens g v s = go (isNone (firstMet (logInTests g v))) refl
 -- ---- every call logs in, or leaves a state that lasts
 module _ (g : Geometry) (p : ℕ) (small : p < 256) (d : Drive) (l : Lasts d) (v f b : List ℕ) where
   call-lasts : (call : Call) → (call ≡ LogIn) ⊎ Lasts (does g call p d v f b .drive)
-  unfolding does
+  unfolding does carries
   call-lasts LogIn = inl refl
   call-lasts Open = inr (outcome-lasts d v f [] _ l (open-lasting d v f b l))
   call-lasts Close = inr (outcome-lasts d v f [] _ l (close-lasting d v f b l))
   call-lasts SearchFirst = inr (outcome-lasts d v f b _ l (first-lasting d v f b l))
   call-lasts SearchNext = inr (outcome-lasts d v [] b _ l (next-lasting d v f b l))
   call-lasts Delete = inr (outcome-lasts d v f [] _ l (delete-lasting d v f b l))
-  call-lasts ReadSequential = inr (outcome-lasts d v f b _ l (read-sequential-lasting d v f b l))
-  call-lasts WriteSequential = inr (outcome-lasts d v f b _ l (write-sequential-lasting d v f b l))
+  call-lasts (Moves ReadSequential) = inr (outcome-lasts d v f b _ l (read-sequential-lasting d v f b l))
+  call-lasts (Moves WriteSequential) = inr (outcome-lasts d v f b _ l (write-sequential-lasting d v f b l))
   call-lasts Make = inr (outcome-lasts d v f [] _ l (make-lasting d v f b l))
   call-lasts Rename = inr (outcome-lasts d v f [] _ l (rename-lasting d v f b l))
   call-lasts Protect = inr (outcome-lasts d [] [] [] _ l (protect-lasting d [] f b l))
   call-lasts Attributes = inr (outcome-lasts d v f [] _ l (attributes-lasting d v f b l))
   call-lasts User = inr (outcome-lasts d [] [] [] _ l (user-lasting d [] f b l p small))
-  call-lasts ReadRandom = inr (outcome-lasts d v f b _ l (read-random-lasting d v f b l))
-  call-lasts WriteRandom = inr (outcome-lasts d v f b _ l (write-random-lasting d v f b l))
+  call-lasts (Moves ReadRandom) = inr (outcome-lasts d v f b _ l (read-random-lasting d v f b l))
+  call-lasts (Moves WriteRandom) = inr (outcome-lasts d v f b _ l (write-random-lasting d v f b l))
   call-lasts Size = inr (outcome-lasts d v f [] _ l (size-lasting d v f b l))
   call-lasts SetRandom = inr (outcome-lasts d [] f [] _ l (set-random-lasting d [] f b l))
-  call-lasts WriteZeroFill = inr (outcome-lasts d v f b _ l (write-zero-fill-lasting d v f b l))
-  call-lasts ReadSeveral = inr (read-several-lasts d v f b p l)
-  call-lasts WriteSeveral = inr (write-several-lasts d v f b p l)
+  call-lasts (Moves WriteZeroFill) = inr (outcome-lasts d v f b _ l (write-zero-fill-lasting d v f b l))
+  call-lasts (Moves ReadSeveral) = inr (read-several-lasts d v f b p l)
+  call-lasts (Moves WriteSeveral) = inr (write-several-lasts d v f b p l)
   call-lasts Unserved = inr (outcome-lasts d v f b _ l denied)
 
 step-lasts : (d : Drive) → Carried d → isOpen d ≡ true → (c : Asked) → c .parameter < 256 → (v : List ℕ)
@@ -140,7 +143,7 @@ unfolding step
 step-lasts d k o c small v = call-lasts (d .geometry) (c .parameter) small d (record { carried = k; opens = o }) v (c .block) (c .buffer) (callOf (c .function))
 
 step-log-in : (g : Geometry) (c : Asked) (d : Drive) (v : List ℕ) → callOf (c .function) ≡ LogIn → step g c d v .drive ≡ logIn g v .drive
-unfolding step does
+unfolding step does carries
 step-log-in g c d v e = rw e
 
 pub call-carried : CallCarried
@@ -164,27 +167,27 @@ call-faithful n p s v f b small bytes o =
 module _ (g : Geometry) (p : ℕ) (d : Drive) (v f b : List ℕ) where
   call-refused : (call : Call) → (call ≡ LogIn → ⊥) → succeeded (does g call p d v f b .answer) ≡ false
       → does g call p d v f b ≡ sameAll (does g call p d v f b) d v f b
-  unfolding does
+  unfolding does carries
   call-refused LogIn n e = absurd (n refl)
   call-refused Open n e = ap (keepsBuffer b) (outcome-refused d v f [] _ e)
   call-refused Close n e = ap (keepsBuffer b) (outcome-refused d v f [] _ e)
   call-refused SearchFirst n e = outcome-refused d v f b _ e
   call-refused SearchNext n e = ap (keepsBlock f) (outcome-refused d v [] b _ e)
   call-refused Delete n e = ap (keepsBuffer b) (outcome-refused d v f [] _ e)
-  call-refused ReadSequential n e = outcome-refused d v f b _ e
-  call-refused WriteSequential n e = outcome-refused d v f b _ e
+  call-refused (Moves ReadSequential) n e = outcome-refused d v f b _ e
+  call-refused (Moves WriteSequential) n e = outcome-refused d v f b _ e
   call-refused Make n e = ap (keepsBuffer b) (outcome-refused d v f [] _ e)
   call-refused Rename n e = ap (keepsBuffer b) (outcome-refused d v f [] _ e)
   call-refused Protect n e = ap (keepsVolume v) (ap (keepsBlock f) (ap (keepsBuffer b) (outcome-refused d [] [] [] _ e)))
   call-refused Attributes n e = ap (keepsBuffer b) (outcome-refused d v f [] _ e)
   call-refused User n e = ap (keepsVolume v) (ap (keepsBlock f) (ap (keepsBuffer b) (outcome-refused d [] [] [] _ e)))
-  call-refused ReadRandom n e = outcome-refused d v f b _ e
-  call-refused WriteRandom n e = outcome-refused d v f b _ e
+  call-refused (Moves ReadRandom) n e = outcome-refused d v f b _ e
+  call-refused (Moves WriteRandom) n e = outcome-refused d v f b _ e
   call-refused Size n e = ap (keepsBuffer b) (outcome-refused d v f [] _ e)
   call-refused SetRandom n e = ap (keepsVolume v) (ap (keepsBuffer b) (outcome-refused d [] f [] _ e))
-  call-refused WriteZeroFill n e = outcome-refused d v f b _ e
-  call-refused ReadSeveral n e = leaves-all readOne read-refuses d v f b p e
-  call-refused WriteSeveral n e = leaves-all writeOne write-refuses d v f b p e
+  call-refused (Moves WriteZeroFill) n e = outcome-refused d v f b _ e
+  call-refused (Moves ReadSeveral) n e = leaves-all readOne read-refuses d v f b p e
+  call-refused (Moves WriteSeveral) n e = leaves-all writeOne write-refuses d v f b p e
   call-refused Unserved n e = outcome-refused d v f b _ e
 
 step-refused : (g : Geometry) (c : Asked) (d : Drive) (v : List ℕ) → (callOf (c .function) ≡ LogIn → ⊥) → succeeded (step g c d v .answer) ≡ false
@@ -212,7 +215,7 @@ unfolding logInAtSeam
 refused-log-in-closes g v s e no-success = rw (eq-eqb (length s) 64 e) (ap encoded (log-in-closed g v no-success) ∙ closed-is-zeros)
 
 step-answer : (g : Geometry) (c : Asked) (d : Drive) (v : List ℕ) → callOf (c .function) ≡ LogIn → step g c d v .answer ≡ logIn g v .answer
-unfolding step does
+unfolding step does carries
 step-answer g c d v e = rw e
 
 pub refused-reset-closes : RefusedResetCloses

@@ -10,16 +10,17 @@ use borrow.Author.Tests.{leb-false, le-leb, ltb-false}
 use Rattle.lists.specs.Search.{fold}
 use Rattle.lists.specs.Bytes.{byte, part}
 use Rattle.lists.proofs.PartLaws.{part-part, byte-part}
-use Rattle.volume.specs.declared.Geometry.{Geometry}
-use Rattle.volume.specs.Geometry.{lawful, slots, inside}
+use Rattle.geometry.specs.declared.Geometry.{Geometry}
+use Rattle.geometry.specs.Geometry.{lawful, slots, inside}
 use Rattle.volume.specs.Name.{nameAt, nameOf, goodName}
-use Rattle.volume.specs.Entry.{Entry, places, blockIn, matches}
+use Rattle.volume.specs.Entry.{Entry, blockIn, matches}
+use Rattle.geometry.specs.Geometry.{places}
 use Rattle.volume.specs.Directory.{slotAt}
-use Rattle.volume.proofs.GeometryLaws.{bounds}
+use Rattle.geometry.proofs.GeometryLaws.{bounds}
 use Rattle.answers.specs.declared.Refusal.{Refusal}
 use Rattle.answers.specs.Refusal.{Test, isNone, firstMet}
 use Rattle.blocks.proofs.WordsLaws.{Words, words-release}
-use Rattle.naming.specs.Delete.{freePlace, freeEntry, freeSlot, freeMatches}
+use Rattle.deleting.specs.Delete.{freePlace, freeEntry, freeSlot, freeMatches}
 use Rattle.finding.specs.Search.{patternOf}
 use Rattle.filecalls.specs.declared.Search.{Search}
 use Rattle.filecalls.specs.declared.Drive.{Drive}

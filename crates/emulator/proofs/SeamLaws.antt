@@ -5,7 +5,7 @@ use mathlib.Core.List.{List, []}
 use Prim.Native.Nat.{ℕ, _<_}
 use lib.ListN.{length}
 use borrow.Author.Tests.{not-true, not-false, eq-eqb, ne-eqb}
-use Rattle.volume.specs.declared.Geometry.{Geometry}
+use Rattle.geometry.specs.declared.Geometry.{Geometry}
 use Rattle.answers.specs.declared.Refusal.the-variants.{Closed}
 use Rattle.answers.specs.declared.Answer.the-variants.{Refused}
 use Rattle.answers.specs.Answer.{valueOf}
@@ -14,7 +14,8 @@ use Rattle.filecalls.specs.declared.Reply.{Reply}
 use Rattle.filecalls.specs.State.{isOpen}
 use Rattle.filecalls.specs.Outcome.{Outcome, left}
 use Rattle.filecalls.specs.LogIn.{logIn}
-use Rattle.bdos.specs.Step.{asked, step}
+use Rattle.bdos.specs.Step.{step}
+use Rattle.served.specs.Asked.{asked}
 use Rattle.drivebytes.specs.Layout.{decoded, encoded, encodedIn}
 use Rattle.drivebytes.proofs.LoadLaws.{drive-whole}
 use Rattle.drivebytes.proofs.RoundTripHolds.{open-drive}

@@ -6,9 +6,9 @@ use Prim.Native.Nat.{ℕ, _-_, _≤_, _<_}
 use native.Mathlib.Omega.{arith}
 use lib.Dec.{eqb}
 use Rattle.lists.proofs.SearchLaws.{low-le}
-use Rattle.volume.specs.declared.Geometry.{Geometry}
-use Rattle.volume.specs.Geometry.{lawful, slots}
-use Rattle.volume.proofs.GeometryLaws.{bounds}
+use Rattle.geometry.specs.declared.Geometry.{Geometry}
+use Rattle.geometry.specs.Geometry.{lawful, slots}
+use Rattle.geometry.proofs.GeometryLaws.{bounds}
 use Rattle.answers.specs.declared.Refusal.{Refusal}
 use Rattle.answers.specs.declared.Refusal.the-variants.{Closed}
 use Rattle.answers.specs.declared.Answer.the-variants as answer
@@ -16,8 +16,8 @@ use Rattle.answers.specs.Refusal.{isNone, refusalNumber, firstMet}
 use Rattle.answers.specs.Answer.{valueOf}
 use Rattle.blocks.specs.Held.{holds, freeCount}
 use Rattle.blocks.proofs.CountLaws.{count-not}
-use Rattle.inspection.specs.GoodSlot.{goodSlot, lowestBad}
-use Rattle.inspection.specs.Named.{heldOf}
+use Rattle.goodslots.specs.GoodSlot.{goodSlot, lowestBad}
+use Rattle.goodslots.specs.Named.{heldOf}
 use Rattle.filecalls.specs.declared.Drive.{Drive}
 use Rattle.filecalls.specs.declared.Reply.{Reply}
 use Rattle.filecalls.specs.State.{closed, loggedIn}
@@ -25,9 +25,12 @@ use Rattle.filecalls.specs.Outcome.{Act, deny, done, outcome}
 use Rattle.filecalls.specs.LogIn.{logInTests, refusedLogIn, logIn}
 use Rattle.several.specs.Several.{readOne, writeOne}
 use Rattle.several.proofs.SeveralLaws.{done-most}
-use Rattle.bdos.specs.declared.Call.{Call}
-use Rattle.bdos.specs.declared.Call.the-variants.{LogIn, Open, Close, SearchFirst, SearchNext, Delete, ReadSequential, WriteSequential, Make, Rename, Protect, Attributes, User, ReadRandom, WriteRandom, Size, SetRandom, WriteZeroFill, ReadSeveral, WriteSeveral, Unserved}
-use Rattle.bdos.specs.Step.{Asked, callOf, does, step}
+use Rattle.served.specs.declared.Call.{Call}
+use Rattle.served.specs.declared.Call.the-variants.{LogIn, Open, Close, SearchFirst, SearchNext, Delete, Make, Rename, Protect, Attributes, User, Size, SetRandom, Moves, Unserved}
+use Rattle.served.specs.declared.Transfer.the-variants.{ReadSequential, WriteSequential, ReadRandom, WriteRandom, WriteZeroFill, ReadSeveral, WriteSeveral}
+use Rattle.bdos.specs.Step.{carries, does, step}
+use Rattle.served.specs.Asked.{Asked}
+use Rattle.served.specs.Calls.{callOf}
 
 free-le : (held : List ℕ) (d t : ℕ) → freeCount held d t ≤ t - d
 unfolding freeCount
@@ -75,27 +78,27 @@ act-value d v f b (deny why) = omega arith
 act-value d v f b (done code change stores f′ b′) = omega arith
 
 call-value : (g : Geometry) (call : Call) (p : ℕ) (d : Drive) (v f b : List ℕ) → valueOf (does g call p d v f b .answer) < 65536
-unfolding does
+unfolding does carries
 call-value g LogIn p d v f b = log-in-value g v
 call-value g Open p d v f b = act-value d v f [] _
 call-value g Close p d v f b = act-value d v f [] _
 call-value g SearchFirst p d v f b = act-value d v f b _
 call-value g SearchNext p d v f b = act-value d v [] b _
 call-value g Delete p d v f b = act-value d v f [] _
-call-value g ReadSequential p d v f b = act-value d v f b _
-call-value g WriteSequential p d v f b = act-value d v f b _
+call-value g (Moves ReadSequential) p d v f b = act-value d v f b _
+call-value g (Moves WriteSequential) p d v f b = act-value d v f b _
 call-value g Make p d v f b = act-value d v f [] _
 call-value g Rename p d v f b = act-value d v f [] _
 call-value g Protect p d v f b = act-value d [] [] [] _
 call-value g Attributes p d v f b = act-value d v f [] _
 call-value g User p d v f b = act-value d [] [] [] _
-call-value g ReadRandom p d v f b = act-value d v f b _
-call-value g WriteRandom p d v f b = act-value d v f b _
+call-value g (Moves ReadRandom) p d v f b = act-value d v f b _
+call-value g (Moves WriteRandom) p d v f b = act-value d v f b _
 call-value g Size p d v f b = act-value d v f [] _
 call-value g SetRandom p d v f b = act-value d [] f [] _
-call-value g WriteZeroFill p d v f b = act-value d v f b _
-call-value g ReadSeveral p d v f b = omega (arith, done-most readOne d v f b p)
-call-value g WriteSeveral p d v f b = omega (arith, done-most writeOne d v f b p)
+call-value g (Moves WriteZeroFill) p d v f b = act-value d v f b _
+call-value g (Moves ReadSeveral) p d v f b = omega (arith, done-most readOne d v f b p)
+call-value g (Moves WriteSeveral) p d v f b = omega (arith, done-most writeOne d v f b p)
 call-value g Unserved p d v f b = act-value d v f b _
 
 pub step-value : (g : Geometry) (c : Asked) (d : Drive) (v : List ℕ) → valueOf (step g c d v .answer) < 65536

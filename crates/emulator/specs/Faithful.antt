@@ -5,15 +5,18 @@ use mathlib.Core.Bool.{true, false}
 use mathlib.Core.List.{List}
 use Prim.Native.Nat.{ℕ, _<_}
 use lib.ListN.{length, replicate}
-use Rattle.volume.specs.declared.Geometry.{Geometry}
+use Rattle.geometry.specs.declared.Geometry.{Geometry}
 use Rattle.answers.specs.Answer.{succeeded}
 use Rattle.filecalls.specs.declared.Drive.{Drive}
 use Rattle.filecalls.specs.State.{isOpen}
 use Rattle.filecalls.specs.LogIn.{logIn}
-use Rattle.bdos.specs.declared.Call.the-variants.{LogIn}
-use Rattle.bdos.specs.Step.{Asked, asked, callOf, step}
+use Rattle.served.specs.declared.Call.the-variants.{LogIn}
+use Rattle.bdos.specs.Step.{step}
+use Rattle.served.specs.Asked.{Asked, asked}
+use Rattle.served.specs.Calls.{callOf}
 use Rattle.drivebytes.specs.Layout.{decoded}
-use Rattle.drivebytes.specs.RoundTrip.{Bytes, Carried}
+use Rattle.drivebytes.specs.RoundTrip.{Carried}
+use Rattle.numbers.specs.Numbers.{Bytes}
 use Rattle.emulator.specs.Seam.{answered, sealed, atSeam, logInAtSeam}
 
 -- log-in leaves a state that is carried, and an accepted one leaves it open

@@ -4,7 +4,7 @@ use mathlib.Core.List.{List, []}
 use Prim.Native.Nat.{ℕ, _+_, _*_}
 use lib.Dec.{eqb}
 use lib.ListN.{length}
-use Rattle.volume.specs.declared.Geometry.{Geometry}
+use Rattle.geometry.specs.declared.Geometry.{Geometry}
 use Rattle.answers.specs.declared.Refusal.the-variants.{Closed}
 use Rattle.answers.specs.declared.Answer.{Answer}
 use Rattle.answers.specs.declared.Answer.the-variants.{Refused}
@@ -12,7 +12,8 @@ use Rattle.answers.specs.Answer.{numberOf, valueOf}
 use Rattle.filecalls.specs.State.{isOpen}
 use Rattle.filecalls.specs.Outcome.{Outcome}
 use Rattle.filecalls.specs.LogIn.{logIn}
-use Rattle.bdos.specs.Step.{asked, step}
+use Rattle.bdos.specs.Step.{step}
+use Rattle.served.specs.Asked.{asked}
 use Rattle.drivebytes.specs.Layout.{encoded, decoded}
 
 -- "the answer's number in the low 16 bits, log-in's count or slot in the high 16"

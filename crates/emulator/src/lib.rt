@@ -8,7 +8,7 @@ use answers::Answer;
 use answers::Refusal;
 use drivebytes::DRIVE_BYTES;
 use filecalls::Drive;
-use volume::Geometry;
+use geometry::Geometry;
 
 // A number of 32 bits as a size.
 fn size(x: u32) -> usize
@@ -55,7 +55,7 @@ pub extern "C" fn churawel_log_in(
     };
     let reply = Drive::log_in(g, volume);
     let next = reply.drive;
-    drivebytes::encode(next, drive);
+    encoding::encode(next, drive);
     let answer = reply.answer;
     seal(answer)
 }
@@ -79,7 +79,7 @@ pub extern "C" fn churawel_call(
     let g = d.geometry;
     let reply = bdos::enter(g, function, parameter, d, volume, fcb, buffer);
     let next = reply.drive;
-    drivebytes::encode(next, drive);
+    encoding::encode(next, drive);
     let answer = reply.answer;
     seal(answer)
 }

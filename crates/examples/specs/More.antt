@@ -5,12 +5,12 @@ use mathlib.Core.List.{List, [], _∷_, _++_}
 use Prim.Native.Nat.{ℕ, _+_, _^_}
 use lib.Dec.{ltb, eqb}
 use lib.ListN.{replicate, set}
-use Rattle.volume.specs.declared.Geometry.{Geometry}
-use Rattle.volume.specs.Geometry.{lawful}
+use Rattle.geometry.specs.declared.Geometry.{Geometry}
+use Rattle.geometry.specs.Geometry.{lawful}
 use Rattle.volume.specs.Name.{strip, nameAt, goodName}
 use Rattle.lists.specs.Bytes.{part, all}
 use Rattle.blocks.specs.Held.{hold, release, wordsOf, noneHeld, lowestFree, freeCount}
-use Rattle.naming.specs.Delete.{freeMatches}
+use Rattle.deleting.specs.Delete.{freeMatches}
 use Rattle.finding.specs.declared.Kept.{Kept}
 use Rattle.finding.specs.declared.Kept.the-variants.{Nothing, Pattern, Everything}
 use Rattle.filecalls.specs.declared.Drive.{Drive}

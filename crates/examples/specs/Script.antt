@@ -7,11 +7,12 @@ use Prim.Native.Nat.{ℕ}
 use lib.ListN.{length}
 use Rattle.lists.specs.Search.{lowFrom, anyFrom, everyFrom, countFrom, fold}
 use Rattle.lists.specs.Bytes.{part, put, all}
-use Rattle.volume.specs.declared.Geometry.{Geometry}
-use Rattle.volume.specs.Geometry.{lawful, start, slots, slotStart, recordStart, groupOf, placeOf, inside}
+use Rattle.geometry.specs.declared.Geometry.{Geometry}
+use Rattle.geometry.specs.Geometry.{lawful, start, slots, slotStart, recordStart, groupOf, placeOf, inside}
 use Rattle.volume.specs.Name.{strip, nameAt, same, like, goodName}
-use Rattle.volume.specs.Typing.{typeableByte, blankBefore, typeable}
-use Rattle.volume.specs.Entry.{places, blockIn, withBlock, countOf, ofFile, ofGroup, matches}
+use Rattle.typing.specs.Typing.{typeableByte, blankBefore, typeable}
+use Rattle.volume.specs.Entry.{blockIn, withBlock, countOf, ofFile, ofGroup, matches}
+use Rattle.geometry.specs.Geometry.{places}
 use Rattle.volume.specs.Directory.{slotAt, putSlot, findSlot, mapSlot}
 use Rattle.volume.specs.Record.{recordSlot, counted, present, recordAt, putRecord, fillRecord, putFilled, slotRecord}
 use Rattle.blocks.specs.Held.{digit, holds, hold, release, wordOf, wordsOf, lowestFree, freeCount}
@@ -21,17 +22,19 @@ use Rattle.answers.specs.declared.Answer.{Answer}
 use Rattle.answers.specs.declared.Answer.the-variants.{Refused}
 use Rattle.answers.specs.Refusal.{firstMet}
 use Rattle.answers.specs.Answer.{numberOf, valueOf, succeeded}
-use Rattle.inspection.specs.GoodSlot.{goodFields, goodTopBits, inPlaces, names, namedBelow, goodPlace, seenBelow, goodSlot, lowestBad}
-use Rattle.inspection.specs.Named.{named, heldOf}
-use Rattle.finding.specs.Open.{openSlot, closeSlot}
+use Rattle.goodslots.specs.GoodSlot.{goodFields, goodTopBits, inPlaces, names, namedBelow, goodPlace, seenBelow, goodSlot, lowestBad}
+use Rattle.goodslots.specs.Named.{named, heldOf}
+use Rattle.openclose.specs.Open.{openSlot, closeSlot}
 use Rattle.finding.specs.Search.{patternOf, hitFrom}
-use Rattle.finding.specs.Size.{entryEnd, larger, sizeOf}
+use Rattle.measuring.specs.Size.{entryEnd, larger, sizeOf}
 use Rattle.reading.specs.Read.{readBlock, readTests, readBytes}
-use Rattle.naming.specs.Sweep.{renamed, attributed, changed}
-use Rattle.naming.specs.Delete.{deleteTests, freePlace, freeEntry, freeSlot, freeMatches}
-use Rattle.naming.specs.Make.{makeTests, freshEntry}
+use Rattle.sweeping.specs.Sweep.{renamed, attributed, changed}
+use Rattle.deleting.specs.Delete.{deleteTests, freePlace, freeEntry, freeSlot, freeMatches}
+use Rattle.making.specs.Make.{makeTests, freshEntry}
 use Rattle.naming.specs.Rename.{renameTests}
-use Rattle.writing.specs.Write.{alloc, likeEntry, grown, writeSlot, baseEntry, needsBlock, writeBlock, writtenEntry, writeTests}
+use Rattle.deciding.specs.Write.{writeSlot, baseEntry, needsBlock, writeBlock, writeTests}
+use Rattle.entries.specs.Grown.{likeEntry, grown, writtenEntry}
+use Rattle.entries.specs.Alloc.{alloc}
 use Rattle.filecalls.specs.declared.Drive.{Drive}
 use Rattle.filecalls.specs.State.{isOpen, closed}
 use Rattle.filecalls.specs.Outcome.{Outcome, outcome, left, unless, stored, storedAll, changedState}
@@ -42,7 +45,8 @@ use Rattle.filecalls.specs.Names.{deleteLadder, deleteAct, makeLadder, makeAct,
 use Rattle.filecalls.specs.Read.{sequentialTests, randomTests, readDone, readSequentialAct, readRandomAct}
 use Rattle.filecalls.specs.Write.{writeEntry, writeChange, writeDone, writeSequentialAct, writeRandomAct, writeZeroFillAct}
 use Rattle.filecalls.specs.Small.{protectTests, protectAct, userTests, userAct, setRandomTests, setRandomAct}
-use Rattle.several.specs.Several.{readOne, writeOne, onPiece, singles, severalTests, several}
+use Rattle.several.specs.Several.{readOne, writeOne, onPiece, singles, several}
+use Rattle.lent.specs.Lent.{severalTests}
 
 -- The calls that we serve, each with what it is lent beside the volume: a control block, a transfer buffer; those of several
 -- records have their number first.

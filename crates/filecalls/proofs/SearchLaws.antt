@@ -7,7 +7,7 @@ use lib.Dec.{leb, ltb}
 use lib.ListN.{length}
 use borrow.Author.Tests.{ltb-true, lt-ltb, le-ltb, le-leb, lt-leb}
 use Rattle.lists.proofs.BoolLaws.{and-parts}
-use Rattle.volume.specs.Geometry.{slots}
+use Rattle.geometry.specs.Geometry.{slots}
 use Rattle.volume.specs.Record.{slotRecord}
 use Rattle.answers.specs.declared.Refusal.{Refusal}
 use Rattle.answers.specs.declared.Refusal.the-variants.{NoMatch}

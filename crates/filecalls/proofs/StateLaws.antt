@@ -7,7 +7,7 @@ use lib.Dec.{leb, eqb}
 use lib.ListN.{length}
 use borrow.Author.Tests.{not-false, eqb-true, leb-true}
 use Rattle.lists.proofs.BoolLaws.{and-parts}
-use Rattle.volume.specs.Geometry.{lawful, bytes}
+use Rattle.geometry.specs.Geometry.{lawful, bytes}
 use Rattle.answers.specs.declared.Refusal.{Refusal}
 use Rattle.answers.specs.declared.Refusal.the-variants.{Closed, VolumeLength, BlockLength, BufferLength}
 use Rattle.answers.specs.Refusal.{Test, isNone, firstMet}

@@ -10,8 +10,8 @@ use Rattle.answers.specs.declared.Refusal.{Refusal}
 use Rattle.answers.specs.declared.Refusal.the-variants.{Protected}
 use Rattle.answers.specs.declared.Answer.the-variants.{Done, Refused}
 use Rattle.answers.specs.Refusal.{Test, isNone, firstMet}
-use Rattle.writing.specs.Write.{needsBlock, writeBlock, writeTests}
-use Rattle.writing.specs.WritePlan.{entryAfter, volumeAfter, heldAfter}
+use Rattle.deciding.specs.Write.{needsBlock, writeBlock, writeTests}
+use Rattle.deciding.specs.WritePlan.{entryAfter, volumeAfter, heldAfter}
 use Rattle.filecalls.specs.declared.Drive.{Drive}
 use Rattle.filecalls.specs.declared.Reply.{Reply}
 use Rattle.filecalls.specs.Outcome.{keeps, takes, deny, unless, outcome, left, withHeld, changedState, stored, storedAll}

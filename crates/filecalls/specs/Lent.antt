@@ -5,7 +5,7 @@ use Prim.Native.Nat.{ℕ}
 use lib.Dec.{ltb, eqb}
 use lib.ListN.{length}
 use Rattle.lists.specs.Bytes.{byte}
-use Rattle.volume.specs.Geometry.{bytes}
+use Rattle.geometry.specs.Geometry.{bytes}
 use Rattle.volume.specs.Name.{nameOf, goodName}
 use Rattle.control.specs.Block.{position, positionFits}
 use Rattle.answers.specs.declared.Refusal.the-variants.{VolumeLength, BlockLength, BufferLength, DriveCode, Name, Position}

@@ -6,16 +6,16 @@ use Prim.Native.Nat.{ℕ, _%_}
 use lib.Dec.{leb, eqb}
 use Rattle.lists.specs.Bytes.{byte, part}
 use Rattle.volume.specs.declared.Wanted.the-variants.{Empty, File}
-use Rattle.volume.specs.Geometry.{slots}
+use Rattle.geometry.specs.Geometry.{slots}
 use Rattle.volume.specs.Name.{nameOf}
 use Rattle.volume.specs.Directory.{findSlot}
 use Rattle.control.specs.Block.{newName, made}
 use Rattle.answers.specs.declared.Refusal.the-variants.{NoMatch}
 use Rattle.answers.specs.Refusal.{Test, test}
-use Rattle.naming.specs.declared.Edit.the-variants.{Erase, Rename, Attributes}
-use Rattle.naming.specs.Sweep.{changed}
-use Rattle.naming.specs.Delete.{deleteTests}
-use Rattle.naming.specs.Make.{makeTests, freshEntry}
+use Rattle.sweeping.specs.declared.Edit.the-variants.{Erase, Rename, Attributes}
+use Rattle.sweeping.specs.Sweep.{changed}
+use Rattle.deleting.specs.Delete.{deleteTests}
+use Rattle.making.specs.Make.{makeTests, freshEntry}
 use Rattle.naming.specs.Rename.{renameTests}
 use Rattle.filecalls.specs.declared.Drive.{Drive}
 use Rattle.filecalls.specs.Tests.{closedState, volumeLength, blockLength, driveCode, badName, untypeable, tooLarge, protectedDrive}

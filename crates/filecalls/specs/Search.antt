@@ -5,8 +5,8 @@ use mathlib.Core.List.{List, [], _∷_}
 use Prim.Native.Nat.{ℕ, _+_, _%_}
 use lib.Dec.{leb, ltb, eqb}
 use Rattle.lists.specs.Bytes.{byte}
-use Rattle.volume.specs.declared.Geometry.{Geometry}
-use Rattle.volume.specs.Geometry.{slots}
+use Rattle.geometry.specs.declared.Geometry.{Geometry}
+use Rattle.geometry.specs.Geometry.{slots}
 use Rattle.volume.specs.Name.{nameOf, goodName}
 use Rattle.volume.specs.Record.{slotRecord}
 use Rattle.answers.specs.declared.Refusal.the-variants.{DriveCode, Name, Position, NoMatch}

@@ -5,8 +5,8 @@ use Prim.Native.Nat.{ℕ}
 use lib.Dec.{leb, ltb, eqb}
 use lib.ListN.{replicate}
 use Rattle.lists.specs.Bytes.{byte}
-use Rattle.volume.specs.declared.Geometry.{Geometry}
-use Rattle.volume.specs.Geometry.{lawful, slots}
+use Rattle.geometry.specs.declared.Geometry.{Geometry}
+use Rattle.geometry.specs.Geometry.{lawful, slots}
 use Rattle.volume.specs.Name.{nameAt, goodName}
 use Rattle.blocks.specs.Held.{noneHeld}
 use Rattle.finding.specs.declared.Kept.{Kept}

@@ -5,9 +5,9 @@ use Prim.Native.Nat.{ℕ}
 use lib.Dec.{leb, ltb, eqb}
 use lib.ListN.{length}
 use Rattle.lists.specs.Bytes.{byte}
-use Rattle.volume.specs.Geometry.{bytes}
+use Rattle.geometry.specs.Geometry.{bytes}
 use Rattle.volume.specs.Name.{nameAt, goodName}
-use Rattle.volume.specs.Typing.{typeable}
+use Rattle.typing.specs.Typing.{typeable}
 use Rattle.answers.specs.declared.Refusal.the-variants.{Closed, VolumeLength, BlockLength, BufferLength, DriveCode, Name, Untypeable, Position, Beyond, Protected}
 use Rattle.answers.specs.Refusal.{Test, test}
 use Rattle.filecalls.specs.declared.Drive.{Drive}

@@ -5,7 +5,8 @@ use Prim.Native.Nat.{ℕ, _+_, _%_}
 use Rattle.volume.specs.Name.{nameOf}
 use Rattle.control.specs.Block.{position, random, setTo}
 use Rattle.answers.specs.Refusal.{Test}
-use Rattle.writing.specs.Write.{writeSlot, baseEntry, needsBlock, fillsBlock, writeBlock, writtenEntry, writeTests}
+use Rattle.deciding.specs.Write.{writeSlot, baseEntry, needsBlock, fillsBlock, writeBlock, writeTests}
+use Rattle.entries.specs.Grown.{writtenEntry}
 use Rattle.filecalls.specs.declared.Drive.{Drive}
 use Rattle.filecalls.specs.Tests.{protectedDrive}
 use Rattle.filecalls.specs.Outcome.{Change, keeps, takes, recordTo, entryTo, Act, done, unless}

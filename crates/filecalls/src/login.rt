@@ -7,7 +7,7 @@ use crate::Drive;
 use crate::Reply;
 use answers::Answer;
 use answers::Refusal;
-use volume::Geometry;
+use geometry::Geometry;
 
 // The state after log-in: user 0, not protected and no search open, as in the closed state.
 fn logged_in(geometry: Geometry, held: [u64; 4]) -> Drive

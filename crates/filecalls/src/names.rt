@@ -19,7 +19,7 @@ impl Drive {
         let before = answers::refuse(Refusal::Protected, self.protected);
         let g = self.geometry;
         let held = self.held;
-        let gone = naming::delete::delete_matches(g, volume, self.user, &f[1..12], held, before);
+        let gone = deleting::delete_matches(g, volume, self.user, &f[1..12], held, before);
         let why = gone.why;
         let rest = gone.held;
         let mut drive = self;
@@ -35,13 +35,11 @@ impl Drive {
         if !answers::is_none(why) {
             return self.refused(why);
         }
-        let typeable = volume::typing::typeable_name(&f[1..12]);
-        let untypeable = answers::refuse(Refusal::Untypeable, !typeable);
-        let position = answers::refuse(Refusal::Position, f[12] != 0);
+        let file = making::new_file_why(f);
         let protected = answers::refuse(Refusal::Protected, self.protected);
-        let before = answers::first_of(untypeable, answers::first_of(position, protected));
+        let before = answers::first_of(file, protected);
         let g = self.geometry;
-        let made = naming::make::make_file(g, volume, f, self.user, before);
+        let made = making::make_file(g, volume, f, self.user, before);
         let why = made.why;
         self.answered(why, (made.slot % 4) as u8)
     }
@@ -54,7 +52,7 @@ impl Drive {
         if !answers::is_none(why) {
             return self.refused(why);
         }
-        let name = naming::rename::new_name_why(&f[17..28]);
+        let name = naming::rename::new_name_why(f);
         let protected = answers::refuse(Refusal::Protected, self.protected);
         let before = answers::first_of(name, protected);
         let g = self.geometry;

@@ -16,7 +16,7 @@ impl Drive {
             return self.refused(why);
         }
         let g = self.geometry;
-        let found = finding::open::open_file(g, volume, f, self.user);
+        let found = openclose::open_file(g, volume, f, self.user);
         let why = found.why;
         self.answered(why, (found.slot % 4) as u8)
     }
@@ -30,7 +30,7 @@ impl Drive {
             return self.refused(why);
         }
         let g = self.geometry;
-        let found = finding::open::close_file(g, volume, f, self.user);
+        let found = openclose::close_file(g, volume, f, self.user);
         let why = found.why;
         self.answered(why, (found.slot % 4) as u8)
     }
@@ -44,7 +44,7 @@ impl Drive {
             return self.refused(why);
         }
         let g = self.geometry;
-        let why = finding::size::measure(g, volume, f, self.user);
+        let why = measuring::measure(g, volume, f, self.user);
         self.answered(why, 0)
     }
 }

@@ -4,7 +4,7 @@ ghost use mathlib.Core.List.{List, [], _∷_};
 ghost use Prim.Native.Nat.{ℕ, _≤_};
 ghost use lib.Dec.{leb};
 ghost use lib.ListN.{length};
-ghost use Rattle.volume.specs.Geometry.{slots};
+ghost use Rattle.geometry.specs.Geometry.{slots};
 ghost use Rattle.answers.specs.declared.Refusal.the-variants.{NoMatch};
 ghost use Rattle.answers.specs.Refusal.{test, firstMet};
 ghost use Rattle.filecalls.specs.Lent.{firstLent};

@@ -13,7 +13,7 @@ use crate::Search;
 use answers::Answer;
 use answers::Refusal;
 use finding::Kept;
-use volume::Geometry;
+use geometry::Geometry;
 
 // Did the pattern pass 39 and 40?
 fn is_pattern(pattern: &[u8]) -> bool

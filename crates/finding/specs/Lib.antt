@@ -1,4 +1,2 @@
--- The calls that look for entries: open, close, search, size.
-pub mod Open
+-- Search.
 pub mod Search
-pub mod Size

@@ -6,10 +6,10 @@ use Prim.Native.Nat.{ℕ, _-_}
 use lib.Dec.{eqb}
 use Rattle.lists.specs.Search.{lowFrom}
 use Rattle.lists.specs.Bytes.{byte, part}
-use Rattle.volume.specs.declared.Geometry.{Geometry}
+use Rattle.geometry.specs.declared.Geometry.{Geometry}
 use Rattle.volume.specs.declared.Wanted.{Wanted}
 use Rattle.volume.specs.declared.Wanted.the-variants.{Any, Match, MatchGroup}
-use Rattle.volume.specs.Geometry.{slots, groupOf}
+use Rattle.geometry.specs.Geometry.{slots, groupOf}
 use Rattle.volume.specs.Name.{nameAt}
 use Rattle.volume.specs.Directory.{slotFits}
 use Rattle.finding.specs.declared.Kept.{Kept}

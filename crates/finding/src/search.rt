@@ -4,11 +4,11 @@ ghost use mathlib.Core.Bool.{true, cond};
 ghost use Prim.Native.Nat.{_≤_};
 ghost use lib.Dec.{ltb};
 ghost use lib.ListN.{length};
-ghost use Rattle.volume.specs.Geometry.{lawful, bytes, slots};
+ghost use Rattle.geometry.specs.Geometry.{lawful, bytes, slots};
 ghost use Rattle.volume.specs.Record.{slotRecord};
 ghost use Rattle.finding.specs.Search.{kindOf, sought, patternOf, hitFrom};
 use crate::Kept;
-use volume::Geometry;
+use geometry::Geometry;
 use volume::Wanted;
 
 // The kind of search that dr asks for.

@@ -8,12 +8,13 @@ use borrow.Author.Tests.{eq-eqb, ne-eqb}
 use Rattle.lists.specs.Search.{every}
 use Rattle.lists.specs.Bytes.{byte}
 use Rattle.lists.proofs.PartLaws.{byte-part}
-use Rattle.volume.specs.declared.Geometry.{Geometry}
-use Rattle.volume.specs.Geometry.{slotStart}
+use Rattle.geometry.specs.declared.Geometry.{Geometry}
+use Rattle.geometry.specs.Geometry.{slotStart}
 use Rattle.volume.specs.Name.{nameOf, goodName}
-use Rattle.volume.specs.Entry.{isEmpty, places}
+use Rattle.volume.specs.Entry.{isEmpty}
+use Rattle.geometry.specs.Geometry.{places}
 use Rattle.volume.specs.Directory.{slotAt}
-use Rattle.inspection.specs.GoodSlot.{goodFields, goodTopBits, goodPlace, seenBelow, goodSlot}
+use Rattle.goodslots.specs.GoodSlot.{goodFields, goodTopBits, goodPlace, seenBelow, goodSlot}
 
 module _ (g : Geometry) (v : List ℕ) (i : ℕ) where
   -- the first byte of slot i, which begins at `at`

@@ -1,22 +1,17 @@
 // Inspection at log-in: the lowest bad slot, and the blocks that entries name.
 ghost use mathlib.Core.Path.{_≡_};
-ghost use mathlib.Core.Bool.{true, false, _&&_};
+ghost use mathlib.Core.Bool.{true};
 ghost use Prim.Native.Nat.{_+_, _≤_, _<_};
 ghost use lib.ListN.{length};
-ghost use Rattle.lists.specs.Search.{every};
-ghost use Rattle.volume.specs.Geometry.{lawful, bytes, slots};
-ghost use Rattle.volume.specs.Name.{nameOf, goodName};
-ghost use Rattle.volume.specs.Entry.{places};
+ghost use Rattle.geometry.specs.Geometry.{lawful, bytes, slots};
 ghost use Rattle.blocks.specs.Held.{wordsOf, freeCount};
-ghost use Rattle.inspection.specs.GoodSlot.{goodFields, goodTopBits, goodPlace, goodSlot, lowestBad};
-ghost use Rattle.inspection.specs.Named.{heldOf};
-ghost use Rattle.inspection.specs.HeldBelow.{heldBelow, heldUpTo};
-ghost use Rattle.inspection.specs.Marks.{marked};
-use volume::Geometry;
+ghost use Rattle.goodslots.specs.GoodSlot.{goodSlot, lowestBad};
+ghost use Rattle.goodslots.specs.Named.{heldOf};
+ghost use Rattle.maps.specs.HeldBelow.{heldBelow};
+ghost use Rattle.seen.specs.Marks.{marked};
+use geometry::Geometry;
+use maps::Taken;
 use volume::entry;
-use volume::names;
-
-mod seen;
 
 // The lowest bad slot, the number of slots where none is bad; then the held blocks and the number of free ones too.
 pub struct Inspected {
@@ -29,74 +24,6 @@ pub struct Inspected {
 struct Looked {
     slot: usize,
     held: [u64; 4],
-}
-
-// Is what was looked at good? If so, the blocks held with it.
-struct Taken {
-    held: [u64; 4],
-    good: bool,
-}
-
-// Are the bytes other than name and map good?
-fn good_fields(e: &[u8]) -> bool
-    requires { ⌜ length (now e) ≡ 32 ⌝ }
-    ensures { λ r. ⌜ r ≡ goodFields (now (e .entry)) ⌝ }
-{
-    (e[0] <= 15) & (e[12] <= 31) & (e[13] == 0) & (e[14] <= 15) & (e[15] <= 128)
-}
-
-// Do bytes 9 and 10 alone carry a top bit, if any?
-fn good_top_bits(e: &[u8]) -> bool
-    requires { ⌜ length (now e) ≡ 32 ⌝ }
-    ensures { λ r. ⌜ r ≡ goodTopBits (now (e .entry)) ⌝ }
-{
-    let mut k = 0;
-    while k < 11 {
-        if !((e[1 + k] < 128) | (k == 8) | (k == 9)) {
-            return false;
-        }
-        k += 1;
-    }
-    true
-}
-
-// Is everything good that the entry alone shows, but its map?
-fn good_entry(e: &[u8]) -> bool
-    requires { ⌜ length (now e) ≡ 32 ⌝ }
-    ensures { λ r. ⌜ r ≡ goodFields (now (e .entry)) && goodName false (nameOf (now (e .entry))) && goodTopBits (now (e .entry)) ⌝ }
-{
-    if !good_fields(e) {
-        return false;
-    }
-    if !names::good_name(false, &e[1..12]) {
-        return false;
-    }
-    good_top_bits(e)
-}
-
-// Each place of slot i: 0, or a block from D to T-1 that is not held yet, and held from then on.
-fn take_map(g: Geometry, volume: &[u8], i: usize, before: [u64; 4]) -> Taken
-    requires { ⌜ (lawful g ≡ true) × (length (now volume) ≡ bytes g) ⌝ }
-    requires { ⌜ (i < slots g) × (before ≡ wordsOf (heldBelow g (now volume) i)) ⌝ }
-    ensures { λ r. ⌜ r .good ≡ every (places g) (goodPlace g (now (volume .entry)) i) ⌝ }
-    ensures { λ r. ⌜ (r .good ≡ true → r .held ≡ wordsOf (heldUpTo g (now (volume .entry)) i (places g))) ⌝ }
-{
-    let at = g.slot_start(i);
-    let n = g.places();
-    let mut held = before;
-    let mut p = 0;
-    while p < n {
-        let b = entry::block_in(g, &volume[at..at + 32], p);
-        if b != 0 {
-            if !g.is_inside(b) | blocks::is_held(held, b) {
-                return Taken { good: false, held };
-            }
-            let next = blocks::hold(held, b);
-            held = next;
-        }
-        p += 1;
-    }
-    Taken { good: true, held }
 }
 
 // Is slot i good? Then its blocks are held beside those of the lower slots, and its mark is set.
@@ -112,10 +39,10 @@ fn take_slot(g: Geometry, volume: &[u8], i: usize, held: [u64; 4], marks: &mut [
     if volume[at] == entry::EMPTY {
         return Taken { good: true, held };
     }
-    if !good_entry(&volume[at..at + 32]) {
+    if !goodslots::good_entry(&volume[at..at + 32]) {
         return Taken { good: false, held };
     }
-    let taken = take_map(g, volume, i, held);
+    let taken = maps::take_map(g, volume, i, held);
     if !taken.good {
         return Taken { good: false, held };
     }

@@ -12,17 +12,18 @@ use Rattle.lists.specs.Search.{countFrom, fold}
 use Rattle.lists.specs.Bytes.{byte, part}
 use Rattle.lists.proofs.BoolLaws.{and-left}
 use Rattle.blocks.proofs.CountLaws.{count-not}
-use Rattle.volume.specs.declared.Geometry.{Geometry}
-use Rattle.volume.specs.Geometry.{slots}
+use Rattle.geometry.specs.declared.Geometry.{Geometry}
+use Rattle.geometry.specs.Geometry.{slots}
 use Rattle.volume.specs.Name.{strip, nameOf, same}
-use Rattle.volume.specs.Entry.{Entry, isEmpty, places, ofFile}
+use Rattle.volume.specs.Entry.{Entry, isEmpty, ofFile}
+use Rattle.geometry.specs.Geometry.{places}
 use Rattle.volume.specs.Directory.{slotAt}
 use Rattle.volume.proofs.NameLaws.{length-strip}
-use Rattle.inspection.specs.GoodSlot.{goodSlot}
-use Rattle.inspection.proofs.GoodLaws.{Fields, fields-good, good-facts}
+use Rattle.goodslots.specs.GoodSlot.{goodSlot}
+use Rattle.goodslots.proofs.GoodLaws.{Fields, fields-good, good-facts}
 use Rattle.text.specs.Decimal.{decimal}
 use Rattle.text.proofs.DecimalLaws.{decimal-one, decimal-more}
-use Rattle.finding.specs.Size.{entryEnd, larger, sizeOf}
+use Rattle.measuring.specs.Size.{entryEnd, larger, sizeOf}
 use Rattle.listing.specs.Listing.{isUsed, usedPlaces, moreBlocks, blocksOf, isListed, nameText, line, lineAt, linesFrom}
 
 -- ---- how many digits a number has

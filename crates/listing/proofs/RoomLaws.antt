@@ -9,10 +9,10 @@ use lib.ListN.{length, take, drop, length-append}
 use lib.Seq.{take-at}
 use borrow.Author.Tests.{ltb-false}
 use Rattle.blocks.specs.Held.{freeCount, isFree}
-use Rattle.volume.specs.Geometry.{lawful, bytes, slots}
-use Rattle.inspection.specs.GoodSlot.{lowestBad}
-use Rattle.inspection.specs.Named.{heldOf}
-use Rattle.inspection.proofs.AcceptedLaws.{lowest-bad-le, accepted}
+use Rattle.geometry.specs.Geometry.{lawful, bytes, slots}
+use Rattle.goodslots.specs.GoodSlot.{lowestBad}
+use Rattle.goodslots.specs.Named.{heldOf}
+use Rattle.goodslots.proofs.AcceptedLaws.{lowest-bad-le, accepted}
 use Rattle.text.specs.Text.{Text, text, puts}
 use Rattle.text.proofs.TextLaws.{puts-room}
 use Rattle.answers.specs.declared.Refusal.the-variants.{VolumeLength}

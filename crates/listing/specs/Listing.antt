@@ -6,17 +6,18 @@ use Prim.Native.Nat.{ℕ, zero, suc, _+_}
 use lib.Dec.{eqb}
 use Rattle.lists.specs.Search.{countFrom, fold}
 use Rattle.lists.specs.Bytes.{byte, part}
-use Rattle.volume.specs.declared.Geometry.{Geometry}
+use Rattle.geometry.specs.declared.Geometry.{Geometry}
 use Rattle.volume.specs.declared.Wanted.the-variants.{File}
-use Rattle.volume.specs.Geometry.{slots}
+use Rattle.geometry.specs.Geometry.{slots}
 use Rattle.volume.specs.Name.{strip, nameOf}
-use Rattle.volume.specs.Entry.{Entry, isEmpty, places, blockIn, ofFile}
+use Rattle.volume.specs.Entry.{Entry, isEmpty, blockIn, ofFile}
+use Rattle.geometry.specs.Geometry.{places}
 use Rattle.volume.specs.Directory.{slotAt, findSlot}
 use Rattle.text.specs.Decimal.{decimal}
 use Rattle.answers.specs.declared.Answer.{Answer}
 use Rattle.answers.specs.declared.Answer.the-variants.{Done, Ready, BadSlot, Refused, Several}
 use Rattle.answers.specs.Refusal.{refusalNumber}
-use Rattle.finding.specs.Size.{sizeOf}
+use Rattle.measuring.specs.Size.{sizeOf}
 use Rattle.filecalls.specs.LogIn.{logIn}
 
 -- "a volume of V's geometry (40,960 bytes)": B 1,024, T 40, D 1

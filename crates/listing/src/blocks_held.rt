@@ -3,11 +3,11 @@ ghost use mathlib.Core.Path.{_≡_};
 ghost use mathlib.Core.Bool.{true, cond};
 ghost use Prim.Native.Nat.{_+_, _*_, _≤_, _<_};
 ghost use lib.ListN.{length};
-ghost use Rattle.volume.specs.Geometry.{lawful, bytes, slots};
+ghost use Rattle.geometry.specs.Geometry.{lawful, bytes, slots};
 ghost use Rattle.volume.specs.Name.{strip};
-ghost use Rattle.volume.specs.Entry.{places};
+ghost use Rattle.geometry.specs.Geometry.{places};
 ghost use Rattle.listing.specs.Listing.{isUsed, usedPlaces, moreBlocks, blocksOf};
-use volume::Geometry;
+use geometry::Geometry;
 use volume::Wanted;
 
 // 1 where place p of the entry's map names a block, else 0.

@@ -8,7 +8,7 @@ ghost use Rattle.listing.specs.Listing.{geometryV, refusedWord, listing}
 ghost use Rattle.text.specs.Decimal.{decimal};
 use answers::Answer;
 use filecalls::Drive;
-use volume::Geometry;
+use geometry::Geometry;
 
 mod blocks_held;
 mod lines;

@@ -3,12 +3,12 @@ ghost use mathlib.Core.Path.{_≡_};
 ghost use mathlib.Core.Bool.{true};
 ghost use Prim.Native.Nat.{_<_};
 ghost use lib.ListN.{length};
-ghost use Rattle.volume.specs.Geometry.{lawful, bytes, slots};
+ghost use Rattle.geometry.specs.Geometry.{lawful, bytes, slots};
 ghost use Rattle.volume.specs.Name.{strip};
 ghost use Rattle.text.specs.Text.{text, puts};
 ghost use Rattle.listing.specs.Listing.{isListed, nameText, line, lineAt, linesFrom, accepted};
 use crate::blocks_held;
-use volume::Geometry;
+use geometry::Geometry;
 use volume::Wanted;
 
 // The bytes of s without their top bits.
@@ -40,7 +40,7 @@ fn put_line(g: Geometry, volume: &[u8], e: &[u8], out: &mut [u8], at: usize) -> 
     ensures { λ r. ⌜ text (now (out .exit)) r ≡ puts (text (now (out .entry)) at) (line g (now (volume .entry)) (now (e .entry))) ⌝ }
 {
     let user = e[0];
-    let size = finding::size::size_of(g, volume, user, &e[1..12]);
+    let size = measuring::size_of(g, volume, user, &e[1..12]);
     let blocks = blocks_held::blocks_of(g, volume, user, &e[1..12]);
     let a = text::put_decimal(out, at, lists::wide(user));
     let b = text::put_byte(out, a, b' ');

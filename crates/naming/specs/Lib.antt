@@ -1,6 +1,2 @@
--- The calls on names: make, delete, rename, attributes.
-pub mod Sweep
-pub mod Edited
-pub mod Delete
-pub mod Make
+-- The call that gives a file another name.
 pub mod Rename

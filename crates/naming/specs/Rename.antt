@@ -2,9 +2,9 @@
 use mathlib.Core.List.{List, [], _∷_}
 use Prim.Native.Nat.{ℕ}
 use lib.Dec.{leb, ltb}
-use Rattle.volume.specs.declared.Geometry.{Geometry}
+use Rattle.geometry.specs.declared.Geometry.{Geometry}
 use Rattle.volume.specs.declared.Wanted.the-variants.{File, ReadOnlyFile}
-use Rattle.volume.specs.Geometry.{slots}
+use Rattle.geometry.specs.Geometry.{slots}
 use Rattle.volume.specs.Directory.{findSlot}
 use Rattle.answers.specs.declared.Refusal.the-variants.{NoMatch, ReadOnly, Exists}
 use Rattle.answers.specs.Refusal.{Test, test}

@@ -5,31 +5,30 @@ ghost use mathlib.Core.List.{List, [], _∷_};
 ghost use lib.Dec.{leb};
 ghost use lib.ListN.{length};
 ghost use Rattle.volume.specs.declared.Wanted.the-variants.{File};
-ghost use Rattle.volume.specs.Geometry.{lawful, bytes, slots};
+ghost use Rattle.geometry.specs.Geometry.{lawful, bytes, slots};
 ghost use Rattle.volume.specs.Name.{strip, goodName};
-ghost use Rattle.volume.specs.Typing.{typeable};
+ghost use Rattle.typing.specs.Typing.{typeable};
 ghost use Rattle.volume.specs.Directory.{findSlot, mapSlots};
+ghost use Rattle.control.specs.Block.{newName};
 ghost use Rattle.answers.specs.declared.Refusal.the-variants.{Name, Untypeable, NoMatch};
 ghost use Rattle.answers.specs.Refusal.{test, isNone, first, firstMet};
-ghost use Rattle.naming.specs.declared.Edit.the-variants.{Rename, Attributes};
-ghost use Rattle.naming.specs.Sweep.{changed};
+ghost use Rattle.sweeping.specs.declared.Edit.the-variants.{Rename, Attributes};
+ghost use Rattle.sweeping.specs.Sweep.{changed};
 ghost use Rattle.naming.specs.Rename.{renameTests};
-use crate::Edit;
-use crate::sweep;
 use answers::Refusal;
-use volume::Geometry;
+use geometry::Geometry;
+use sweeping::Edit;
 use volume::Wanted;
 use volume::directory;
 use volume::names;
-use volume::typing;
 
-// Why a name can't be a file's new one, whatever the directory holds: 39, then 45.
-pub fn new_name_why(new: &[u8]) -> Refusal
-    requires { ⌜ length (now new) ≡ 11 ⌝ }
-    ensures { λ r. ⌜ r ≡ firstMet (test Name (not (goodName false (strip (now (new .entry))))) ∷ test Untypeable (not (typeable (strip (now (new .entry))))) ∷ []) ⌝ }
+// Why the control block's new name can't be a file's, whatever the directory holds: 39, then 45.
+pub fn new_name_why(f: &[u8]) -> Refusal
+    requires { ⌜ length (now f) ≡ 36 ⌝ }
+    ensures { λ r. ⌜ r ≡ firstMet (test Name (not (goodName false (newName (now (f .entry))))) ∷ test Untypeable (not (typeable (newName (now (f .entry))))) ∷ []) ⌝ }
 {
-    let bad = answers::refuse(Refusal::Name, !names::good_name(false, new));
-    let untypeable = answers::refuse(Refusal::Untypeable, !typing::typeable_name(new));
+    let bad = answers::refuse(Refusal::Name, !names::good_name(false, &f[17..28]));
+    let untypeable = answers::refuse(Refusal::Untypeable, !typing::typeable_name(&f[17..28]));
     answers::first_of(bad, untypeable)
 }
 
@@ -65,7 +64,7 @@ pub fn rename_file(
 {
     let why = answers::first_of(before, rename_why(g, volume, user, name, new));
     if answers::is_none(why) {
-        sweep::change_all(g, volume, user, name, new, Edit::Rename);
+        sweeping::change_all(g, volume, user, name, new, Edit::Rename);
     }
     why
 }
@@ -81,7 +80,7 @@ pub fn mark_file(g: Geometry, volume: &mut [u8], user: u8, name: &[u8], before: 
     let no_match = answers::refuse(Refusal::NoMatch, g.slots() <= slot);
     let why = answers::first_of(before, no_match);
     if answers::is_none(why) {
-        sweep::change_all(g, volume, user, name, name, Edit::Attributes);
+        sweeping::change_all(g, volume, user, name, name, Edit::Attributes);
     }
     why
 }

@@ -2,7 +2,7 @@
 use mathlib.Core.Path.{_≡_, refl}
 use mathlib.Core.List.{[], _∷_, _++_}
 use Rattle.lists.specs.Bytes.{part}
-use Rattle.volume.specs.Geometry.{lawful}
+use Rattle.geometry.specs.Geometry.{lawful}
 use Rattle.volume.specs.Name.{same}
 use Rattle.answers.specs.Refusal.{firstMet}
 use Rattle.filecalls.specs.State.{isOpen}
@@ -10,7 +10,8 @@ use Rattle.filecalls.specs.Outcome.{outcome, unless}
 use Rattle.filecalls.specs.LogIn.{logInTests, refusedLogIn, logIn}
 use Rattle.filecalls.specs.Search.{firstTests, searchFirstAct, nextTests, searchNextAct}
 use Rattle.filecalls.specs.Small.{setRandomTests, setRandomAct}
-use Rattle.bdos.specs.Step.{callOf, does, step}
+use Rattle.bdos.specs.Step.{carries, does, step}
+use Rattle.served.specs.Calls.{callOf}
 use Rattle.text.specs.Text.{putByte, puts}
 use Rattle.text.specs.Decimal.{decimalIn, decimal}
 use Rattle.script.specs.Script.{headerOf, callLength, nextOf, callAt}
@@ -54,5 +55,5 @@ few-calls : transcript (
     ++ (82 ∷ 69 ∷ 67 ∷ 79 ∷ 82 ∷ 68 ∷ 32 ∷ 48 ∷ 32 ∷ 48 ∷ 49 ∷ 48 ∷ 50 ∷ 48 ∷ 57 ∷ 48 ∷ 57 ∷ 10 ∷ [])
     -- END 5
     ++ (69 ∷ 78 ∷ 68 ∷ 32 ∷ 53 ∷ 10 ∷ [])
-unfolding transcript headerOf runFrom ended nextOf callLength callAt played laid puts putByte step does callOf outcome unless firstMet logIn logInTests refusedLogIn lawful isOpen setRandomAct setRandomTests searchFirstAct firstTests searchNextAct nextTests callLine shown hex badLine endLine decimal decimalIn recordLines recordLine same part
+unfolding transcript headerOf runFrom ended nextOf callLength callAt played laid puts putByte step does carries callOf outcome unless firstMet logIn logInTests refusedLogIn lawful isOpen setRandomAct setRandomTests searchFirstAct firstTests searchNextAct nextTests callLine shown hex badLine endLine decimal decimalIn recordLines recordLine same part
 few-calls = refl

@@ -5,9 +5,9 @@ use Prim.Native.Nat.{ℕ, _+_, _-_}
 use native.Mathlib.Omega.{arith}
 use lib.ListN.{take, drop}
 use Rattle.lists.specs.Bytes.{part, put}
-use Rattle.volume.specs.declared.Geometry.{Geometry}
+use Rattle.geometry.specs.declared.Geometry.{Geometry}
 use Rattle.filecalls.specs.declared.Drive.{Drive}
-use Rattle.bdos.specs.Step.{asked}
+use Rattle.served.specs.Asked.{asked}
 use Rattle.text.specs.Text.{Text}
 use Rattle.script.specs.declared.Head.{Head}
 use Rattle.script.specs.declared.Next.the-variants.{Call}

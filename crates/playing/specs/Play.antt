@@ -5,15 +5,16 @@ use Prim.Native.Nat.{ℕ, _+_}
 use lib.Dec.{eqb}
 use lib.ListN.{drop}
 use Rattle.lists.specs.Bytes.{put}
-use Rattle.volume.specs.declared.Geometry.{Geometry}
+use Rattle.geometry.specs.declared.Geometry.{Geometry}
 use Rattle.answers.specs.declared.Answer.the-variants.{Done}
 use Rattle.filecalls.specs.declared.Drive.{Drive}
 use Rattle.filecalls.specs.Outcome.{Outcome}
-use Rattle.bdos.specs.Step.{Asked, step}
+use Rattle.bdos.specs.Step.{step}
+use Rattle.served.specs.Asked.{Asked}
 use Rattle.text.specs.Text.{Text, text, puts}
 use Rattle.script.specs.declared.Next.{Next}
 use Rattle.script.specs.declared.Next.the-variants.{End, Bad, Call}
-use Rattle.script.specs.Numbers.{three}
+use Rattle.numbers.specs.Numbers.{three}
 use Rattle.script.specs.Script.{nextOf, callAt}
 use Rattle.transcript.specs.Lines.{callLine}
 

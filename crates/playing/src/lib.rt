@@ -4,7 +4,7 @@ ghost use Prim.Native.Nat.{ℕ, _+_, _≤_};
 ghost use lib.ListN.{length};
 ghost use Rattle.filecalls.specs.State.{closed};
 ghost use Rattle.filecalls.specs.Outcome.{left};
-ghost use Rattle.bdos.specs.Step.{asked};
+ghost use Rattle.served.specs.Asked.{asked};
 ghost use Rattle.text.specs.Text.{Text, text, puts};
 ghost use Rattle.script.specs.declared.Next.the-variants.{Call};
 ghost use Rattle.script.specs.Script.{nextOf, lentBy, usedBy, Within};
@@ -12,10 +12,10 @@ ghost use Rattle.playing.specs.Play.{laid, played, leaves, called, after
 use answers::Answer;
 use filecalls::Drive;
 use filecalls::Reply;
+use geometry::Geometry;
 use script::Head;
 use script::Next;
 use transcript::lines;
-use volume::Geometry;
 
 // What a turn did: what stood next and how many bytes it took, the state after it, and the next place in the transcript.
 pub struct Turn {

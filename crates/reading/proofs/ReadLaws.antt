@@ -7,9 +7,9 @@ use native.Mathlib.Omega.{arith}
 use lib.Dec.{leb, ltb, eqb}
 use borrow.Author.Tests.{leb-false, ltb-true, not-false, le-leb, lt-leb, lt-ltb}
 use Rattle.lists.proofs.BoolLaws.{and-left, and-right}
-use Rattle.volume.specs.declared.Geometry.{Geometry}
+use Rattle.geometry.specs.declared.Geometry.{Geometry}
 use Rattle.volume.specs.declared.Wanted.the-variants.{File, Group}
-use Rattle.volume.specs.Geometry.{slots, groupOf, inside}
+use Rattle.geometry.specs.Geometry.{slots, groupOf, inside}
 use Rattle.volume.specs.Entry.{Entry, extent, ofFile, ofGroup}
 use Rattle.volume.specs.Directory.{slotAt, findSlot}
 use Rattle.volume.specs.Record.{recordSlot, recordBlock, counted, present}

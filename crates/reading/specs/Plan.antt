@@ -2,8 +2,8 @@
 use mathlib.Core.Bool.{cond}
 use mathlib.Core.List.{List}
 use Prim.Native.Nat.{ℕ}
-use Rattle.volume.specs.declared.Geometry.{Geometry}
-use Rattle.volume.specs.Geometry.{inside}
+use Rattle.geometry.specs.declared.Geometry.{Geometry}
+use Rattle.geometry.specs.Geometry.{inside}
 use Rattle.volume.specs.Directory.{slotAt}
 use Rattle.volume.specs.Record.{recordSlot, recordBlock, counted}
 use Rattle.answers.specs.declared.Refusal.{Refusal}

@@ -3,9 +3,9 @@ use mathlib.Core.Bool.{Bool, not, cond}
 use mathlib.Core.List.{List, [], _∷_}
 use Prim.Native.Nat.{ℕ}
 use lib.Dec.{leb}
-use Rattle.volume.specs.declared.Geometry.{Geometry}
+use Rattle.geometry.specs.declared.Geometry.{Geometry}
 use Rattle.volume.specs.declared.Wanted.the-variants.{File}
-use Rattle.volume.specs.Geometry.{slots, inside}
+use Rattle.geometry.specs.Geometry.{slots, inside}
 use Rattle.volume.specs.Directory.{slotAt, findSlot}
 use Rattle.volume.specs.Record.{recordSlot, recordBlock, recordAt, present}
 use Rattle.answers.specs.declared.Refusal.{Refusal}

@@ -3,7 +3,7 @@ ghost use mathlib.Core.Path.{_≡_};
 ghost use mathlib.Core.Bool.{true, false, cond};
 ghost use Prim.Native.Nat.{_<_};
 ghost use lib.ListN.{length};
-ghost use Rattle.volume.specs.Geometry.{lawful, bytes, slots};
+ghost use Rattle.geometry.specs.Geometry.{lawful, bytes, slots};
 ghost use Rattle.volume.specs.Name.{strip, nameOf};
 ghost use Rattle.volume.specs.Directory.{slotAt};
 ghost use Rattle.volume.specs.Record.{counted, recordSlot, recordAt};
@@ -12,7 +12,7 @@ ghost use Rattle.answers.specs.Refusal.{isNone, firstMet};
 ghost use Rattle.reading.specs.Read.{readTests, readBytes};
 ghost use Rattle.reading.specs.Plan.{planIn, readPlan};
 use answers::Refusal;
-use volume::Geometry;
+use geometry::Geometry;
 use volume::Wanted;
 
 // Where the record lies, or why it can't be read.

@@ -5,6 +5,7 @@ ghost use Prim.Native.Nat.{_-_, _≤_, min};
 ghost use lib.ListN.{length};
 ghost use Rattle.lists.specs.Bytes.{part};
 use filecalls::Drive;
+use geometry::Geometry;
 use libc::STDIN_FILENO;
 use libc::STDOUT_FILENO;
 use script::Header;
@@ -12,7 +13,6 @@ use script::Next;
 use script::window;
 use transcript::lines;
 use transcript::records;
-use volume::Geometry;
 
 // Where `out` is written to standard output before more is appended. What is appended in one go, the longest line of a
 // call (131,597 bytes) or 256 records (68,864 bytes), then has room in its 262,144 bytes, the last two lines too.

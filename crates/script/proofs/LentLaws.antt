@@ -6,7 +6,7 @@ use native.Mathlib.Omega.{arith}
 use lib.Dec.{leb, eqb}
 use Rattle.lists.specs.Search.{everyFrom}
 use Rattle.lists.proofs.SearchLaws.{every-true}
-use Rattle.bdos.specs.Step.{callOf}
+use Rattle.served.specs.Calls.{callOf}
 use Rattle.script.specs.Lent.{isServed, lendsBlock, lendsBuffer}
 
 abbrev alike : Bool → Bool → Bool

@@ -9,7 +9,7 @@ use lib.ListN.{length}
 use borrow.Author.Tests.{not-true, not-false, ne-eqb}
 use Rattle.lists.specs.Bytes.{byte}
 use Rattle.script.specs.declared.Next.the-variants.{End, Bad, Call}
-use Rattle.script.specs.Numbers.{two}
+use Rattle.numbers.specs.Numbers.{two}
 use Rattle.script.specs.declared.Head.{Head}
 use Rattle.script.specs.Script.{isKnown, callLength, headOf, nextOf, lentBy, callAt}
 

@@ -1,5 +1,4 @@
 -- The script of a replay.
-pub mod Numbers
 pub mod Lent
 pub mod Script
 pub mod Window

@@ -7,12 +7,13 @@ use Prim.Native.Nat.{ℕ, _+_, _≤_}
 use lib.Dec.{leb, eqb}
 use lib.ListN.{length}
 use Rattle.lists.specs.Bytes.{byte, part}
-use Rattle.volume.specs.declared.Geometry.{Geometry}
-use Rattle.bdos.specs.Step.{Asked, asked, callOf}
+use Rattle.geometry.specs.declared.Geometry.{Geometry}
+use Rattle.served.specs.Asked.{Asked, asked}
+use Rattle.served.specs.Calls.{callOf}
 use Rattle.script.specs.declared.Header.{Header}
 use Rattle.script.specs.declared.Head.{Head}
 use Rattle.script.specs.declared.Next.{Next}
-use Rattle.script.specs.Numbers.{two, four}
+use Rattle.numbers.specs.Numbers.{two, four}
 use Rattle.script.specs.Lent.{isServed}
 use Rattle.script.specs.declared.Header.the-variants as header
 use Rattle.script.specs.declared.Next.the-variants as next

@@ -1,6 +1,6 @@
 // Which numbers are served, and what their calls are lent.
 ghost use mathlib.Core.Path.{_≡_};
-ghost use Rattle.bdos.specs.Step.{callOf};
+ghost use Rattle.served.specs.Calls.{callOf};
 ghost use Rattle.script.specs.Lent.{isServed, lendsBlock, lendsBuffer};
 
 // Is the call of this number lent a control block?

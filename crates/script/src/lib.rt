@@ -1,12 +1,11 @@
 // The script of a replay: its header, and the call that stands next.
 ghost use mathlib.Core.Path.{_≡_};
 ghost use lib.ListN.{length};
-ghost use Rattle.script.specs.Numbers.{three};
+ghost use Rattle.numbers.specs.Numbers.{three};
 ghost use Rattle.script.specs.Script.{headerOf, AtMost, nextOf, isKnown, Within};
-use volume::Geometry;
+use geometry::Geometry;
 
 pub mod lending;
-mod numbers;
 pub mod window;
 
 // The longest call: five bytes, 255 of control block, 65,535 of buffer.

@@ -2,22 +2,20 @@
 -- record goes to its own piece of that buffer. It equals k single calls in order, stopping at the first refused one. It
 -- answers how many were done and the stopping number, 0 if none." A refused single call leaves all as it was, so pieces from
 -- the stop on keep their bytes.
-use mathlib.Core.Bool.{not, cond, _&&_}
-use mathlib.Core.List.{List, [], _∷_}
+use mathlib.Core.Bool.{cond}
+use mathlib.Core.List.{List}
 use Prim.Native.Nat.{ℕ, zero, suc, _*_}
-use lib.Dec.{leb, eqb}
-use lib.ListN.{length}
 use Rattle.lists.specs.Bytes.{part, put}
 use Rattle.answers.specs.declared.Refusal.{Refusal}
-use Rattle.answers.specs.declared.Refusal.the-variants.{None, BadCount, BufferLength}
+use Rattle.answers.specs.declared.Refusal.the-variants.{None}
 use Rattle.answers.specs.declared.Answer.the-variants as answer
-use Rattle.answers.specs.Refusal.{Test, test, isNone, firstMet}
+use Rattle.answers.specs.Refusal.{isNone, firstMet}
 use Rattle.answers.specs.Answer.{succeeded, whyOf}
 use Rattle.filecalls.specs.declared.Drive.{Drive}
 use Rattle.filecalls.specs.Outcome.{Outcome, outcome}
-use Rattle.filecalls.specs.Tests.{closedState, volumeLength, blockLength}
 use Rattle.filecalls.specs.Read.{readSequentialAct}
 use Rattle.filecalls.specs.Write.{writeSequentialAct}
+use Rattle.lent.specs.Lent.{severalTests}
 
 -- a single call: state, volume, control block and transfer buffer, and all that it leaves
 abbrev pub Single : Type 0
@@ -47,18 +45,7 @@ singles single i (suc k) d v f b =
     let rest : Outcome = singles single (suc i) k (o .drive) (o .volume) (o .block) (o .buffer) in
     cond (succeeded (o .answer)) rest (ended i (whyOf (o .answer)) (o .drive) (o .volume) (o .block) (o .buffer))
 
--- "46 for k outside 1..16"
-abbrev pub badCount : ℕ → Test
-badCount k = test BadCount (not (leb 1 k && leb k 16))
-
--- "35 then asks for 128k"
-abbrev pub piecesLength : ℕ → List ℕ → Test
-piecesLength k b = test BufferLength (not (eqb (length b) (128 * k)))
-
--- 32, 33, 34; "46 .., before 35"
-unfoldable pub severalTests : Drive → List ℕ → List ℕ → List ℕ → ℕ → List Test
-severalTests d v f b k = closedState d ∷ volumeLength d v ∷ blockLength f ∷ badCount k ∷ piecesLength k b ∷ []
-
+-- the tests of what is lent refuse, or leave the records to the single calls
 unfoldable pub several : Single → Drive → List ℕ → List ℕ → List ℕ → ℕ → Outcome
 several single d v f b k =
     let done : Outcome = singles single 0 k d v f b in

@@ -4,7 +4,6 @@ ghost use Prim.Native.Nat.{_+_, _*_, _≤_};
 ghost use lib.ListN.{length};
 ghost use Rattle.filecalls.specs.Outcome.{left};
 ghost use Rattle.several.specs.Several.{readOne, onPiece, singles, several};
-use crate::lent;
 use answers::Refusal;
 use filecalls::Drive;
 use filecalls::Reply;

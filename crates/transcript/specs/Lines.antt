@@ -7,7 +7,7 @@ use Prim.Native.Nat.{ℕ}
 use Rattle.text.specs.Decimal.{decimal}
 use Rattle.answers.specs.declared.Answer.{Answer}
 use Rattle.answers.specs.Answer.{numberOf, valueOf}
-use Rattle.bdos.specs.Step.{callOf}
+use Rattle.served.specs.Calls.{callOf}
 use Rattle.transcript.specs.Hex.{hex}
 use Rattle.script.specs.Lent.{lendsBlock, lendsBuffer}
 

@@ -6,12 +6,12 @@ use mathlib.Core.List.{List}
 use Prim.Native.Nat.{ℕ, _+_, _%_, _≤_, _<_}
 use lib.ListN.{length}
 use Rattle.lists.proofs.PartLaws.{length-part, length-put, part-put, put-part, part-apart}
-use Rattle.volume.specs.declared.Geometry.{Geometry}
-use Rattle.volume.specs.Geometry.{lawful, bytes, records, slots, slotStart, recordStart}
+use Rattle.geometry.specs.declared.Geometry.{Geometry}
+use Rattle.geometry.specs.Geometry.{lawful, bytes, records, slots, slotStart, recordStart}
 use Rattle.volume.specs.Entry.{Entry}
 use Rattle.volume.specs.Directory.{slotAt, putSlot}
 use Rattle.volume.specs.Record.{recordAt, putRecord}
-use Rattle.volume.proofs.GeometryLaws.{slot-in, slots-apart, record-in, records-apart, records-apart-within, slot-record-apart}
+use Rattle.geometry.proofs.GeometryLaws.{slot-in, slots-apart, record-in, records-apart, records-apart-within, slot-record-apart}
 
 swap : {A B : Type 0} → A ⊎ B → B ⊎ A
 swap (inl a) = inr a

@@ -9,10 +9,10 @@ use borrow.Author.Tests.{ltb-true, ltb-false}
 use Rattle.lists.proofs.BoolLaws.{and-left}
 use Rattle.lists.specs.Search.{lowFrom}
 use Rattle.lists.proofs.SearchLaws.{Low, low-le, low-hit, low-miss, low-is}
-use Rattle.volume.specs.declared.Geometry.{Geometry}
+use Rattle.geometry.specs.declared.Geometry.{Geometry}
 use Rattle.volume.specs.declared.Wanted.{Wanted}
 use Rattle.volume.specs.declared.Wanted.the-variants.{File, Group}
-use Rattle.volume.specs.Geometry.{slots, groupOf}
+use Rattle.geometry.specs.Geometry.{slots, groupOf}
 use Rattle.volume.specs.Entry.{Entry, extent, ofFile, ofGroup}
 use Rattle.volume.specs.Directory.{fits, slotFits, slotAt, findSlot}
 

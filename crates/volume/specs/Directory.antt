@@ -5,10 +5,10 @@ use Prim.Native.Nat.{ℕ}
 use lib.Dec.{eqb}
 use Rattle.lists.specs.Search.{lowFrom, lowest, fold}
 use Rattle.lists.specs.Bytes.{part, put}
-use Rattle.volume.specs.declared.Geometry.{Geometry}
+use Rattle.geometry.specs.declared.Geometry.{Geometry}
 use Rattle.volume.specs.declared.Wanted.{Wanted}
 use Rattle.volume.specs.declared.Wanted.the-variants.{Any, Empty, File, ReadOnlyFile, Group, Match, ReadOnlyMatch, MatchGroup}
-use Rattle.volume.specs.Geometry.{slots, slotStart, groupOf}
+use Rattle.geometry.specs.Geometry.{slots, slotStart, groupOf}
 use Rattle.volume.specs.Entry.{Entry, isEmpty, readOnly, extent, ofFile, ofGroup, matches}
 
 -- the entry in slot i, and another laid there

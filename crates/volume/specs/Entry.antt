@@ -6,8 +6,8 @@ use Prim.Native.Nat.{ℕ, _+_, _*_, _/_, _%_, min, max}
 use lib.Dec.{leb, ltb, eqb}
 use lib.ListN.{set}
 use Rattle.lists.specs.Bytes.{byte}
-use Rattle.volume.specs.declared.Geometry.{Geometry}
-use Rattle.volume.specs.Geometry.{groupOf}
+use Rattle.geometry.specs.declared.Geometry.{Geometry}
+use Rattle.geometry.specs.Geometry.{groupOf}
 use Rattle.volume.specs.Name.{nameOf, same, like}
 
 abbrev pub Entry : Type 0
@@ -24,11 +24,8 @@ readOnly e = leb 128 (byte e 9)
 abbrev pub extent : List ℕ → ℕ
 extent e = 32 * byte e 14 + byte e 12
 
--- the map: how many places it has, the block number in place p, and place p given another. Nothing else knows how
--- block numbers are written.
-unfoldable pub places : Geometry → ℕ
-places g = 16
-
+-- the map: the block number in place p, and place p given another. Nothing else knows how block numbers are written, but
+-- for `places`, how many the map has.
 unfoldable pub blockIn : Geometry → Entry → ℕ → ℕ
 blockIn g e p = byte e (16 + p)
 

@@ -8,9 +8,9 @@ use lib.Dec.{ltb, eqb}
 use lib.ListN.{replicate}
 use Rattle.lists.specs.Bytes.{part, put}
 use Rattle.lists.specs.Search.{fold}
-use Rattle.volume.specs.declared.Geometry.{Geometry}
+use Rattle.geometry.specs.declared.Geometry.{Geometry}
 use Rattle.volume.specs.declared.Wanted.the-variants.{Group}
-use Rattle.volume.specs.Geometry.{records, slots, start, recordStart, groupOf, placeOf}
+use Rattle.geometry.specs.Geometry.{records, slots, start, recordStart, groupOf, placeOf}
 use Rattle.volume.specs.Entry.{Entry, blockIn, countOf}
 use Rattle.volume.specs.Directory.{slotAt, findSlot}
 

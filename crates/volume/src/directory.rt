@@ -5,12 +5,12 @@ ghost use Prim.Native.Nat.{ℕ, _+_, _-_, _*_, _/_, _%_, _≤_, _<_};
 ghost use lib.ListN.{length};
 ghost use Rattle.lists.specs.Search.{lowFrom};
 ghost use Rattle.lists.specs.Bytes.{put};
-ghost use Rattle.volume.specs.Geometry.{lawful, bytes, slots};
+ghost use Rattle.geometry.specs.Geometry.{lawful, bytes, slots};
 ghost use Rattle.volume.specs.Name.{strip};
 ghost use Rattle.volume.specs.Directory.{slotFits, findSlot, putSlot};
-use crate::Geometry;
 use crate::Wanted;
 use crate::entry;
+use geometry::Geometry;
 
 // The lowest slot from `from` on that has what is wanted, the number of slots where none has.
 pub fn find_from(

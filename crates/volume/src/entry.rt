@@ -5,13 +5,14 @@ ghost use Prim.Native.Nat.{ℕ, _+_, _*_, _/_, _%_, _≤_, _<_};
 ghost use lib.ListN.{length};
 ghost use lib.Dec.{eqb};
 ghost use Rattle.lists.specs.Bytes.{byte};
-ghost use Rattle.volume.specs.Geometry.{lawful, groupOf};
+ghost use Rattle.geometry.specs.Geometry.{lawful, groupOf};
 ghost use Rattle.volume.specs.Name.{strip};
-ghost use Rattle.volume.specs.Entry.{extent, places, blockIn, countOf, ofFile, matches};
+ghost use Rattle.volume.specs.Entry.{extent, blockIn, countOf, ofFile, matches};
+ghost use Rattle.geometry.specs.Geometry.{places};
 ghost use Rattle.volume.specs.Directory.{fits};
-use crate::Geometry;
 use crate::Wanted;
 use crate::names;
+use geometry::Geometry;
 
 // The first byte of an empty slot.
 pub const EMPTY: u8 = 0xE5;

@@ -15,21 +15,22 @@ use Rattle.lists.proofs.PartLaws.{byte-both}
 use Rattle.lists.proofs.SearchLaws.{low-is}
 use Rattle.volume.specs.Directory.{slotAt, putSlot, slotFits, findSlot}
 use Rattle.volume.specs.Entry.{extent, ofFile, ofGroup, countOf}
-use Rattle.volume.specs.Geometry.{lawful, bytes, records, slots, slotStart, groupOf}
+use Rattle.geometry.specs.Geometry.{lawful, bytes, records, slots, slotStart, groupOf}
 use Rattle.volume.specs.Record.{recordSlot, recordBlock, counted, present, recordAt, OffBlock}
-use Rattle.volume.specs.declared.Geometry.{Geometry}
+use Rattle.geometry.specs.declared.Geometry.{Geometry}
 use Rattle.volume.specs.declared.Wanted.the-variants.{Empty, File, Group}
 use Rattle.volume.proofs.DirectoryLaws.{slot-inside, slot-length, putSlot-length, slot-putSlot, slot-putSlot-other, record-putSlot}
-use Rattle.volume.proofs.FillLaws.{putFilled-length, record-putFilled, record-putFilled-within, record-putFilled-other, slot-putFilled, byte-putFilled}
-use Rattle.volume.proofs.GeometryLaws.{bounds}
+use Rattle.geometry.proofs.GeometryLaws.{bounds}
 use Rattle.answers.specs.Refusal.{isNone, firstMet}
-use Rattle.writing.specs.Write.{likeEntry, grown, hasGroup, writeSlot, baseEntry, fillsBlock, writeBlock, writeTests}
-use Rattle.writing.specs.WritePlan.{entryAfter, dataAfter, volumeAfter}
+use Rattle.entries.specs.Grown.{likeEntry, grown}
+use Rattle.entries.proofs.GrowLaws.{length-like, head-like, like-extent, grown-extent, grown-counts, head-written, written-extent, written-count, written-block}
+use Rattle.entries.proofs.HeadLaws.{head-ofFile}
+use Rattle.filling.proofs.FillLaws.{putFilled-length, record-putFilled, record-putFilled-within, record-putFilled-other, slot-putFilled, byte-putFilled}
+use Rattle.deciding.specs.Write.{hasGroup, writeSlot, baseEntry, fillsBlock, writeBlock, writeTests}
+use Rattle.deciding.specs.WritePlan.{entryAfter, dataAfter, volumeAfter}
 use Rattle.lists.proofs.BoolLaws.{and-left, and-right}
 use Rattle.volume.proofs.FindLaws.{found-fits, found-first}
-use Rattle.writing.proofs.GrowLaws.{length-like, head-like, like-extent, grown-extent, grown-counts, head-written, written-extent, written-count, written-block}
-use Rattle.writing.proofs.HeadLaws.{head-ofFile}
-use Rattle.writing.proofs.WriteLaws.{length-base, write-passed, length-entryAfter}
+use Rattle.deciding.proofs.WriteLaws.{length-base, write-passed, length-entryAfter}
 
 module _ (g : Geometry) (held v : List ℕ) (u : ℕ) (name : List ℕ) (n : ℕ) (good : lawful g ≡ true) (size : length v ≡ bytes g)
     (passed : isNone (firstMet (writeTests g held v u name n)) ≡ true) where

@@ -1,5 +1,5 @@
 -- Where no slot is bad the blocks are those that entries name, and the free ones are counted over them.
-use Rattle.volume.proofs.GeometryLaws.{bounds}
+use Rattle.geometry.proofs.GeometryLaws.{bounds}
 use native.Mathlib.Omega.{arith}
 use borrow.Author.Needs.{needs}
 use Rattle.inspection.proofs.inspect.Statement.{statement}

@@ -9,14 +9,14 @@ use borrow.Author.Needs.{needs}
 use borrow.Author.Tests.{not-false}
 use lib.ListN.{length}
 use Rattle.lists.proofs.SearchLaws.{Searched, searched-start, searched-next, searched-hit, searched-none, from-zero}
-use Rattle.volume.specs.declared.Geometry.{Geometry}
-use Rattle.volume.specs.Geometry.{slots}
+use Rattle.geometry.specs.declared.Geometry.{Geometry}
+use Rattle.geometry.specs.Geometry.{slots}
 use Rattle.blocks.specs.Held.{wordsOf}
-use Rattle.inspection.specs.GoodSlot.{goodSlot, lowestBad}
-use Rattle.inspection.specs.HeldBelow.{heldBelow}
-use Rattle.inspection.specs.Marks.{marked}
-use Rattle.inspection.proofs.HeldLaws.{no-slots, all-slots}
-use Rattle.inspection.proofs.MarkLaws.{none-marked}
+use Rattle.goodslots.specs.GoodSlot.{goodSlot, lowestBad}
+use Rattle.maps.specs.HeldBelow.{heldBelow}
+use Rattle.seen.specs.Marks.{marked}
+use Rattle.maps.proofs.HeldLaws.{no-slots, all-slots}
+use Rattle.seen.proofs.MarkLaws.{none-marked}
 use Rattle.inspection.proofs.look.Statement.{statement}
 use Rattle.inspection.proofs.look.Tie as tie
 

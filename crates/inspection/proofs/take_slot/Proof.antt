@@ -8,9 +8,9 @@ use Rattle.volume.specs.Name.{nameOf, goodName}
 use Rattle.volume.specs.Entry.{isEmpty}
 use Rattle.volume.specs.Directory.{slotAt}
 use Rattle.volume.proofs.EntryLaws.{lent-slot}
-use Rattle.inspection.specs.GoodSlot.{goodFields, goodTopBits}
-use Rattle.inspection.proofs.HeldLaws.{empty-slot, full-slot}
-use Rattle.inspection.proofs.MarkLaws.{still-marked}
+use Rattle.goodslots.specs.GoodSlot.{goodFields, goodTopBits}
+use Rattle.maps.proofs.HeldLaws.{empty-slot, full-slot}
+use Rattle.seen.proofs.MarkLaws.{still-marked}
 use Rattle.inspection.proofs.SlotLaws.{slot-empty, slot-used, empty-good, entry-bad, map-bad, seen-decides}
 use Rattle.inspection.proofs.take_slot.Statement.{statement}
 use Rattle.inspection.proofs.take_slot.Tie as tie

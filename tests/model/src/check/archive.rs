@@ -25,7 +25,8 @@ impl Archive {
     fn ask(&self, head: [u8; 4], geometry: Geometry, memory: &mut Memory) -> Result<u32, String> {
         let idle = self.idle.lock().unwrap().pop();
         let mut run = idle.map_or_else(|| Run::new(&self.program), Ok).map_err(|error| error.to_string())?;
-        let (answer, changed) = run.ask(head, geometry, memory).map_err(|error| format!("the seam: {}", error))?;
+        let (answer, changed) =
+            run.ask(head, geometry, memory).map_err(|error| format!("the seam: {}", error))?;
         self.idle.lock().unwrap().push(run);
         match changed {
             0 => Ok(answer),

@@ -22,6 +22,11 @@ impl View<'_> {
         (0..slots).map(|slot| entry_at(self.volume, slot)).filter(|entry| !entry.is_empty()).collect()
     }
 
+    /// Whether no slot is empty.
+    pub fn is_full(&self) -> bool {
+        self.entries().len() == self.geometry.slots()
+    }
+
     pub fn entries_of_user(&self) -> Vec<Entry> {
         let mut entries = self.entries();
         entries.retain(|entry| entry.user() == self.user);
@@ -112,6 +117,31 @@ fn aim_at_altered(r: &mut Random, geometry: &Geometry, entry: &Entry) -> Aim {
         }
     }
     Aim { name, record: record_near(r, geometry, entry) }
+}
+
+/// A record of the user's files that is present but for its block number, which
+/// is no data block's, if there is one.
+pub fn aim_outside(r: &mut Random, view: &View) -> Option<Aim> {
+    let mut aims = Vec::new();
+    for entry in view.entries_of_user() {
+        for place in present_places(&view.geometry, &entry) {
+            let record = first_record(&view.geometry, &entry, place);
+            if !view.geometry.is_data_block(entry.map()[place]) && record < 65536 {
+                aims.push(Aim { name: entry.name(), record });
+            }
+        }
+    }
+    (!aims.is_empty()).then(|| r.pick(&aims))
+}
+
+/// The places of the entry whose first record is present.
+pub fn present_places(geometry: &Geometry, entry: &Entry) -> Vec<usize> {
+    (0..16).filter(|&place| is_present(geometry, entry, first_record(geometry, entry, place))).collect()
+}
+
+fn first_record(geometry: &Geometry, entry: &Entry, place: usize) -> u32 {
+    let group = geometry.group(entry.extent());
+    group * 128 * geometry.extents_an_entry() + place as u32 * geometry.records_a_block()
 }
 
 /// A present record, if a few tries find one.

@@ -1,6 +1,7 @@
 //! Single alterations of a volume, as something else might make them. Most are
 //! aimed at one rule of inspection, or at one that calls rely on.
 
+use super::aims::present_places;
 use super::random::Random;
 use crate::paper::directory::{entry_at, Entry, EMPTY};
 use crate::paper::geometry::{Geometry, SLOT};
@@ -47,8 +48,8 @@ const KINDS: &[(usize, Kind)] = &[
     (1, s2),
     (3, rc),
     (1, first_extent_and_s1),
-    (2, number_outside),
-    (2, map_outside),
+    (5, number_outside),
+    (3, map_outside),
     (2, number_of_another),
     (2, number_twice),
     (1, no_number),
@@ -59,15 +60,17 @@ const KINDS: &[(usize, Kind)] = &[
     (1, bytes_anywhere),
 ];
 
-/// One alteration of a volume. The geometry is within the rules; the volume
-/// may have any length.
-pub fn alteration(r: &mut Random, geometry: &Geometry, volume: &[u8]) -> Alteration {
+/// One alteration of a volume; where a user is named, mostly of an entry that is
+/// the user's. The geometry is within the rules; the volume may have any length.
+pub fn alteration(r: &mut Random, geometry: &Geometry, volume: &[u8], user: Option<u8>) -> Alteration {
     let slots = geometry.slots().min(volume.len() / SLOT);
     if slots == 0 {
         let length = r.between(0, 20);
         return (r.below(volume.len() + 10), r.bytes(length));
     }
-    let slot = used_slot(r, volume, slots);
+    let of_user: Vec<usize> = (0..slots).filter(|slot| Some(volume[slot * SLOT]) == user).collect();
+    let slot =
+        if of_user.is_empty() || r.percent(40) { used_slot(r, volume, slots) } else { r.pick(&of_user) };
     let target = Target { geometry, volume, slots, slot, entry: entry_at(volume, slot) };
     r.weighted(KINDS)(r, &target)
 }
@@ -146,8 +149,11 @@ fn first_extent_and_s1(r: &mut Random, target: &Target) -> Alteration {
     (target.at(12), vec![first, 1 + r.byte() / 2])
 }
 
+/// Mostly in the place of a present record.
 fn number_outside(r: &mut Random, target: &Target) -> Alteration {
-    (target.any_place(r), vec![outside(r, target.geometry)])
+    let places = present_places(target.geometry, &target.entry);
+    let place = if places.is_empty() || r.percent(20) { r.below(16) } else { r.pick(&places) };
+    (target.at(16 + place), vec![outside(r, target.geometry)])
 }
 
 /// A map of numbers that are all outside, all the same or not.

@@ -10,6 +10,7 @@ use super::geometries::{geometry, wild_geometry};
 use super::images::{contents, make_length_wrong, valid_image};
 use super::random::Random;
 use super::runs::Chooser;
+use crate::check::pairs::Door;
 use crate::doors::chain::{Chain, Step};
 use crate::doors::drive_bytes::{decode, CLOSED, DRIVE_BYTES};
 use crate::doors::script::{lay, Call, LARGEST_VOLUME};
@@ -24,7 +25,7 @@ const LARGE: usize = 64 * 1024;
 
 /// The random chain of this seed and number.
 pub fn chain(seed: u64, number: u64) -> Chain {
-    let mut making = Making::new(Random::new(seed, 2 * number + 1));
+    let mut making = Making::new(Random::new(seed, 2 * number + 1), number);
     let Memory { volume, drive, .. } = making.memory.clone();
     if making.r.percent(15) {
         making.alter();
@@ -59,7 +60,7 @@ struct Making {
 }
 
 impl Making {
-    fn new(mut r: Random) -> Making {
+    fn new(mut r: Random, number: u64) -> Making {
         let geometry = geometry(&mut r);
         let contents = contents(&mut r);
         let volume = valid_image(&mut r, geometry, contents);
@@ -69,7 +70,7 @@ impl Making {
             steps: Vec::new(),
             memory: Memory { volume, drive, ..Memory::default() },
             calls: 0,
-            chooser: Chooser::new(),
+            chooser: Chooser::new(Door::Seam, number),
             wild: r.percent(60),
             altered: r.percent(40),
             altered_slot: None,
@@ -99,7 +100,8 @@ impl Making {
 
     fn alter(&mut self) {
         let geometry = self.seen_geometry();
-        let (offset, bytes) = alteration(&mut self.r, &geometry, &self.memory.volume);
+        let user = decode(&self.memory.drive).map(|state| state.user);
+        let (offset, bytes) = alteration(&mut self.r, &geometry, &self.memory.volume, user);
         self.lay(offset, bytes);
         self.altered_slot = Some(offset / SLOT);
     }
@@ -176,7 +178,7 @@ impl Making {
 
     /// The volume and the drive to be put back, if the length was changed.
     fn change_length(&mut self) -> Option<(Vec<u8>, Vec<u8>)> {
-        if self.memory.volume.len() > LARGE || !self.r.percent(2) {
+        if self.memory.volume.len() > LARGE || !self.r.percent(5) {
             return None;
         }
         let before = (self.memory.volume.clone(), self.memory.drive.clone());
@@ -201,18 +203,29 @@ impl Making {
             instead = Some(number_not_served(&mut self.r));
         }
         let geometry = self.seen_geometry();
+        let closed = state.is_none();
         let user = state.map_or(0, |state| state.user);
-        let view = View { geometry, volume: &self.memory.volume, user, altered: self.altered_slot };
-        let call = self.chooser.next(&mut self.r, &view);
+        let memory = &self.memory;
+        let view = View { geometry, volume: &memory.volume, user, altered: self.altered_slot };
+        let call = if closed || wrong_length {
+            self.chooser.any(&mut self.r, &view)
+        } else {
+            self.chooser.next(&mut self.r, &view, &|call| lent(call, &mut memory.clone()) % 65536)
+        };
         Call { function: instead.unwrap_or(call.function), ..call }
     }
 
     fn call(&mut self, call: Call) {
-        self.memory.control = call.control.clone();
-        self.memory.buffer = call.buffer.clone();
-        let answer = seam::call(call.function, call.parameter, &mut self.memory);
+        let answer = lent(&call, &mut self.memory);
         self.chooser.saw(call.function, answer % 65536, &self.memory.control);
         self.steps.push(Step::Call(call));
         self.calls += 1;
     }
+}
+
+/// The call is lent its control block and buffer, and done: its answer.
+fn lent(call: &Call, memory: &mut Memory) -> u32 {
+    memory.control = call.control.clone();
+    memory.buffer = call.buffer.clone();
+    seam::call(call.function, call.parameter, memory)
 }

@@ -7,13 +7,22 @@ use crate::paper::calls::{is_lent_buffer, is_lent_control, is_several, RENAME, U
 use crate::paper::control::{CONTROL_BYTES, CR, DR, EX, R2, S2};
 use crate::paper::geometry::RECORD;
 
-/// The call with this control block.
-pub fn finished(r: &mut Random, function: u8, parameter: u8, mut control: Vec<u8>) -> Call {
+/// The call with this control block, now and then with something out of order.
+pub fn finished(r: &mut Random, function: u8, parameter: u8, control: Vec<u8>) -> Call {
+    let faults = if r.percent(14) { r.weighted(&[(60, 1), (25, 2), (15, 4)]) } else { 0 };
+    finished_with(r, function, parameter, control, faults)
+}
+
+/// The call with this control block and so many things out of order.
+pub fn finished_with(
+    r: &mut Random,
+    function: u8,
+    parameter: u8,
+    mut control: Vec<u8>,
+    faults: usize,
+) -> Call {
     let parameter = if function != USER && r.percent(20) { r.byte() } else { parameter };
-    let mut faults = 0;
-    if is_lent_control(function) && r.percent(14) {
-        faults = r.weighted(&[(60, 1), (25, 2), (15, 4)]);
-    }
+    let faults = if is_lent_control(function) { faults } else { 0 };
     for _ in 0..faults {
         if control.len() == CONTROL_BYTES {
             put_out_of_order(r, function, &mut control);
@@ -36,7 +45,8 @@ fn pieces(r: &mut Random, faulty: bool) -> (u8, Vec<u8>) {
     let k = if r.percent(70) { r.between(1, 5) } else { r.between(1, 16) } as u8;
     let wrong = if faulty { 20 } else { 3 };
     let given = if r.percent(wrong) { r.pick(&[0, 17, 18, 128, 255]) } else { k };
-    let length = if r.percent(wrong) { r.pick(&[0, 1, 127, 128, 129, 2047, 2049]) } else { RECORD * k as usize };
+    let length =
+        if r.percent(wrong) { r.pick(&[0, 1, 127, 128, 129, 2047, 2049]) } else { RECORD * k as usize };
     (given, r.bytes(length))
 }
 

@@ -8,6 +8,7 @@
 //! | `aims` | what a call sees of the volume, and the file and record that it is for |
 //! | `control_blocks`, `faults` | control blocks in order, and things put out of order |
 //! | `runs` | the next call, in runs of calls that belong together |
+//! | `goals` | calls that are aimed at one pair of call and answer |
 //! | `scripts`, `bad_scripts` | scripts for both doors |
 //! | `drives`, `chains` | wild drives, and chains with them for the seam alone |
 
@@ -19,6 +20,7 @@ pub mod control_blocks;
 pub mod drives;
 pub mod faults;
 pub mod geometries;
+pub mod goals;
 pub mod images;
 pub mod pool;
 pub mod random;

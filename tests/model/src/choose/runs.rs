@@ -3,8 +3,10 @@
 
 use super::aims::{aim, aim_at_file, near_border, Aim, View};
 use super::control_blocks::{control_block, show_position};
-use super::faults::{finished, finished_without};
+use super::faults::{finished, finished_with, finished_without};
+use super::goals::{Answers, Goals};
 use super::random::Random;
+use crate::check::pairs::Door;
 use crate::doors::script::Call;
 use crate::paper::calls::*;
 use crate::paper::control::{self, EX};
@@ -26,6 +28,8 @@ enum Run {
     ReadOnly,
     /// A user is set and asked for.
     Users,
+    /// Writes in groups that a file lacks, where no slot is empty.
+    NewGroup,
 }
 
 pub struct Chooser {
@@ -40,10 +44,15 @@ pub struct Chooser {
     hand_on: bool,
     /// The file that the run is about.
     aim: Aim,
+    /// Pairs of call and answer that are aimed at between the calls of runs.
+    goals: Goals,
+    /// The last call was none of the run's.
+    aside: bool,
 }
 
 impl Chooser {
-    pub fn new() -> Chooser {
+    /// For a script (at replay) or a chain (at the seam) of this number.
+    pub fn new(door: Door, number: u64) -> Chooser {
         Chooser {
             run: Run::Mixed,
             left: 0,
@@ -51,15 +60,18 @@ impl Chooser {
             handed_on: Vec::new(),
             hand_on: false,
             aim: Aim { name: [0x41; 11], record: 0 },
+            goals: Goals::new(door, number),
+            aside: false,
         }
     }
 
     /// Tells the chooser what the last call answered and left in its control
     /// block. After a refusal a run soon ends. Log-in and the like are no part
-    /// of a run.
+    /// of a run, nor are those that stand aside.
     pub fn saw(&mut self, function: u8, answer: u32, control: &[u8]) {
+        self.goals.saw(function, answer);
         match self.run {
-            _ if !CALLS.contains(&function) => {}
+            _ if self.aside || !CALLS.contains(&function) => {}
             Run::Sequential(_) if self.hand_on && answer == 0 => self.handed_on = control.to_vec(),
             Run::Sequential(_) | Run::FillDisk(_) if answer != 0 => self.left = self.left.min(1),
             Run::FillDirectory | Run::Search if answer > 3 => self.left = self.left.min(2),
@@ -67,8 +79,14 @@ impl Chooser {
         }
     }
 
-    /// The next call (never a log-in).
-    pub fn next(&mut self, r: &mut Random, view: &View) -> Call {
+    /// The next call (never a log-in): one of a run, or one for a goal. The
+    /// model says what a call would be answered.
+    pub fn next(&mut self, r: &mut Random, view: &View, answers: Answers) -> Call {
+        if let Some(call) = self.goals.call(r, view, answers) {
+            self.aside = true;
+            return call;
+        }
+        self.aside = false;
         if self.left == 0 {
             self.begin_run(r, view);
         }
@@ -84,7 +102,16 @@ impl Chooser {
             Run::FillDisk(function) => self.fill_disk(r, view, function),
             Run::ReadOnly => self.read_only(r, view, first),
             Run::Users => self.users(r, view),
+            Run::NewGroup => new_group(r, view),
         }
+    }
+
+    /// A call of any function, each as often as the others, for where all of them
+    /// are refused alike.
+    pub fn any(&mut self, r: &mut Random, view: &View) -> Call {
+        self.aside = true;
+        let function = r.pick(&CALLS);
+        call_with_faults(r, view, function, &[0, 1])
     }
 
     fn begin_run(&mut self, r: &mut Random, view: &View) {
@@ -101,6 +128,7 @@ impl Chooser {
             (3, Run::FillDisk(ZERO_FILL_WRITE)),
             (3, Run::ReadOnly),
             (3, Run::Users),
+            (if view.is_full() { 20 } else { 0 }, Run::NewGroup),
         ]);
         self.left = match self.run {
             Run::ReadOnly => r.between(2, 6),
@@ -188,6 +216,14 @@ fn search(r: &mut Random, view: &View, first: bool) -> Call {
     }
 }
 
+/// A write of a record anywhere: mostly the file has no entry for it.
+fn new_group(r: &mut Random, view: &View) -> Call {
+    let function = r.pick(&[SEQUENTIAL_WRITE, RANDOM_WRITE, ZERO_FILL_WRITE, WRITE_SEVERAL]);
+    let aim = Aim { record: r.below(65536) as u32, ..aim(r, view, false) };
+    let control = control_block(r, view, function, aim);
+    finished(r, function, 0, control)
+}
+
 fn mixed(r: &mut Random, view: &View) -> Call {
     if view.altered_entry().is_some() && r.percent(50) {
         let function = r.pick(&[
@@ -242,6 +278,19 @@ fn any_function(r: &mut Random, no_files: bool) -> u8 {
         (8, READ_SEVERAL),
         (8, WRITE_SEVERAL),
     ])
+}
+
+/// A call of this function, with one of these numbers of things out of order.
+pub fn call_with_faults(r: &mut Random, view: &View, function: u8, faults: &[usize]) -> Call {
+    if !is_lent_control(function) {
+        let parameter = user_parameter(r, view);
+        return finished_without(r, function, parameter);
+    }
+    let present = r.percent(50);
+    let aim = aim(r, view, present);
+    let control = control_block(r, view, function, aim);
+    let faults = r.pick(faults);
+    finished_with(r, function, 0, control, faults)
 }
 
 /// A call on some file.

@@ -7,6 +7,7 @@ use super::geometries::{geometry, wrong_geometry};
 use super::images::{contents, image_of_wrong_geometry, make_length_wrong, valid_image};
 use super::random::Random;
 use super::runs::Chooser;
+use crate::check::pairs::Door;
 use crate::doors::replay::Player;
 use crate::doors::script::{lay, Call, Script, LARGEST_VOLUME, TOUCH};
 use crate::paper::calls::LOG_INS;
@@ -40,7 +41,7 @@ pub fn script_bytes(seed: u64, number: u64) -> Vec<u8> {
         inspections(r, &geometry, &volume)
     } else {
         let altered = r.percent(40);
-        calls(r, geometry, &volume, altered)
+        calls(r, number, geometry, &volume, altered)
     };
     let script = Script { geometry, volume, calls, bad: false };
     if r.percent(6) {
@@ -55,11 +56,11 @@ fn geometry_and_volume(r: &mut Random) -> (Geometry, Vec<u8>) {
     let contents = contents(r);
     let mut volume = valid_image(r, geometry, contents);
     let fault = r.weighted(&[
-        (76, Fault::None),
+        (75, Fault::None),
         (7, Fault::NearlyValid),
         (7, Fault::Damaged),
         (1, Fault::Noise),
-        (4, Fault::Length),
+        (5, Fault::Length),
         (5, Fault::Geometry),
     ]);
     match fault {
@@ -67,7 +68,7 @@ fn geometry_and_volume(r: &mut Random) -> (Geometry, Vec<u8>) {
         Fault::NearlyValid => alter_one_byte(r, &geometry, &mut volume),
         Fault::Damaged => {
             for _ in 0..r.between(1, 4) {
-                let (offset, bytes) = alteration(r, &geometry, &volume);
+                let (offset, bytes) = alteration(r, &geometry, &volume, None);
                 lay(&mut volume, offset, &bytes);
             }
         }
@@ -90,15 +91,15 @@ fn alter_one_byte(r: &mut Random, geometry: &Geometry, volume: &mut [u8]) {
         volume[r.below(geometry.slots() * SLOT)] = r.byte();
         return;
     }
-    let (offset, mut bytes) = alteration(r, geometry, volume);
+    let (offset, mut bytes) = alteration(r, geometry, volume, None);
     bytes.truncate(1);
     lay(volume, offset, &bytes);
 }
 
 /// The calls of a script, played on the model as they are chosen.
-fn calls(r: &mut Random, geometry: Geometry, volume: &[u8], altered: bool) -> Vec<Call> {
+fn calls(r: &mut Random, number: u64, geometry: Geometry, volume: &[u8], altered: bool) -> Vec<Call> {
     let mut player = Player::new(geometry, volume.to_vec(), Way::Kept);
-    let mut chooser = Chooser::new();
+    let mut chooser = Chooser::new(Door::Replay, number);
     let mut calls = Vec::new();
     // The slot of the last touch, for some calls after it.
     let mut altered_slot = None;
@@ -127,7 +128,7 @@ fn calls(r: &mut Random, geometry: Geometry, volume: &[u8], altered: bool) -> Ve
 fn inspections(r: &mut Random, geometry: &Geometry, volume: &[u8]) -> Vec<Call> {
     let mut calls = Vec::new();
     for _ in 0..r.between(5, 20) {
-        let (offset, bytes) = alteration(r, &seen(geometry), volume);
+        let (offset, bytes) = alteration(r, &seen(geometry), volume, None);
         let before: Vec<u8> = volume.iter().copied().skip(offset).take(bytes.len()).collect();
         calls.extend([Call::touch(offset, &bytes), log_in_call(r), Call::touch(offset, &before)]);
     }
@@ -164,7 +165,8 @@ fn next_call(
         return touch_call(r, player);
     }
     let geometry = player.geometry;
-    chooser.next(r, &View { geometry, volume: &player.volume, user: state.user, altered: altered_slot })
+    let view = View { geometry, volume: &player.volume, user: state.user, altered: altered_slot };
+    chooser.next(r, &view, &|call| player.clone().play(call).answer)
 }
 
 /// The next call where the drive is closed: mostly log-in, after a repair if
@@ -176,7 +178,7 @@ fn reopening_call(r: &mut Random, player: &Player, chooser: &mut Chooser) -> Cal
         return touch_call(r, player);
     }
     if r.percent(25) || (!right && r.percent(60)) {
-        return chooser.next(r, &View { geometry: seen(geometry), volume, user: 0, altered: None });
+        return chooser.any(r, &View { geometry: seen(geometry), volume, user: 0, altered: None });
     }
     if right && r.percent(70) {
         if let Some(slot) = lowest_bad_slot(geometry, volume) {
@@ -217,7 +219,8 @@ fn touch_call(r: &mut Random, player: &Player) -> Call {
         }
         13 => Call::touch(r.pick(&[0xFF_FFFF, 0x10_0000, 0xFF_FF00]), &[1, 2, 3]),
         _ => {
-            let (offset, bytes) = alteration(r, &seen(&player.geometry), &player.volume);
+            let user = player.drive.as_ref().map(|state| state.user);
+            let (offset, bytes) = alteration(r, &seen(&player.geometry), &player.volume, user);
             Call::touch(offset, &bytes)
         }
     };

@@ -1,4 +1,4 @@
-//! That the random scripts and chains make every possible pair of call and
+//! That few random scripts and chains make every possible pair of call and
 //! answer occur, and no other, on the model itself.
 
 use super::mistakes::Mistaken;
@@ -7,31 +7,43 @@ use crate::check::side_by_side;
 use crate::check::table::Tally;
 use crate::choose::chains::chain;
 use crate::choose::scripts::script_bytes;
+use crate::doors::chain::Chain;
 use crate::doors::replay::expected;
 use crate::doors::script::{Script, TOUCH};
 
-const SCRIPTS: u64 = 1000;
+/// So many scripts and chains of a seed are to be enough.
+const SCRIPTS: u64 = 300;
+const SEEDS: [u64; 3] = [1, 2, 3];
+
+/// For each seed the tally that the scripts and chains of its numbers make.
+fn all_pairs_occur(door: Door, count: fn(&mut Tally, u64, u64)) {
+    for seed in SEEDS {
+        let mut tally = Tally::default();
+        for number in 0..SCRIPTS {
+            count(&mut tally, seed, number);
+        }
+        tally.print(door);
+        assert_eq!(tally.judge(door).2, Vec::<String>::new(), "seed {}", seed);
+    }
+}
 
 #[test]
 fn all_pairs_occur_through_replay() {
-    let mut tally = Tally::default();
-    for number in 0..SCRIPTS {
-        let (_, lines) = expected(&Script::decode(&script_bytes(1, number)));
+    all_pairs_occur(Door::Replay, |tally, seed, number| {
+        let (_, lines) = expected(&Script::decode(&script_bytes(seed, number)));
         for line in lines.iter().filter(|line| line.function != TOUCH) {
             tally.count(Row::Function(line.function), line.answer);
         }
-    }
-    tally.print(Door::Replay);
-    assert_eq!(tally.judge(Door::Replay).2, Vec::<String>::new());
+    });
 }
 
 #[test]
 fn all_pairs_occur_at_the_seam() {
-    let mut tally = Tally::default();
-    for number in 0..SCRIPTS {
-        let difference = side_by_side::first_difference(&chain(1, number), &Mistaken::NOT_AT_ALL, &mut tally);
-        assert_eq!(difference, None);
-    }
-    tally.print(Door::Seam);
-    assert_eq!(tally.judge(Door::Seam).2, Vec::<String>::new());
+    all_pairs_occur(Door::Seam, |tally, seed, number| {
+        let script = Chain::of_script(&Script::decode(&script_bytes(seed, number)));
+        for chain in [script, chain(seed, number)] {
+            let difference = side_by_side::first_difference(&chain, &Mistaken::NOT_AT_ALL, tally);
+            assert_eq!(difference, None);
+        }
+    });
 }

@@ -1,6 +1,6 @@
 -- The words that code compares with zero are the bytes that the layout asks to be zero.
 use Rattle.drivebytes.proofs.LoadLaws.{idle-words}
-use Rattle.drivebytes.proofs.NumberLaws.{zeros-number}
+use Rattle.numbers.proofs.NumberLaws.{zeros-number}
 use Rattle.drivebytes.specs.Layout.{isDrive}
 use Rattle.lists.specs.Bytes.{part}
 use borrow.Author.Tests.{eq-eqb, ne-eqb}

@@ -1,6 +1,8 @@
 -- Kind, user and last slot, and the twelve bytes copied.
 use Rattle.drivebytes.specs.Layout.{fields}
 use Rattle.lists.specs.Bytes.{part}
+use Rattle.numbers.proofs.NumberLaws.{number-two}
+use native.Mathlib.Omega.{arith}
 use borrow.Author.Needs.{needs}
 use Rattle.drivebytes.proofs.load.search_at.Statement.{statement}
 use Rattle.drivebytes.proofs.load.search_at.Tie as tie
@@ -11,17 +13,8 @@ shared-slice-read-kind-of c = search needs
 kind-of-requires : tie.Need-kind-of-requires
 kind-of-requires c κs = search needs
 
-sub-two-of : tie.Need-sub-two-of
-sub-two-of c = search needs
-
-part-two-of-start : tie.Need-part-two-of-start
-part-two-of-start c = search needs
-
-part-two-of-end : tie.Need-part-two-of-end
-part-two-of-end c = search needs
-
-two-of-requires : tie.Need-two-of-requires
-two-of-requires c κs = search needs
+two-at-requires : tie.Need-two-at-requires
+two-at-requires c κs = search needs
 
 slice-aggregate-copy : tie.Need-slice-aggregate-copy
 slice-aggregate-copy c = search needs
@@ -43,7 +36,9 @@ shared-slice-read-t6 c = search needs
 
 returns : tie.Need-returns
 unfolding fields part
-returns c = rw (c .before .before .before .before .before .before .before .kind-of .ensures, c .before .before .before .before .before .two-of .ensures, c .before .before .copy .ensures)
+returns c =
+    let size = c .before .before .before .before .before .before .before .before .before .pre in
+    rw (c .before .before .before .before .before .before .kind-of .ensures, c .before .before .before .before .before .two-at .ensures .0, number-two (c .before .before .before .before .before .before .before .before .before .args .s .now) 10 (omega (arith, size)), c .before .before .copy .ensures)
 
 pub search-at-spec : {M : Type 1} → statement M
 search-at-spec =
@@ -51,10 +46,7 @@ search-at-spec =
     (tie.spec
     shared-slice-read-kind-of
     kind-of-requires
-    sub-two-of
-    part-two-of-start
-    part-two-of-end
-    two-of-requires
+    two-at-requires
     slice-aggregate-copy
     sub-copy
     part-copy-start

@@ -6,9 +6,9 @@ use Rattle.filecalls.specs.Outcome.{frees, eachEntry, changedState, stor
 use Rattle.answers.specs.Refusal.{isNone}
 use Rattle.answers.specs.declared.Refusal.the-variants.{Protected}
 use Rattle.answers.proofs.Ladder.{ladder-one}
-use Rattle.naming.specs.declared.Edit.the-variants.{Erase}
-use Rattle.naming.specs.Sweep.{changed}
-use Rattle.naming.specs.Delete.{deleteTests, freeMatches}
+use Rattle.sweeping.specs.declared.Edit.the-variants.{Erase}
+use Rattle.sweeping.specs.Sweep.{changed}
+use Rattle.deleting.specs.Delete.{deleteTests, freeMatches}
 use Rattle.lists.specs.Bytes.{part}
 use mathlib.Core.Bool.{true}
 use Rattle.filecalls.proofs.OutcomeLaws.{either}

@@ -1,7 +1,7 @@
 -- What is lent refuses, or the measuring of the file decides.
 use Rattle.filecalls.specs.Open.{sizeAct, sizeTests}
 use Rattle.answers.specs.Refusal.{isNone}
-use Rattle.finding.specs.Size.{sizeOf}
+use Rattle.measuring.specs.Size.{sizeOf}
 use Rattle.control.specs.Block.{withRandom}
 use mathlib.Core.Bool.{false}
 use Rattle.filecalls.proofs.NamingLaws.{named-no, named-decided}

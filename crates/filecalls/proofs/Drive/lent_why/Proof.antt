@@ -1,7 +1,7 @@
 -- The state is asked first; then the three lengths.
 use mathlib.Core.Bool.{true, not}
 use lib.Dec.{eqb}
-use Rattle.volume.specs.Geometry.{bytes}
+use Rattle.geometry.specs.Geometry.{bytes}
 use Rattle.filecalls.specs.Tests.{closedState}
 use Rattle.answers.proofs.Ladder.{ladder-pass, ladder-three}
 use Rattle.answers.specs.Refusal.{firstMet, test, isNone}

@@ -4,10 +4,10 @@ use Rattle.filecalls.proofs.NamingLaws.{after, named-no, named-decided}
 use Rattle.filecalls.specs.Names.{makeAct, makeLadder}
 use Rattle.filecalls.specs.Tests.{untypeable, tooLarge, protectedDrive}
 use Rattle.filecalls.specs.Outcome.{entryTo, keeps, changedState, stored, storedAll}
-use Rattle.answers.specs.Refusal.{isNone}
-use Rattle.answers.specs.declared.Refusal.the-variants.{Untypeable, Position, Protected}
-use Rattle.answers.proofs.Ladder.{ladder-three}
-use Rattle.naming.specs.Make.{makeTests, freshEntry}
+use Rattle.answers.specs.Refusal.{isNone, first}
+use Rattle.answers.specs.declared.Refusal.the-variants.{Protected}
+use Rattle.answers.proofs.Ladder.{ladder-one}
+use Rattle.making.specs.Make.{makeTests, freshEntry}
 use Rattle.control.specs.Block.{made}
 use Rattle.volume.specs.Directory.{findSlot}
 use Rattle.volume.specs.declared.Wanted.the-variants.{Empty}
@@ -18,11 +18,11 @@ use mathlib.Core.Bool.{false, not}
 use Rattle.filecalls.proofs.OutcomeLaws.{either}
 use Rattle.filecalls.proofs.StateLaws.{Named, named}
 use Rattle.volume.specs.Name.{nameAt, nameOf}
-use Rattle.volume.specs.Typing.{typeable}
+use Rattle.typing.specs.Typing.{typeable}
 use denote.Ref.{now}
 use native.Mathlib.Omega.{arith}
 use mathlib.Core.List.{[], _∷_}
-use mathlib.Core.Path.{_≡_, refl, _∙_}
+use mathlib.Core.Path.{_≡_, refl, ap, _∙_}
 use borrow.Author.Needs.{needs}
 use Rattle.filecalls.proofs.Drive.make.Statement.{statement}
 use Rattle.filecalls.proofs.Drive.make.Tie as tie
@@ -52,38 +52,17 @@ returns c =
     let a = c .before .before .before .before .before .before .before .before .args in
     named-no (a .self) (now (a .volume)) (now (a .f)) false _ _ (c .before .before .before .named-why .ensures) (c .before .before .is-none .ensures) (c .before .if1 .taken) (c .refused .ensures)
 
-sub-typeable-name : tie.Need-sub-typeable-name
-sub-typeable-name c = search needs
-
-part-typeable-name-start : tie.Need-part-typeable-name-start
-part-typeable-name-start c = search needs
-
-part-typeable-name-end : tie.Need-part-typeable-name-end
-part-typeable-name-end c = omega (arith, clear (c .before) .lent .block)
-
-typeable-name-requires : tie.Need-typeable-name-requires
-typeable-name-requires c κs = search needs
+new-file-why-requires : tie.Need-new-file-why-requires
+new-file-why-requires c κs = clear (c .before) .lent .block
 
 refuse-requires : tie.Need-refuse-requires
 refuse-requires c κs = search needs
 
-slice-read-refuse : tie.Need-slice-read-refuse
-slice-read-refuse c = omega (arith, clear (c .before .before .before .before .before) .lent .block)
-
-refuse-requires-2 : tie.Need-refuse-requires-2
-refuse-requires-2 c κs = search needs
-
-refuse-requires-3 : tie.Need-refuse-requires-3
-refuse-requires-3 c κs = search needs
-
 first-of-requires : tie.Need-first-of-requires
 first-of-requires c κs = search needs
 
-first-of-requires-2 : tie.Need-first-of-requires-2
-first-of-requires-2 c κs = search needs
-
 make-file-requires : tie.Need-make-file-requires
-make-file-requires c κs = let l = clear (c .before .before .before .before .before .before .before .before .before .before .before .before) .lent in (l .state .law, (l .volume, l .block))
+make-file-requires c κs = let l = clear (c .before .before .before .before .before .before .before) .lent in (l .state .law, (l .volume, l .block))
 
 cast-answered : tie.Need-cast-answered
 cast-answered c = search needs
@@ -100,7 +79,7 @@ same-length-4 c = search needs
 returns-2 : tie.Need-returns-2
 unfolding makeAct makeLadder changedState stored storedAll nameAt part
 returns-2 c =
-    let a = c .before .before .before .before .before .before .before .before .before .before .before .before .before .before .before .before .before .before .before .before .before .before .before .before .before .before .args in
+    let a = c .before .before .before .before .before .before .before .before .before .before .before .before .before .before .before .before .before .before .before .before .before .args in
     let d = a .self in
     let v = now (a .volume) in
     let f = now (a .f) in
@@ -108,11 +87,10 @@ returns-2 c =
     let t = isNone (m .result .why) in
     let slot = findSlot (d .geometry) v (d .user) (nameOf f) Empty in
     let e : m .result .slot ≡ slot = m .ensures .1 .0 in
-    named-decided d v f (clear (c .before .before .before .before .before .before .before .before .before .before .before .before .before .before .before .before .before .before .before)) (slot % 4) keeps (entryTo slot (freshEntry (d .user) (nameOf f)) ∷ []) (made f (nameOf f)) _
+    named-decided d v f (clear (c .before .before .before .before .before .before .before .before .before .before .before .before .before .before)) (slot % 4) keeps (entryTo slot (freshEntry (d .user) (nameOf f)) ∷ []) (made f (nameOf f)) _
     (after (untypeable f 1 ∷ tooLarge (eqb (byte f 12) 0) ∷ protectedDrive d ∷ []) (makeTests (d .geometry) v (d .user) (nameOf f))
-    (c .before .before .before .before .before .before .before .before .before .before .first-of2 .ensures
-    ∙ rw (c .before .before .before .before .before .before .before .before .before .before .before .first-of .ensures, c .before .before .before .before .before .before .before .before .before .before .before .before .before .before .before .refuse .ensures, c .before .before .before .before .before .before .before .before .before .before .before .before .before .before .before .before .typeable-name .ensures, c .before .before .before .before .before .before .before .before .before .before .before .before .before .refuse2 .ensures, c .before .before .before .before .before .before .before .before .before .before .before .before .refuse3 .ensures)
-    (ladder-three Untypeable Position Protected (not (typeable (nameAt f 1))) (not (eqb (byte f 12) 0)) (d .protected) refl))
+    (after (untypeable f 1 ∷ tooLarge (eqb (byte f 12) 0) ∷ []) (protectedDrive d ∷ []) (c .before .before .before .before .before .before .before .before .before .before .before .before .new-file-why .ensures)
+    (c .before .before .before .before .before .before .before .before .before .before .first-of .ensures ∙ ap (first (c .before .before .before .before .before .before .before .before .before .before .before .before .new-file-why .result)) (c .before .before .before .before .before .before .before .before .before .before .before .refuse .ensures ∙ ladder-one Protected (d .protected) refl)))
     (m .ensures .0))
     (either t d) (rw (← e) (m .ensures .1 .1 .0)) (m .ensures .1 .1 .1) (c .answered .ensures ∙ rw e)
 
@@ -126,16 +104,9 @@ make-spec =
     same-length
     same-length-2
     returns
-    sub-typeable-name
-    part-typeable-name-start
-    part-typeable-name-end
-    typeable-name-requires
+    new-file-why-requires
     refuse-requires
-    slice-read-refuse
-    refuse-requires-2
-    refuse-requires-3
     first-of-requires
-    first-of-requires-2
     make-file-requires
     cast-answered
     answered-requires

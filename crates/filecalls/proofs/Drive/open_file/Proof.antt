@@ -1,7 +1,7 @@
 -- What is lent refuses, or the slot that open means decides.
 use Rattle.filecalls.specs.Open.{openAct, openTests}
 use Rattle.answers.specs.Refusal.{isNone}
-use Rattle.finding.specs.Open.{openSlot}
+use Rattle.openclose.specs.Open.{openSlot}
 use Rattle.control.specs.Block.{opened}
 use Rattle.volume.specs.Directory.{slotAt}
 use Prim.Native.Nat.{_%_}

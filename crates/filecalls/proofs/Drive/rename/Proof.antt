@@ -4,8 +4,8 @@ use Rattle.filecalls.specs.Names.{renameAct, renameLadder}
 use Rattle.answers.specs.Refusal.{isNone, first}
 use Rattle.answers.specs.declared.Refusal.the-variants.{Protected}
 use Rattle.answers.proofs.Ladder.{ladder-one}
-use Rattle.naming.specs.declared.Edit.the-variants.{Rename}
-use Rattle.naming.specs.Sweep.{changed}
+use Rattle.sweeping.specs.declared.Edit.the-variants.{Rename}
+use Rattle.sweeping.specs.Sweep.{changed}
 use Rattle.naming.specs.Rename.{renameTests}
 use Rattle.control.specs.Block.{newName}
 use Rattle.volume.specs.Name.{nameAt, nameOf}
@@ -45,17 +45,8 @@ returns c =
     let a = c .before .before .before .before .before .before .before .args in
     named-no (a .self) (now (a .volume)) (now (a .f)) false _ _ (c .before .before .before .named-why .ensures) (c .before .before .is-none .ensures) (c .before .if1 .taken) (c .refused .ensures)
 
-sub-new-name-why : tie.Need-sub-new-name-why
-sub-new-name-why c = search needs
-
-part-new-name-why-start : tie.Need-part-new-name-why-start
-part-new-name-why-start c = search needs
-
-part-new-name-why-end : tie.Need-part-new-name-why-end
-part-new-name-why-end c = omega (arith, clear c .lent .block)
-
 new-name-why-requires : tie.Need-new-name-why-requires
-new-name-why-requires c κs = search needs
+new-name-why-requires c κs = clear c .lent .block
 
 refuse-requires : tie.Need-refuse-requires
 refuse-requires c κs = search needs
@@ -70,7 +61,7 @@ part-rename-file-start : tie.Need-part-rename-file-start
 part-rename-file-start c = search needs
 
 part-rename-file-end : tie.Need-part-rename-file-end
-part-rename-file-end c = omega (arith, clear (c .before .before .before .before .before .before) .lent .block)
+part-rename-file-end c = omega (arith, clear (c .before .before .before .before .before) .lent .block)
 
 sub-rename-file-2 : tie.Need-sub-rename-file-2
 sub-rename-file-2 c = search needs
@@ -79,10 +70,10 @@ part-rename-file-start-2 : tie.Need-part-rename-file-start-2
 part-rename-file-start-2 c = search needs
 
 part-rename-file-end-2 : tie.Need-part-rename-file-end-2
-part-rename-file-end-2 c = omega (arith, clear (c .before .before .before .before .before .before .before) .lent .block)
+part-rename-file-end-2 c = omega (arith, clear (c .before .before .before .before .before .before) .lent .block)
 
 rename-file-requires : tie.Need-rename-file-requires
-rename-file-requires c κs = let l = clear (c .before .before .before .before .before .before .before .before) .lent in ((l .state .law, l .volume), (search needs, search needs))
+rename-file-requires c κs = let l = clear (c .before .before .before .before .before .before .before) .lent in ((l .state .law, l .volume), (search needs, search needs))
 
 answered-requires : tie.Need-answered-requires
 answered-requires c κs = search needs
@@ -93,13 +84,13 @@ same-length-2 c = search needs
 returns-2 : tie.Need-returns-2
 unfolding renameAct renameLadder changedState stored storedAll nameAt part
 returns-2 c =
-    let a = c .before .before .before .before .before .before .before .before .before .before .before .before .before .before .before .before .before .before .args in
+    let a = c .before .before .before .before .before .before .before .before .before .before .before .before .before .before .before .before .before .args in
     let d = a .self in
     let v = now (a .volume) in
     let f = now (a .f) in
     let m = c .before .before .before .rename-file in
     let t = isNone (m .result) in
-    named-decided d v f (clear (c .before .before .before .before .before .before .before .before .before .before .before .before)) 0 keeps (eachEntry (changed Rename (d .user) (nameOf f) (part f 17 11)) ∷ []) f _
+    named-decided d v f (clear (c .before .before .before .before .before .before .before .before .before .before .before)) 0 keeps (eachEntry (changed Rename (d .user) (nameOf f) (part f 17 11)) ∷ []) f _
     (after (badName false f 17 ∷ untypeable f 17 ∷ protectedDrive d ∷ []) (renameTests (d .geometry) v (d .user) (nameOf f) (newName f))
     (after (badName false f 17 ∷ untypeable f 17 ∷ []) (protectedDrive d ∷ []) (c .before .before .before .before .before .before .before .before .before .before .new-name-why .ensures)
     (c .before .before .before .before .before .before .before .before .first-of .ensures ∙ ap (first (c .before .before .before .before .before .before .before .before .before .before .new-name-why .result)) (c .before .before .before .before .before .before .before .before .before .refuse .ensures ∙ ladder-one Protected (d .protected) refl)))
@@ -115,9 +106,6 @@ rename-spec =
     refused-requires
     same-length
     returns
-    sub-new-name-why
-    part-new-name-why-start
-    part-new-name-why-end
     new-name-why-requires
     refuse-requires
     first-of-requires

@@ -4,7 +4,7 @@ use mathlib.Core.List.{[], _∷_}
 use native.Mathlib.Omega.{arith}
 use denote.Ref.{now}
 use lib.Dec.{leb}
-use Rattle.volume.specs.Geometry.{slots}
+use Rattle.geometry.specs.Geometry.{slots}
 use Rattle.answers.specs.declared.Refusal.the-variants.{NoMatch}
 use Rattle.answers.specs.Refusal.{test}
 use Rattle.filecalls.specs.Lent.{lentTests, firstLent}

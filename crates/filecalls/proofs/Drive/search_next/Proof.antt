@@ -7,8 +7,8 @@ use denote.Ref.{now}
 use lib.Dec.{leb}
 use Prim.Native.Nat.{_+_, _<_}
 use borrow.Author.Tests.{not-false}
-use Rattle.volume.proofs.GeometryLaws.{bounds}
-use Rattle.volume.specs.Geometry.{slots}
+use Rattle.geometry.proofs.GeometryLaws.{bounds}
+use Rattle.geometry.specs.Geometry.{slots}
 use Rattle.answers.specs.declared.Refusal.the-variants.{NoMatch}
 use Rattle.answers.specs.Refusal.{test}
 use Rattle.filecalls.specs.Search.{searchNextAct, nextTests, isKept, hit, shown}

@@ -4,10 +4,10 @@ use Rattle.filecalls.specs.Names.{attributesAct, attributesLadder}
 use Rattle.answers.specs.Refusal.{test, isNone}
 use Rattle.answers.specs.declared.Refusal.the-variants.{Protected, NoMatch}
 use Rattle.answers.proofs.Ladder.{ladder-one}
-use Rattle.naming.specs.declared.Edit.the-variants.{Attributes}
-use Rattle.naming.specs.Sweep.{changed}
+use Rattle.sweeping.specs.declared.Edit.the-variants.{Attributes}
+use Rattle.sweeping.specs.Sweep.{changed}
 use Rattle.volume.specs.Directory.{findSlot}
-use Rattle.volume.specs.Geometry.{slots}
+use Rattle.geometry.specs.Geometry.{slots}
 use Rattle.volume.specs.declared.Wanted.the-variants.{File}
 use Rattle.lists.specs.Bytes.{part}
 use lib.Dec.{leb}

@@ -6,7 +6,7 @@ use borrow.Author.Tests.{lt-ltb, le-ltb}
 use borrow.Author.Needs.{needs}
 use Rattle.lists.specs.Bytes.{part}
 use Rattle.volume.specs.Record.{slotRecord}
-use Rattle.volume.specs.Geometry.{slots}
+use Rattle.geometry.specs.Geometry.{slots}
 use Rattle.finding.proofs.search.search_from.Statement.{statement}
 use Rattle.finding.proofs.search.search_from.Tie as tie
 

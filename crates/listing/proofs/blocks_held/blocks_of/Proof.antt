@@ -2,7 +2,7 @@
 use mathlib.Core.Path.{sym}
 use Prim.Native.Nat.{_≤_, _-_, _*_}
 use Rattle.listing.specs.Listing.{moreBlocks, blocksOf}
-use Rattle.volume.specs.Geometry.{slots}
+use Rattle.geometry.specs.Geometry.{slots}
 use Rattle.volume.specs.Name.{strip}
 use Rattle.lists.proofs.FoldLaws.{Folded, folded-start, folded-next, folded-end}
 use borrow.Author.Needs.{needs}

@@ -4,7 +4,7 @@ use native.Mathlib.Omega.{arith}
 use denote.Ref.{now}
 use borrow.Author.Tests.{not-true, not-false}
 use Rattle.listing.specs.Listing.{usedPlaces, moreBlocks}
-use Rattle.volume.proofs.GeometryLaws.{bounds}
+use Rattle.geometry.proofs.GeometryLaws.{bounds}
 use Rattle.volume.proofs.EntryLaws.{lent-slot}
 use Rattle.volume.specs.Name.{strip}
 use Rattle.volume.specs.Entry.{ofFile}

@@ -4,7 +4,7 @@ use Rattle.answers.specs.Refusal.{test, first, firstMet}
 use Rattle.answers.specs.declared.Refusal.the-variants.{NoMatch}
 use Rattle.volume.specs.Directory.{findSlot}
 use Rattle.volume.specs.Name.{strip}
-use Rattle.volume.specs.Geometry.{slots}
+use Rattle.geometry.specs.Geometry.{slots}
 use Rattle.volume.specs.declared.Wanted.the-variants.{File}
 use denote.Ref.{now}
 use mathlib.Core.List.{[], _∷_}

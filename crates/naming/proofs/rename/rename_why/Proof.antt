@@ -5,11 +5,11 @@ use lib.Dec.{leb, ltb}
 use borrow.Author.Needs.{needs}
 use Rattle.volume.specs.Directory.{findSlot}
 use Rattle.volume.specs.Name.{strip}
-use Rattle.volume.specs.Geometry.{slots}
+use Rattle.geometry.specs.Geometry.{slots}
 use Rattle.volume.specs.declared.Wanted.the-variants.{File, ReadOnlyFile}
 use Rattle.answers.specs.declared.Refusal.the-variants.{NoMatch, ReadOnly, Exists}
 use Rattle.naming.specs.Rename.{renameTests}
-use Rattle.naming.proofs.ReadOnlyLaws.{read-only-file-from}
+use Rattle.sweeping.proofs.ReadOnlyLaws.{read-only-file-from}
 use Rattle.answers.proofs.Ladder.{ladder-three}
 use Rattle.naming.proofs.rename.rename_why.Statement.{statement}
 use Rattle.naming.proofs.rename.rename_why.Tie as tie

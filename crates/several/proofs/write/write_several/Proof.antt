@@ -2,7 +2,8 @@
 use mathlib.Core.Path.{_≡_, sym, _∙_}
 use denote.Ref.{now}
 use Rattle.several.specs.Several.{writeOne}
-use Rattle.several.proofs.SeveralLaws.{lent, several-passed, code-refused, code-passed}
+use Rattle.lent.proofs.LentLaws.{lent}
+use Rattle.several.proofs.SeveralLaws.{several-passed, code-refused, code-passed}
 use borrow.Author.Needs.{needs}
 use Rattle.several.proofs.write.write_several.Statement.{statement}
 use Rattle.several.proofs.write.write_several.Tie as tie

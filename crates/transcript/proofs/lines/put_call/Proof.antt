@@ -3,7 +3,7 @@ use Rattle.transcript.proofs.LineLaws.{wrote-shown}
 use Rattle.transcript.specs.Lines.{callLine}
 use Rattle.script.specs.Lent.{lendsBlock, lendsBuffer}
 use Rattle.text.proofs.TextLaws.{wrote, wrote-byte, then}
-use Rattle.bdos.specs.Step.{callOf}
+use Rattle.served.specs.Calls.{callOf}
 use denote.Ref.{now}
 use borrow.Author.Needs.{needs}
 use Rattle.transcript.proofs.lines.put_call.Statement.{statement}

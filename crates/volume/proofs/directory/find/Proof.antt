@@ -4,7 +4,7 @@ use borrow.Author.Needs.{needs}
 use Rattle.lists.proofs.SearchLaws.{from-zero}
 use Rattle.volume.specs.Directory.{slotFits, findSlot}
 use Rattle.volume.specs.Name.{strip}
-use Rattle.volume.specs.Geometry.{slots}
+use Rattle.geometry.specs.Geometry.{slots}
 use Rattle.volume.proofs.directory.find.Statement.{statement}
 use Rattle.volume.proofs.directory.find.Tie as tie
 

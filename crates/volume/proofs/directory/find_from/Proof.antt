@@ -6,7 +6,7 @@ use borrow.Author.Needs.{needs}
 use Rattle.lists.proofs.SearchLaws.{Searched, searched-start, searched-next, searched-hit, searched-none}
 use Rattle.volume.specs.Directory.{slotFits}
 use Rattle.volume.specs.Name.{strip}
-use Rattle.volume.specs.Geometry.{slots}
+use Rattle.geometry.specs.Geometry.{slots}
 use Rattle.volume.proofs.EntryLaws.{lent-slot}
 use Rattle.volume.proofs.directory.find_from.Statement.{statement}
 use Rattle.volume.proofs.directory.find_from.Tie as tie

@@ -5,7 +5,7 @@ use native.Mathlib.Omega.{arith}
 use borrow.Author.Needs.{needs}
 use Rattle.lists.specs.Bytes.{part, put}
 use Rattle.lists.proofs.PartLaws.{put-put-part}
-use Rattle.volume.specs.Geometry.{start, slotStart}
+use Rattle.geometry.specs.Geometry.{start, slotStart}
 use Rattle.volume.specs.Directory.{putSlot}
 use Rattle.volume.proofs.directory.put_slot.Statement.{statement}
 use Rattle.volume.proofs.directory.put_slot.Tie as tie

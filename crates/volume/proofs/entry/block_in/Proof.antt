@@ -1,7 +1,8 @@
 -- The map has sixteen places, so the byte lies in the entry.
 use native.Mathlib.Omega.{arith}
 use borrow.Author.Needs.{needs}
-use Rattle.volume.specs.Entry.{places, blockIn}
+use Rattle.volume.specs.Entry.{blockIn}
+use Rattle.geometry.specs.Geometry.{places}
 use Rattle.volume.proofs.entry.block_in.Statement.{statement}
 use Rattle.volume.proofs.entry.block_in.Tie as tie
 

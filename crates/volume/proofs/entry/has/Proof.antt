@@ -5,7 +5,7 @@ use mathlib.Core.Path.{sym, _∙_}
 use denote.Ref.{now}
 use lib.Dec.{eqb}
 use Rattle.lists.specs.Bytes.{byte}
-use Rattle.volume.specs.Geometry.{groupOf}
+use Rattle.geometry.specs.Geometry.{groupOf}
 use Rattle.volume.specs.Name.{strip, nameOf, same, like}
 use Rattle.volume.specs.Entry.{extent, ofFile, ofGroup, matches}
 use Rattle.volume.proofs.EntryLaws.{group-passes, group-fails}

@@ -7,12 +7,12 @@ use denote.Ref.{now}
 use borrow.Author.Tests.{not-true, not-false}
 use borrow.Author.Needs.{needs}
 use Rattle.lists.specs.Bytes.{part}
-use Rattle.volume.specs.Geometry.{slots}
+use Rattle.geometry.specs.Geometry.{slots}
 use Rattle.volume.specs.Name.{nameAt, nameOf}
-use Rattle.volume.proofs.GeometryLaws.{bounds}
+use Rattle.geometry.proofs.GeometryLaws.{bounds}
 use Rattle.answers.specs.Refusal.{isNone}
-use Rattle.writing.specs.WritePlan.{Decided, entryAfter}
-use Rattle.writing.proofs.WriteLaws.{Passed, write-passed}
+use Rattle.deciding.specs.WritePlan.{Decided, entryAfter}
+use Rattle.deciding.proofs.WriteLaws.{Passed, write-passed}
 use Rattle.writing.proofs.write.write_record.Statement.{statement}
 use Rattle.writing.proofs.write.write_record.Tie as tie
 

@@ -1,0 +1,2 @@
+-- Delete: its tests, and the blocks that it frees.
+pub mod Delete

@@ -1,0 +1,2 @@
+-- Laws of bytes laid one part after the other.
+pub mod LayLaws

@@ -1,0 +1,3 @@
+-- Laws of the geometry, and of its block shift.
+pub mod GeometryLaws
+pub mod ShiftLaws

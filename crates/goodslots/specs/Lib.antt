@@ -1,0 +1,3 @@
+-- "Inspection at log-in."
+pub mod GoodSlot
+pub mod Named

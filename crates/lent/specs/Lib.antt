@@ -1,0 +1,2 @@
+-- What is tested before the first of several records.
+pub mod Lent

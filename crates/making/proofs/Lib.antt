@@ -1,0 +1,2 @@
+-- Laws of make.
+pub mod MakeLaws

@@ -1,0 +1,2 @@
+-- The call that makes a file.
+pub mod Make

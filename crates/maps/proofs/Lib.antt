@@ -1,0 +1,2 @@
+-- What the code rests on: the held blocks as inspection goes on.
+pub mod HeldLaws

@@ -1,0 +1,2 @@
+-- Size.
+pub mod Size

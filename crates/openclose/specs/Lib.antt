@@ -1,0 +1,2 @@
+-- Open and close.
+pub mod Open

@@ -1,0 +1,2 @@
+-- What the code rests on: marks.
+pub mod MarkLaws

@@ -1,0 +1,2 @@
+-- Laws of names that can be typed.
+pub mod TypingLaws

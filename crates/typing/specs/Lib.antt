@@ -1,0 +1,2 @@
+-- Names that can be typed.
+pub mod Typing

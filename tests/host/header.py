@@ -1,0 +1,253 @@
+# Holds include/churawel.h, which is kept by hand, to the source: the exported functions with their parameters and types,
+# the lengths, the numbers of the functions, the numbers of refusal, and the two halves of an answer. Then copies of the
+# header that are wrong in one place, each of which must be found. A line for each case; the last line is 'N passed, M
+# failed', and the exit status is 0 only where M is 0.
+import re
+import sys
+from itertools import zip_longest
+from pathlib import Path
+
+ROOT = Path(__file__).resolve().parents[2]
+
+NUMBERS = {"u8": "uint8_t", "u16": "uint16_t", "u32": "uint32_t", "u64": "uint64_t", "usize": "size_t"}
+SLICES = {"&[u8]": "const uint8_t *", "&mut [u8]": "uint8_t *"}
+
+# Where a length stands in the source: as a constant, or in the tests that refuse another one.
+LENGTHS = {
+    "DRIVE_BYTES": r"\bconst DRIVE_BYTES: usize = (\d+);",
+    "FCB_BYTES": r"Refusal::BlockLength, [\w.()]+ != (\d+)\)",
+    "BUFFER_BYTES": r"Refusal::BufferLength, [\w.()]+ != (\d+)\b",
+    "RECORDS_MOST": r"Refusal::BadCount, .* <= (\d+)\)",
+}
+
+# Names that the header has and the source has not: a name for each number of a call, and a name for a refusal.
+CALLS = {"LogIn": ["RESET", "RESET_DRIVE"], "Protect": ["WRITE_PROTECT"]}
+REFUSALS = {"BlockLength": "FCB_LENGTH", "BadCount": "COUNT", "NoRoom": "NO_MATCH"}
+
+
+# ---- the source
+
+
+def all_sources():
+    """every source file under crates in one text, without comments"""
+    files = sorted((ROOT / "crates").glob("*/src/**/*.rt"))
+    return "\n".join(re.sub(r"//.*", "", file.read_text()) for file in files)
+
+
+def in_c(parameter):
+    """a parameter as C has it; a slice is a pointer and a number of bytes"""
+    name, kind = (word.strip() for word in parameter.split(":"))
+    if kind in SLICES:
+        return [f"{SLICES[kind]} {name}", f"size_t {name}_bytes"]
+    return [f"{NUMBERS.get(kind, kind)} {name}"]
+
+
+def exported(source):
+    """what each exported function returns and takes, in the words of C"""
+    functions = {}
+    for name, taken, returned in re.findall(r'#\[no_mangle\]\s*pub extern "C" fn (\w+)\(([^()]*)\) -> (\w+)', source):
+        parameters = [parameter for parameter in taken.split(",") if parameter.strip()]
+        functions[name] = [NUMBERS.get(returned, returned)] + sum(map(in_c, parameters), [])
+    marks = source.count("no_mangle"), source.count('extern "C"')
+    assert marks == (len(functions), len(functions)), "an exported function of the source can't be read"
+    return functions
+
+
+def lengths_in(source):
+    lines = []
+    for name, pattern in LENGTHS.items():
+        numbers = sorted(set(re.findall(pattern, source)))
+        lines.append(f"{name} {' and '.join(numbers) or 'nowhere'}")
+    return lines
+
+
+def arms(source, function):
+    """the two sides of each arm in the one match of a function, wherever it stands"""
+    bodies = re.findall(rf"\bfn {function}\(.*?\bmatch \w+ {{([^{{}}]*)}}", source, re.S)
+    assert len(bodies) == 1, f"{function} is there {len(bodies)} times"
+    found = re.findall(r"(\S.*?) => (.*),", bodies[0])
+    assert len(found) == bodies[0].count("=>"), f"an arm of {function} can't be read"
+    return found
+
+
+def variant_of(path):
+    """the innermost name: ReadRandom of Call::ReadRandom, and where it stands in another variant"""
+    return re.findall(r"\w+", path)[-1]
+
+
+def spelled(variant):
+    """SearchFirst as SEARCH_FIRST"""
+    return re.sub(r"(?<=[a-z])(?=[A-Z])", "_", variant).upper()
+
+
+def calls_in(source):
+    """the numbers that call_of knows, rising"""
+    named = {}
+    for numbers, call in arms(source, "call_of"):
+        variant = variant_of(call)
+        names = CALLS.get(variant, [spelled(variant)])
+        if numbers != "_":
+            named.update(zip_longest(map(int, numbers.split(" | ")), names))
+    return [f"{name} = {number}" for number, name in sorted(named.items())]
+
+
+def refusals_in(source):
+    """the numbers of refusal in the source's order; None is no refusal"""
+    lines = []
+    for refusal, number in arms(source, "refusal_number"):
+        variant = variant_of(refusal)
+        if variant != "None":
+            lines.append(f"{REFUSALS.get(variant, spelled(variant))} = {number}")
+    return list(dict.fromkeys(lines))
+
+
+def halves_in(source):
+    """the mask of the number and the shift of the value, by what the value is multiplied with"""
+    (step,) = map(int, re.findall(r"number \+ (\d+) \* value", source))
+    return [f"NUMBER: & {step - 1}", f"VALUE: >> {step.bit_length() - 1}"]
+
+
+# ---- the header
+
+
+def bare(header):
+    """without comments, and without what is for C++ alone"""
+    header = re.sub(r"/\*.*?\*/", "", header, flags=re.S)
+    return re.sub(r"#ifdef __cplusplus\n.*?#endif\n", "", header, flags=re.S)
+
+
+def statements(header):
+    """declarations, each as its words with a blank between them"""
+    parts = re.sub(r"(?m)^#.*$", "", header).split(";")
+    return [" ".join(re.findall(r"\w+|\S", part)) for part in parts if part.strip()]
+
+
+def declared(header):
+    """what each declared function returns and takes; what can't be read stands for itself"""
+    functions = {}
+    for statement in statements(header):
+        function = re.fullmatch(r"(.+) (\w+) \( (.*) \)", statement)
+        if function:
+            functions[function[2]] = [function[1]] + function[3].split(" , ")
+        elif not statement.startswith("enum {"):
+            functions[statement] = []
+    return functions
+
+
+def lengths_of(header):
+    return re.findall(r"(?m)^#define CHURAWEL_(\w+ .*\S)", header)
+
+
+def constants_of(header):
+    """the enumerations, each as a list of NAME = NUMBER"""
+    lists = re.findall(r"enum { (.*?) }", "\n".join(statements(header)))
+    return [body.replace("CHURAWEL_", "").split(" , ") for body in lists]
+
+
+def halves_of(header):
+    macros = re.findall(r"(?m)^#define CHURAWEL_(\w+)\(answer\) \(\(answer\) (\S+) (\w+?)u?\)\s*$", header)
+    return [f"{name}: {operator} {int(number, 0)}" for name, operator, number in macros]
+
+
+# ---- the cases
+
+FUNCTIONS = "the header declares the exported functions, in the source's order"
+LENGTHS_AGREE = "the header's lengths are the source's"
+CALLS_AGREE = "the header's functions have the numbers of call_of"
+REFUSALS_AGREE = "the header's refusals have their numbers and the source's order"
+HALVES_AGREE = "the header takes an answer apart as the source puts it together"
+
+
+def signature(name):
+    return f"{name} returns and takes the same in header and source"
+
+
+def cases(header, source):
+    """what is compared, what the header has, and what the source has"""
+    header = bare(header)
+    have, want = declared(header), exported(source)
+    calls, refusals = constants_of(header)
+    yield FUNCTIONS, list(have), list(want)
+    for name in want:
+        yield signature(name), have.get(name, []), want[name]
+    yield LENGTHS_AGREE, lengths_of(header), lengths_in(source)
+    yield CALLS_AGREE, calls, calls_in(source)
+    yield REFUSALS_AGREE, refusals, refusals_in(source)
+    yield HALVES_AGREE, halves_of(header), halves_in(source)
+
+
+def difference(has, wants):
+    """the first place in which the header is not what the source wants, or nothing"""
+    for one, other in zip_longest(has, wants, fillvalue="nothing"):
+        if one != other:
+            return f"the header has '{one}' where the source has '{other}'"
+    return ""
+
+
+LOG_IN, CALL = signature("churawel_log_in"), signature("churawel_call")
+
+# What is wrong, the text to alter (there once), what it becomes, and the case that must find it.
+WRONG = [
+    ("a byte that is 32 bits wide", r"uint8_t parameter", "uint32_t parameter", CALL),
+    ("a length of 32 bits", r"size_t fcb_bytes", "uint32_t fcb_bytes", CALL),
+    ("a result of 16 bits", r"uint32_t churawel_log_in", "uint16_t churawel_log_in", LOG_IN),
+    ("a lent slice that is not const", r"const uint8_t \*volume", "uint8_t *volume", LOG_IN),
+    ("a changed slice that is const", r"uint8_t \*buffer", "const uint8_t *buffer", CALL),
+    ("two numbers in the other order", r"(uint32_t block_bytes), (uint32_t blocks)", r"\2, \1", LOG_IN),
+    ("two slices in the other order", r"(uint8_t \*fcb.*),(\s*)(uint8_t \*buffer, \w+ \w+)", r"\3,\2\1", CALL),
+    ("a length before its pointer", r"(uint8_t \*buffer), (size_t buffer_bytes)", r"\2, \1", CALL),
+    ("a parameter that is missing", r"uint8_t function, ", "", CALL),
+    ("a parameter too many", r"uint8_t function, ", "uint8_t function, uint8_t drive_code, ", CALL),
+    ("a function that is missing", r"(?s)uint32_t churawel_call\(.*?\);", "", FUNCTIONS),
+    ("a function too many", r"(uint32_t churawel_call\()", r"void churawel_close(uint8_t *drive);\n\1", FUNCTIONS),
+    ("a function of another name", r"churawel_log_in\(", "churawel_login(", FUNCTIONS),
+    ("two functions in the other order", r"(?s)(uint32_t \w+_log_in.*?;)(.*)(uint32_t \w+_call.*?;)", r"\3\2\1", FUNCTIONS),
+    ("a variable", r"(uint32_t churawel_call\()", r"extern int churawel_calls;\n\1", FUNCTIONS),
+    ("a drive of 63 bytes", r"DRIVE_BYTES 64", "DRIVE_BYTES 63", LENGTHS_AGREE),
+    ("a control block of 33 bytes", r"FCB_BYTES 36", "FCB_BYTES 33", LENGTHS_AGREE),
+    ("a buffer of 127 bytes", r"BUFFER_BYTES 128", "BUFFER_BYTES 127", LENGTHS_AGREE),
+    ("seventeen records", r"RECORDS_MOST 16", "RECORDS_MOST 17", LENGTHS_AGREE),
+    ("a length that the source has not", r"(#define \w+_FCB_BYTES)", r"#define CHURAWEL_SLOT_BYTES 32\n\1", LENGTHS_AGREE),
+    ("another number of a function", r"SIZE = 35", "SIZE = 38", CALLS_AGREE),
+    ("two functions' numbers exchanged", r"(OPEN = )15(.*\s*.*CLOSE = )16", r"\g<1>16\g<2>15", CALLS_AGREE),
+    ("13 and 37 exchanged", r"(?s)(RESET = )13(.*RESET_DRIVE = )37", r"\g<1>37\g<2>13", CALLS_AGREE),
+    ("a function's number that is missing", r"CHURAWEL_MAKE = 22,", "", CALLS_AGREE),
+    ("a function's number too many", r"(CHURAWEL_OPEN = )", r"CHURAWEL_SELECT = 14, \1", CALLS_AGREE),
+    ("another number of a refusal", r"CHURAWEL_OUTSIDE = 41", "CHURAWEL_OUTSIDE = 31", REFUSALS_AGREE),
+    ("a refusal that is missing", r"CHURAWEL_UNTYPEABLE = 45,", "", REFUSALS_AGREE),
+    ("two refusals in the other order", r"(\w+_COUNT = 46,)(.*\s*)(\w+_BUFFER_LENGTH = 35,)", r"\3\2\1", REFUSALS_AGREE),
+    ("a mask of eight bits", r"& 0xFFFFu", "& 0xFFu", HALVES_AGREE),
+    ("a shift by eight bits", r">> 16", ">> 8", HALVES_AGREE),
+]
+
+
+def found(header, source, alteration):
+    """alters a copy of the header; why the wrong place is not found, or nothing"""
+    _, pattern, text, where = alteration
+    altered, times = re.subn(pattern, text, header)
+    if times != 1:
+        return f"what is to be altered is there {times} times"
+    differences = {what: difference(has, wants) for what, has, wants in cases(altered, source)}
+    return "" if differences[where] else f"not by the case '{where}'"
+
+
+def all_cases():
+    """what each case is, and what is wrong, or nothing"""
+    header = (ROOT / "include/churawel.h").read_text()
+    source = all_sources()
+    for what, has, wants in cases(header, source):
+        yield what, difference(has, wants)
+    for alteration in WRONG:
+        yield f"found in an altered header: {alteration[0]}", found(header, source, alteration)
+
+
+def main():
+    passed = failed = 0
+    for what, wrong in all_cases():
+        passed, failed = (passed, failed + 1) if wrong else (passed + 1, failed)
+        print(f"FAILED {what}: {wrong}" if wrong else f"ok {what}")
+    print(f"{passed} passed, {failed} failed")
+    return failed != 0
+
+
+sys.exit(main())
