@@ -1,8 +1,7 @@
 -- The ladder in parts: code asks a first group of tests and, where none of them is met, the next group.
 use mathlib.Core.Path.{_≡_, refl, sym, ap, _∙_}
-use mathlib.Core.Bool.{Bool, true, false, cond, true≢false, false≢true}
+use mathlib.Core.Bool.{Bool, true, false, false≢true}
 use mathlib.Core.List.{List, [], _∷_, _++_}
-use Prim.Native.Nat.{ℕ}
 use Rattle.answers.specs.declared.Refusal.{Refusal}
 use Rattle.answers.specs.declared.Refusal.the-variants.{None}
 use Rattle.answers.specs.Refusal.{isNone, Test, test, refusing, first, firstMet}

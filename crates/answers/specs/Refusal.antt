@@ -1,5 +1,5 @@
 -- "Numbers of refusal, in order of test": each case of the enum with the paper's number, and the ladder of tests.
-use mathlib.Core.Bool.{Bool, true, false, cond}
+use mathlib.Core.Bool.{Bool, cond}
 use mathlib.Core.List.{List, [], _∷_}
 use Prim.Native.Nat.{ℕ}
 use lib.Dec.{eqb}

@@ -1,7 +1,7 @@
 // What a call answers: the numbers of refusal, and the answers.
 ghost use mathlib.Core.Path.{_≡_};
-ghost use mathlib.Core.Bool.{Bool, true, false};
-ghost use Prim.Native.Nat.{ℕ, _<_};
+ghost use mathlib.Core.Bool.{true, false};
+ghost use Prim.Native.Nat.{_<_};
 ghost use Rattle.answers.specs.Refusal.{refusalNumber, isNone, refusing, first};
 ghost use Rattle.answers.specs.Answer.{numberOf, valueOf, succeeded, whyOf};
 

@@ -1,5 +1,5 @@
 -- One door: the function's number, its parameter and what is lent decide the call; `step` is all that it leaves.
-use mathlib.Core.List.{List, [], _∷_}
+use mathlib.Core.List.{List, []}
 use Prim.Native.Nat.{ℕ}
 use Rattle.geometry.specs.declared.Geometry.{Geometry}
 use Rattle.answers.specs.declared.Refusal.the-variants.{NotServed}
@@ -10,8 +10,7 @@ use Rattle.served.specs.declared.Transfer.the-variants.{ReadSequential, WriteSe
 use Rattle.served.specs.Calls.{callOf}
 use Rattle.served.specs.Asked.{Asked}
 use Rattle.filecalls.specs.declared.Drive.{Drive}
-use Rattle.filecalls.specs.declared.Reply.{Reply}
-use Rattle.filecalls.specs.Outcome.{Act, deny, Outcome, outcome, left}
+use Rattle.filecalls.specs.Outcome.{deny, Outcome, outcome, left}
 use Rattle.filecalls.specs.LogIn.{logIn}
 use Rattle.filecalls.specs.Open.{openAct, closeAct, sizeAct}
 use Rattle.filecalls.specs.Search.{searchFirstAct, searchNextAct}

@@ -13,7 +13,7 @@ use lib.Pow.{high, low, pow-pos}
 use lib.Seq.{getD-set-same, getD-set-other, set-out, ext-getD}
 use Rattle.blocks.specs.Held.{digit, holds, hold, release, wordOf, wordsOf, noneHeld}
 use Rattle.blocks.proofs.Bits.{set-bit-lt, clear-bit-lt, low-bits, one-more-bit}
-use Rattle.blocks.proofs.HoldLaws.{digit-of, digit-holds}
+use Rattle.blocks.proofs.HoldLaws.{digit-of, digit-holds, holds-hold-same, holds-hold-other}
 
 -- ---- four words of 64 bits
 pub record Words (held : List ℕ) : Type 0 where
@@ -142,3 +142,17 @@ module _ (p : ℕ → Bool) (held : List ℕ) (t : Words held) (same : (b : ℕ)
 -- so two states with the same blocks have the same words
 pub words-same : (held other : List ℕ) → Words held → Words other → ((b : ℕ) → b < 256 → holds held b ≡ holds other b) → held ≡ other
 words-same held other s t h = words-are (holds other) held s h ∙ sym (words-are (holds other) other t (λ b l. refl))
+
+-- ---- the words of two sets that agree
+pub words-ext : (p q : ℕ → Bool) → ((b : ℕ) → b < 256 → p b ≡ q b) → wordsOf p ≡ wordsOf q
+words-ext p q same = words-are q (wordsOf p) (words-words p) (λ b h. holds-words p b h ∙ same b h)
+
+-- ---- the words of a set with one block more
+pub hold-words : (p q : ℕ → Bool) (b : ℕ) → b < 256 → q b ≡ true → ((c : ℕ) → (c ≡ b → ⊥) → p c ≡ q c) → hold (wordsOf p) b ≡ wordsOf q
+hold-words p q b h in-q other = words-are q (hold (wordsOf p) b) (words-hold (wordsOf p) b (words-words p)) each
+  where
+    each : (c : ℕ) → c < 256 → holds (hold (wordsOf p) b) c ≡ q c
+    each c l = elim (ℕ-discrete c b) [
+      | yes e ↦ ap (holds (hold (wordsOf p) b)) e ∙ holds-hold-same (wordsOf p) (length-words p) b h ∙ sym (ap q e ∙ in-q)
+      | no n ↦ holds-hold-other (wordsOf p) (length-words p) b h c n ∙ holds-words p c l ∙ other c n
+    ]

@@ -1,8 +1,8 @@
 -- The control block, 36 bytes: "0 dr, 1..11 name and type, 12 ex, 13 s1, 14 s2, 15 rc, 16..31 map, 32 cr, 33..35 r0 r1 r2".
-use mathlib.Core.Bool.{Bool, true, not, _&&_, _||_}
-use mathlib.Core.List.{List, [], _∷_}
+use mathlib.Core.Bool.{Bool, _&&_}
+use mathlib.Core.List.{List}
 use Prim.Native.Nat.{ℕ, _+_, _*_, _/_, _%_}
-use lib.Dec.{leb, ltb, eqb}
+use lib.Dec.{leb}
 use lib.ListN.{set, replicate}
 use Rattle.lists.specs.Bytes.{byte, part, put}
 use Rattle.volume.specs.Name.{nameAt}

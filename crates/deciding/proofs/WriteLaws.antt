@@ -20,7 +20,7 @@ use Rattle.answers.specs.declared.Refusal.{Refusal}
 use Rattle.answers.specs.declared.Refusal.the-variants.{None, NoFile, ReadOnly, Outside, NoSlot, NoBlock}
 use Rattle.entries.specs.Alloc.{alloc}
 use Rattle.entries.specs.Grown.{likeEntry, baseOf}
-use Rattle.entries.proofs.InsideLaws.{inside-is, is-inside}
+use Rattle.geometry.proofs.InsideLaws.{inside-is, is-inside}
 use Rattle.entries.proofs.AllocLaws.{alloc-given}
 use Rattle.entries.proofs.GrowLaws.{length-like, length-written}
 use Rattle.deciding.specs.Write.{hasGroup, writeSlot, baseEntry, needsBlock, writeBlock, writeTests}

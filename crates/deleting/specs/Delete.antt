@@ -1,14 +1,13 @@
 -- Delete: "their blocks are free (numbers outside D to T-1 are passed over)".
-use mathlib.Core.Bool.{Bool, cond}
+use mathlib.Core.Bool.{cond}
 use mathlib.Core.List.{List, [], _∷_}
 use Prim.Native.Nat.{ℕ}
 use lib.Dec.{leb, ltb}
 use Rattle.lists.specs.Search.{fold}
 use Rattle.geometry.specs.declared.Geometry.{Geometry}
 use Rattle.volume.specs.declared.Wanted.the-variants.{Match, ReadOnlyMatch}
-use Rattle.geometry.specs.Geometry.{slots, inside}
+use Rattle.geometry.specs.Geometry.{slots, inside, places}
 use Rattle.volume.specs.Entry.{Entry, blockIn, matches}
-use Rattle.geometry.specs.Geometry.{places}
 use Rattle.volume.specs.Directory.{slotAt, findSlot}
 use Rattle.blocks.specs.Held.{release}
 use Rattle.answers.specs.declared.Refusal.the-variants.{NoMatch, ReadOnly}

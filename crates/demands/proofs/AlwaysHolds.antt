@@ -7,7 +7,7 @@ use Rattle.geometry.specs.declared.Geometry.{Geometry}
 use Rattle.geometry.specs.Geometry.{slots, inside}
 use Rattle.goodslots.specs.GoodSlot.{namedBelow}
 use Rattle.goodslots.specs.Named.{named, heldOf}
-use Rattle.entries.proofs.InsideLaws.{inside-is}
+use Rattle.geometry.proofs.InsideLaws.{inside-is}
 use Rattle.filecalls.specs.declared.Drive.{Drive}
 use Rattle.filecalls.specs.State.{loggedIn}
 use Rattle.bdos.specs.Step.{step}

@@ -14,10 +14,9 @@ use Rattle.lists.specs.Search.{anyFrom}
 use Rattle.lists.proofs.BoolLaws.{and-parts}
 use Rattle.lists.proofs.SearchLaws.{any-true, any-intro, any-false, any-none}
 use Rattle.geometry.specs.declared.Geometry.{Geometry}
-use Rattle.geometry.specs.Geometry.{lawful, bytes, slots}
+use Rattle.geometry.specs.Geometry.{lawful, bytes, slots, places}
 use Rattle.volume.specs.Name.{nameOf, like}
 use Rattle.volume.specs.Entry.{Entry, isEmpty, blockIn, matches}
-use Rattle.geometry.specs.Geometry.{places}
 use Rattle.volume.specs.Directory.{slotAt, mapSlots}
 use Rattle.geometry.proofs.GeometryLaws.{bounds}
 use Rattle.volume.proofs.DirectoryLaws.{slot-length}
@@ -30,7 +29,7 @@ use Rattle.goodslots.specs.GoodSlot.{inPlaces}
 use Rattle.sweeping.specs.declared.Edit.the-variants.{Erase}
 use Rattle.sweeping.specs.Sweep.{erased, changed}
 use Rattle.deleting.specs.Delete.{freeMatches}
-use Rattle.entries.proofs.InsideLaws.{is-inside}
+use Rattle.geometry.proofs.InsideLaws.{is-inside}
 use Rattle.filecalls.specs.declared.Drive.{Drive}
 use Rattle.filecalls.specs.State.{isOpen}
 use Rattle.filecalls.specs.Outcome.{stored, storedAll, changedState}

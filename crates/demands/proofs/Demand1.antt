@@ -1,7 +1,7 @@
 -- Demand 1 holds: a refusal is the first clause of `outcome`, every call's act stands under `unless` and its own tests,
 -- and what the tests refuse for does not depend on what is given.
 use mathlib.Core.Path.{_≡_, refl, sym, ap}
-use mathlib.Core.Bool.{Bool, true, false, cond, _||_, true≢false, false≢true}
+use mathlib.Core.Bool.{Bool, true, false, cond, true≢false, false≢true}
 use mathlib.Core.Logic.{_≢_}
 use mathlib.Core.List.{List, [], _∷_}
 use Prim.Native.Nat.{ℕ, _%_, _<_}
@@ -11,7 +11,6 @@ use borrow.Author.Tests.{eqb-true, lt-ltb, not-false}
 use Rattle.geometry.specs.declared.Geometry.{Geometry}
 use Rattle.answers.specs.declared.Refusal.{Refusal}
 use Rattle.answers.specs.declared.Refusal.the-variants.{Closed, NotServed}
-use Rattle.answers.specs.declared.Answer.{Answer}
 use Rattle.answers.specs.declared.Answer.the-variants.{BadSlot, Refused}
 use Rattle.answers.specs.Refusal.{Test, test, refusalNumber, isNone, firstMet}
 use Rattle.answers.specs.Answer.{numberOf, succeeded}

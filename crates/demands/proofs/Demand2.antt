@@ -31,7 +31,7 @@ use Rattle.goodslots.proofs.AcceptedLaws.{accepted, accepts, lowest-bad-le}
 use Rattle.goodslots.proofs.NamedLaws.{holds-held}
 use Rattle.deciding.specs.Write.{baseEntry, needsBlock, writeTests}
 use Rattle.entries.specs.Alloc.{alloc}
-use Rattle.entries.proofs.InsideLaws.{inside-is}
+use Rattle.geometry.proofs.InsideLaws.{inside-is}
 use Rattle.entries.proofs.AllocLaws.{alloc-le, alloc-none, none-alloc}
 use Rattle.filecalls.specs.declared.Drive.{Drive}
 use Rattle.filecalls.specs.declared.Reply.{Reply}

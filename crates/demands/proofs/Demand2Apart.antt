@@ -13,9 +13,8 @@ use borrow.Author.Tests.{ltb-true, eq-eqb}
 use Rattle.lists.proofs.BoolLaws.{and-left}
 use Rattle.geometry.specs.declared.Geometry.{Geometry}
 use Rattle.volume.specs.declared.Wanted.the-variants.{File, Group}
-use Rattle.geometry.specs.Geometry.{lawful, bytes, slots, groupOf, placeOf}
+use Rattle.geometry.specs.Geometry.{lawful, bytes, slots, groupOf, placeOf, places}
 use Rattle.volume.specs.Entry.{Entry, isEmpty, extent, blockIn, ofFile, ofGroup}
-use Rattle.geometry.specs.Geometry.{places}
 use Rattle.volume.specs.Directory.{slotAt, findSlot}
 use Rattle.volume.specs.Record.{recordSlot, recordBlock}
 use Rattle.volume.proofs.DirectoryLaws.{slot-length}
@@ -35,7 +34,7 @@ use Rattle.entries.proofs.AllocLaws.{alloc-given}
 use Rattle.writing.proofs.AfterLaws.{after-block, after-slot, after-slot-other}
 use Rattle.entries.proofs.GrowLaws.{written-other}
 use Rattle.deciding.proofs.WriteLaws.{write-passed}
-use Rattle.entries.proofs.InsideLaws.{inside-is}
+use Rattle.geometry.proofs.InsideLaws.{inside-is}
 use Rattle.demands.proofs.Demand2Entries.{file-used, like-no-block}
 
 -- a place of the map of an entry

@@ -14,10 +14,9 @@ use Rattle.lists.specs.Bytes.{byte, part}
 use Rattle.lists.proofs.BoolLaws.{and-left}
 use Rattle.lists.proofs.PartLaws.{length-part}
 use Rattle.geometry.specs.declared.Geometry.{Geometry}
-use Rattle.geometry.specs.Geometry.{lawful, records, groupOf, placeOf}
+use Rattle.geometry.specs.Geometry.{lawful, records, groupOf, placeOf, places}
 use Rattle.volume.specs.Name.{nameOf, same}
 use Rattle.volume.specs.Entry.{Entry, isEmpty, extent, blockIn, countOf, ofFile}
-use Rattle.geometry.specs.Geometry.{places}
 use Rattle.volume.proofs.EntryLaws.{count-above, count-own}
 use Rattle.geometry.proofs.GeometryLaws.{bounds}
 use Rattle.entries.specs.Grown.{likeEntry, grown}

@@ -19,15 +19,14 @@ use Rattle.answers.specs.declared.Refusal.the-variants.{Closed, NoFile, NoGroup
 use Rattle.answers.specs.Refusal.{Test, isNone, firstMet}
 use Rattle.answers.proofs.Ladder.{unmet, ladder-pass}
 use Rattle.reading.specs.Read.{readBlock, readTests, readBytes}
-use Rattle.entries.proofs.InsideLaws.{is-inside}
+use Rattle.geometry.proofs.InsideLaws.{is-inside}
 use Rattle.filecalls.specs.declared.Drive.{Drive}
 use Rattle.filecalls.specs.Outcome.{unless, Outcome, outcome}
 use Rattle.filecalls.specs.Ready.{Open}
 use Rattle.filecalls.specs.State.{isOpen}
 use Rattle.filecalls.specs.Read.{sequentialTests, randomTests, readDone, readSequentialAct, readRandomAct}
 use Rattle.filecalls.proofs.OutcomeLaws as laws
-use Rattle.filecalls.proofs.StateLaws.{both-clear}
-use Rattle.filecalls.proofs.StateLaws.{is-open}
+use Rattle.filecalls.proofs.StateLaws.{both-clear, is-open}
 use Rattle.served.specs.declared.Call.{Call}
 use Rattle.served.specs.declared.Call.the-variants.{Moves}
 use Rattle.served.specs.declared.Transfer.the-variants.{ReadSequential, ReadRandom}

@@ -1,7 +1,7 @@
 -- What a successful write leaves, by its call: the volume, the held blocks and the control block after the write of its
 -- record; and what follows for one write and for many.
 use mathlib.Core.Path.{_≡_, refl, sym, ap, _∙_}
-use mathlib.Core.Bool.{Bool, true, false, cond}
+use mathlib.Core.Bool.{Bool, true, false}
 use mathlib.Core.Logic.{_⊎_, inl, inr, _≢_}
 use mathlib.Core.List.{List, _++_}
 use Prim.Native.Nat.{ℕ, _+_, _/_, _%_, _≤_}
@@ -16,20 +16,19 @@ use Rattle.volume.specs.Name.{strip, nameAt, nameOf}
 use Rattle.volume.specs.Entry.{Entry, countOf}
 use Rattle.volume.specs.Record.{present}
 use Rattle.control.specs.Block.{position, random, setTo}
-use Rattle.blocks.specs.Held.{hold}
 use Rattle.answers.specs.declared.Refusal.the-variants.{Protected}
 use Rattle.answers.specs.Refusal.{Test, isNone, firstMet}
 use Rattle.answers.proofs.Ladder.{unmet}
-use Rattle.deciding.specs.Write.{needsBlock, writeBlock, writeTests}
+use Rattle.deciding.specs.Write.{writeTests}
 use Rattle.deciding.specs.WritePlan.{entryAfter, volumeAfter, heldAfter}
 use Rattle.writing.proofs.AfterLaws.{after-present}
 use Rattle.entries.proofs.HeadLaws.{head, head-set}
 use Rattle.filecalls.specs.declared.Drive.{Drive}
-use Rattle.filecalls.specs.Outcome.{keeps, takes, unless, Outcome, outcome, withHeld, changedState, stored, storedAll}
+use Rattle.filecalls.specs.Outcome.{unless, Outcome, outcome}
 use Rattle.filecalls.specs.Ready.{Open, Lent}
 use Rattle.filecalls.specs.Lent.{namedTests, sequentialLent, randomLent}
 use Rattle.filecalls.specs.Read.{sequentialTests, randomTests}
-use Rattle.filecalls.specs.Write.{writeEntry, writeChange, writeDone, directoryTests, writeSequentialAct, writeRandomAct, writeZeroFillAct}
+use Rattle.filecalls.specs.Write.{writeDone, directoryTests, writeSequentialAct, writeRandomAct, writeZeroFillAct}
 use Rattle.filecalls.proofs.LentLaws.{sequential-lent, random-lent}
 use Rattle.filecalls.proofs.OutcomeLaws as laws
 use Rattle.filecalls.proofs.StateLaws.{both-clear, named-clear}
@@ -39,7 +38,6 @@ use Rattle.served.specs.declared.Call.the-variants.{Moves}
 use Rattle.served.specs.declared.Transfer.the-variants.{WriteSequential, WriteRandom, WriteZeroFill}
 use Rattle.bdos.specs.Step.{carries, does}
 use Rattle.demands.specs.Order.{testsOf}
-use Rattle.demands.specs.Demand1.{answer}
 use Rattle.demands.specs.Demand2.{Writes, sequential, direct, zero-filling, Present}
 use Rattle.demands.proofs.Demand2Apart.{Apart, apart-after}
 use Rattle.demands.proofs.Demand2Others.{is-present, Stays, bytes-after, others-stay}

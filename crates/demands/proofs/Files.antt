@@ -11,12 +11,11 @@ use Rattle.lists.specs.Bytes.{byte}
 use Rattle.lists.proofs.BoolLaws.{and-parts}
 use Rattle.volume.specs.Name.{nameOf, same, like}
 use Rattle.geometry.specs.declared.Geometry.{Geometry}
-use Rattle.geometry.specs.Geometry.{slots}
+use Rattle.geometry.specs.Geometry.{slots, places}
 use Rattle.volume.specs.Entry.{Entry, blockIn, ofFile, matches}
-use Rattle.geometry.specs.Geometry.{places}
 use Rattle.volume.specs.Directory.{slotAt}
 use Rattle.volume.proofs.NameLaws.{same-refl, same-true}
-use Rattle.entries.proofs.InsideLaws.{inside-is}
+use Rattle.geometry.proofs.InsideLaws.{inside-is}
 use Rattle.demands.proofs.Orderly.{Live, Orderly}
 
 pub record IsOf (u : ℕ) (name : List ℕ) (e : Entry) : Type 0 where

@@ -11,9 +11,8 @@ use Rattle.lists.proofs.BoolLaws.{and-left, and-right, and-parts}
 use Rattle.lists.proofs.SearchLaws.{low-ext}
 use Rattle.geometry.specs.declared.Geometry.{Geometry}
 use Rattle.volume.specs.declared.Wanted.the-variants.{Group}
-use Rattle.geometry.specs.Geometry.{lawful, slots, groupOf, placeOf}
+use Rattle.geometry.specs.Geometry.{lawful, slots, groupOf, placeOf, places}
 use Rattle.volume.specs.Entry.{Entry, blockIn, countOf, ofFile, ofGroup}
-use Rattle.geometry.specs.Geometry.{places}
 use Rattle.volume.specs.Directory.{slotAt, findSlot, slotFits}
 use Rattle.volume.specs.Record.{recordSlot, recordBlock, recordAt, counted, present}
 use Rattle.volume.proofs.FindLaws.{found-fits}

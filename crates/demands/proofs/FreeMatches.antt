@@ -10,16 +10,15 @@ use lib.ListN.{length}
 use borrow.Author.Tests.{eqb-true, eqb-false}
 use Rattle.lists.specs.Search.{anyFrom, fold}
 use Rattle.geometry.specs.declared.Geometry.{Geometry}
-use Rattle.geometry.specs.Geometry.{lawful, slots, inside}
+use Rattle.geometry.specs.Geometry.{lawful, slots, inside, places}
 use Rattle.volume.specs.Entry.{Entry, blockIn, matches}
-use Rattle.geometry.specs.Geometry.{places}
 use Rattle.volume.specs.Directory.{slotAt}
 use Rattle.geometry.proofs.GeometryLaws.{bounds}
 use Rattle.blocks.specs.Held.{holds, release}
 use Rattle.blocks.proofs.HoldLaws.{length-release, holds-release-same, holds-release-other}
 use Rattle.goodslots.specs.GoodSlot.{inPlaces}
 use Rattle.deleting.specs.Delete.{freePlace, freeEntry, freeSlot, freeMatches}
-use Rattle.entries.proofs.InsideLaws.{inside-is}
+use Rattle.geometry.proofs.InsideLaws.{inside-is}
 
 and-yes : (a : Bool) → a ≡ (a && true)
 and-yes true = refl

@@ -9,9 +9,8 @@ use native.Mathlib.Decide.{ℕ-discrete}
 use lib.Dec.{eqb}
 use Rattle.lists.proofs.BoolLaws.{and-right}
 use Rattle.geometry.specs.declared.Geometry.{Geometry}
-use Rattle.geometry.specs.Geometry.{lawful, slots, inside}
+use Rattle.geometry.specs.Geometry.{lawful, slots, inside, places}
 use Rattle.volume.specs.Entry.{isEmpty, blockIn}
-use Rattle.geometry.specs.Geometry.{places}
 use Rattle.volume.specs.Directory.{slotAt}
 use Rattle.geometry.proofs.GeometryLaws.{bounds}
 use Rattle.goodslots.specs.GoodSlot.{namedBelow, goodSlot, lowestBad}
@@ -20,7 +19,7 @@ use Rattle.goodslots.proofs.GoodLaws.{Good, is-good, fields-good, good-fields}
 use Rattle.goodslots.proofs.TwinLaws.{twin, twin-true, twins}
 use Rattle.goodslots.proofs.AcceptedLaws.{accepts, good-entry, one-place, one-entry}
 use Rattle.goodslots.proofs.NamedLaws.{named-at, at-named, holds-held, words-held}
-use Rattle.entries.proofs.InsideLaws.{is-inside}
+use Rattle.geometry.proofs.InsideLaws.{is-inside}
 use Rattle.demands.proofs.Orderly.{Live, InOrder, Orderly, HeldBy, Held}
 
 module _ (g : Geometry) (v : List ℕ) where

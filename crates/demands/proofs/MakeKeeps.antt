@@ -11,10 +11,9 @@ use lib.ListN.{length}
 use borrow.Author.Tests.{not-false, eqb-true, ltb-false, leb-false}
 use Rattle.geometry.specs.declared.Geometry.{Geometry}
 use Rattle.volume.specs.declared.Wanted.the-variants.{Empty, File}
-use Rattle.geometry.specs.Geometry.{bytes, slots}
+use Rattle.geometry.specs.Geometry.{bytes, slots, places}
 use Rattle.volume.specs.Name.{nameOf, goodName, same}
 use Rattle.volume.specs.Entry.{Entry, isEmpty, blockIn, ofFile}
-use Rattle.geometry.specs.Geometry.{places}
 use Rattle.volume.specs.Directory.{slotAt, putSlot, findSlot}
 use Rattle.volume.specs.Record.{recordAt}
 use Rattle.volume.proofs.FindLaws.{found-fits, not-found}

@@ -10,10 +10,9 @@ use Prim.Native.Nat.{ℕ, _≤_, _<_}
 use native.Mathlib.Decide.{ℕ-discrete}
 use lib.ListN.{length}
 use Rattle.geometry.specs.declared.Geometry.{Geometry}
-use Rattle.geometry.specs.Geometry.{slots, inside}
+use Rattle.geometry.specs.Geometry.{slots, inside, places}
 use Rattle.volume.specs.Name.{nameOf, goodName}
 use Rattle.volume.specs.Entry.{Entry, isEmpty, blockIn}
-use Rattle.geometry.specs.Geometry.{places}
 use Rattle.blocks.specs.Held.{holds}
 use Rattle.goodslots.specs.GoodSlot.{goodTopBits}
 use Rattle.goodslots.proofs.GoodLaws.{Fields}

@@ -1,13 +1,13 @@
 -- Two parts of a list that don't meet can be replaced in either order.
-use mathlib.Core.Path.{_≡_, sym, ap, _∙_}
-use mathlib.Core.Logic.{_⊎_, inl, inr}
+use mathlib.Core.Path.{_≡_, sym, _∙_}
+use mathlib.Core.Logic.{inl, inr}
 use mathlib.Core.List.{List}
 use Prim.Native.Nat.{ℕ, _+_, _-_, _≤_, _<_}
 use native.Mathlib.Decide.{decLt}
 use native.Mathlib.Omega.{arith}
 use lib.ListN.{length}
 use lib.Seq.{ext-getD}
-use Rattle.lists.specs.Bytes.{byte, part, put}
+use Rattle.lists.specs.Bytes.{byte, put}
 use Rattle.lists.proofs.PartLaws.{length-put, byte-in, byte-out}
 
 -- ---- two parts that don't meet, replaced in either order

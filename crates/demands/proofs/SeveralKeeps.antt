@@ -1,6 +1,6 @@
 -- A call of several records keeps what its single calls keep: state and volume stay consistent, the geometry stays, and a
 -- file that it does not name stays as it is; with none done every file does.
-use mathlib.Core.Path.{_≡_, refl, sym, ap, _∙_}
+use mathlib.Core.Path.{_≡_, refl, ap, _∙_}
 use mathlib.Core.Bool.{Bool, true, false, _&&_}
 use mathlib.Core.List.{List}
 use Prim.Native.Nat.{ℕ, _*_, _≤_}
@@ -10,7 +10,7 @@ use Rattle.geometry.specs.declared.Geometry.{Geometry}
 use Rattle.volume.specs.Name.{nameOf, same}
 use Rattle.answers.specs.Answer.{succeeded}
 use Rattle.filecalls.specs.declared.Drive.{Drive}
-use Rattle.filecalls.specs.Outcome.{Outcome, outcome}
+use Rattle.filecalls.specs.Outcome.{Outcome}
 use Rattle.filecalls.specs.Write.{writeSequentialAct}
 use Rattle.several.specs.Several.{Single, writeOne, onPiece, several}
 use Rattle.several.proofs.SinglesLaws.{Holds, Refuses}

@@ -13,7 +13,6 @@ use Rattle.lists.proofs.PartLaws.{length-part}
 use Rattle.geometry.specs.Geometry.{bytes}
 use Rattle.volume.specs.Name.{nameOf}
 use Rattle.control.specs.Block.{position}
-use Rattle.answers.specs.declared.Refusal.{Refusal}
 use Rattle.answers.specs.declared.Refusal.the-variants.{Absent}
 use Rattle.answers.specs.declared.Answer.{Answer}
 use Rattle.answers.specs.declared.Answer.the-variants.{Refused, Several}
@@ -27,7 +26,7 @@ use Rattle.filecalls.specs.Tests.{closedState, volumeLength, blockLength, buffe
 use Rattle.filecalls.specs.Outcome.{Outcome, unless, outcome}
 use Rattle.filecalls.specs.Read.{sequentialTests, readDone, readSequentialAct}
 use Rattle.filecalls.specs.Write.{directoryTests, writeDone, writeSequentialAct}
-use Rattle.several.specs.Several.{Single, readOne, writeOne, onPiece, singles, several}
+use Rattle.several.specs.Several.{Single, readOne, writeOne, onPiece, several}
 use Rattle.lent.specs.Lent.{severalTests}
 use Rattle.several.proofs.SinglesLaws.{piece-answer, first-refused, first-done, stop-number}
 use Rattle.several.proofs.SeveralLaws.{several-refused, several-passed}

@@ -1,15 +1,10 @@
 -- A run of calls at the door is a run of `step`: by induction over the calls.
-use mathlib.Core.Path.{_≡_, refl, sym, ap, _∙_}
+use mathlib.Core.Path.{_≡_, refl, ap, _∙_}
 use mathlib.Core.List.{List, [], _∷_}
-use Prim.Native.Nat.{ℕ}
-use Rattle.geometry.specs.declared.Geometry.{Geometry}
-use Rattle.filecalls.specs.declared.Drive.{Drive}
-use Rattle.filecalls.specs.declared.Reply.{Reply}
-use Rattle.filecalls.specs.Outcome.{Outcome, left}
+use Rattle.filecalls.specs.Outcome.{Outcome}
 use Rattle.bdos.specs.Step.{step}
-use Rattle.served.specs.Asked.{Asked}
 use Rattle.demands.specs.Run.{Seen, seen, answers, final}
-use Rattle.demands.specs.Tie.{Ran, ended, called, IsStep, Tie}
+use Rattle.demands.specs.Tie.{ended, called, Tie}
 
 pub tie : Tie
 unfolding answers final

@@ -14,10 +14,9 @@ use Rattle.lists.specs.Bytes.{byte}
 use Rattle.lists.proofs.BoolLaws.{and-left, and-right}
 use Rattle.geometry.specs.declared.Geometry.{Geometry}
 use Rattle.volume.specs.declared.Wanted.the-variants.{Empty, File, Group}
-use Rattle.geometry.specs.Geometry.{lawful, bytes, slots, inside, groupOf, placeOf}
+use Rattle.geometry.specs.Geometry.{lawful, bytes, slots, inside, groupOf, placeOf, places}
 use Rattle.volume.specs.Name.{nameOf, same}
 use Rattle.volume.specs.Entry.{Entry, isEmpty, extent, blockIn, ofFile, ofGroup}
-use Rattle.geometry.specs.Geometry.{places}
 use Rattle.volume.specs.Directory.{slotAt, findSlot}
 use Rattle.volume.specs.Record.{recordSlot, recordBlock, recordAt}
 use Rattle.volume.proofs.FindLaws.{found-fits, not-found}
@@ -34,7 +33,7 @@ use Rattle.deciding.specs.WritePlan.{entryAfter, volumeAfter, heldAfter}
 use Rattle.entries.proofs.AllocLaws.{alloc-given}
 use Rattle.entries.proofs.GrowLaws.{written-block, written-other}
 use Rattle.deciding.proofs.WriteLaws.{length-base, write-passed}
-use Rattle.entries.proofs.InsideLaws.{is-inside}
+use Rattle.geometry.proofs.InsideLaws.{is-inside}
 use Rattle.writing.proofs.AfterLaws.{after-file, after-group, after-size, after-slot, after-slot-other, after-record-other}
 use Rattle.demands.proofs.Orderly.{Live, InOrder, Orderly, Laid, Fresh, Held, InMap, HeldAnew, sound-laid, held-laid}
 use Rattle.demands.proofs.Frame.{Touch, unchanged, foreign, Apart}

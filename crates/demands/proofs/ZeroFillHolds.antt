@@ -10,7 +10,7 @@ use lib.ListN.{length, replicate}
 use Rattle.lists.specs.Bytes.{byte}
 use Rattle.geometry.specs.declared.Geometry.{Geometry}
 use Rattle.volume.specs.declared.Wanted.the-variants.{Group}
-use Rattle.geometry.specs.Geometry.{lawful, bytes, records, placeOf}
+use Rattle.geometry.specs.Geometry.{bytes, records}
 use Rattle.volume.specs.Name.{nameOf}
 use Rattle.volume.specs.Entry.{Entry, blockIn}
 use Rattle.volume.specs.Directory.{slotAt, findSlot}
@@ -21,20 +21,18 @@ use Rattle.answers.specs.declared.Answer.the-variants.{Done, Refused}
 use Rattle.answers.specs.Refusal.{Test, isNone, firstMet}
 use Rattle.answers.specs.Answer.{succeeded}
 use Rattle.reading.specs.Read.{readBlock, readBytes}
-use Rattle.deciding.specs.Write.{needsBlock, writeBlock, writeSlot, writeTests}
+use Rattle.deciding.specs.Write.{writeSlot}
 use Rattle.deciding.specs.WritePlan.{entryAfter, volumeAfter, heldAfter}
 use Rattle.writing.proofs.AfterLaws.{after-size, after-byte, after-block, after-slot, after-recordSlot, after-record-within}
 use Rattle.filecalls.specs.declared.Drive.{Drive}
-use Rattle.filecalls.specs.Outcome.{Outcome, outcome, unless, withHeld}
+use Rattle.filecalls.specs.Outcome.{Outcome, outcome, withHeld}
 use Rattle.filecalls.specs.Read.{randomTests}
 use Rattle.filecalls.specs.Write.{directoryTests, writeDone, writeDirectAct, writeRandomAct, writeZeroFillAct}
 use Rattle.filecalls.proofs.OutcomeLaws as laws
 use Rattle.filecalls.proofs.WriteLaws.{leaves}
 use Rattle.bdos.specs.Step.{carries, does, step}
-use Rattle.served.specs.Asked.{asked}
 use Rattle.served.specs.Calls.{callOf}
-use Rattle.demands.specs.Demand2.{Present}
-use Rattle.demands.specs.ZeroFill.{by34, by40, gives, blockOf, ZeroFill}
+use Rattle.demands.specs.ZeroFill.{gives, blockOf, ZeroFill}
 use Rattle.demands.proofs.Demand2Writes.{Clear, clear-random}
 
 -- two records of one block that have one place in it are one record

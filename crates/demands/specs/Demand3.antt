@@ -18,10 +18,9 @@ use lib.Dec.{eqb}
 use lib.ListN.{length}
 use Rattle.lists.specs.Bytes.{byte}
 use Rattle.geometry.specs.declared.Geometry.{Geometry}
-use Rattle.geometry.specs.Geometry.{lawful, bytes, slots}
+use Rattle.geometry.specs.Geometry.{lawful, bytes, slots, places}
 use Rattle.volume.specs.Name.{nameOf, same, like}
 use Rattle.volume.specs.Entry.{isEmpty, blockIn}
-use Rattle.geometry.specs.Geometry.{places}
 use Rattle.volume.specs.Directory.{slotAt}
 use Rattle.volume.specs.Record.{present}
 use Rattle.control.specs.Block.{newName}

@@ -11,11 +11,10 @@ use lib.ListN.{replicate, set}
 use Rattle.lists.specs.Search.{lowFrom, anyFrom, everyFrom, countFrom, fold}
 use Rattle.lists.specs.Bytes.{byte, part, put, all}
 use Rattle.geometry.specs.declared.Geometry.{Geometry}
-use Rattle.geometry.specs.Geometry.{lawful, start, slotStart, groupOf, inside}
+use Rattle.geometry.specs.Geometry.{lawful, start, slotStart, groupOf, inside, places}
 use Rattle.volume.specs.Name.{strip, nameAt, same, goodName}
 use Rattle.typing.specs.Typing.{typeableByte, blankBefore, typeable}
 use Rattle.volume.specs.Entry.{Entry, blockIn, ofFile, ofGroup}
-use Rattle.geometry.specs.Geometry.{places}
 use Rattle.volume.specs.Directory.{slotAt, putSlot, findSlot, mapSlot}
 use Rattle.blocks.specs.Held.{digit, holds, wordOf, wordsOf, freeCount}
 use Rattle.answers.specs.declared.Answer.the-variants.{Done, Ready}

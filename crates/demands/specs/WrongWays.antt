@@ -10,11 +10,10 @@ use lib.ListN.{replicate, set}
 use Rattle.lists.specs.Search.{lowFrom, anyFrom, everyFrom, countFrom, fold, every}
 use Rattle.lists.specs.Bytes.{byte, part, put, all}
 use Rattle.geometry.specs.declared.Geometry.{Geometry}
-use Rattle.geometry.specs.Geometry.{lawful, start, slots, slotStart, recordStart, groupOf, placeOf, inside}
+use Rattle.geometry.specs.Geometry.{lawful, start, slots, slotStart, recordStart, groupOf, placeOf, inside, places}
 use Rattle.volume.specs.Name.{strip, nameAt, nameOf, same, like, goodName}
 use Rattle.typing.specs.Typing.{typeableByte, blankBefore, typeable}
 use Rattle.volume.specs.Entry.{isEmpty, blockIn, withBlock, countOf, ofFile, ofGroup, matches}
-use Rattle.geometry.specs.Geometry.{places}
 use Rattle.volume.specs.Directory.{slotAt, putSlot, findSlot, mapSlot}
 use Rattle.volume.specs.Record.{recordSlot, counted, present, recordAt, putRecord, fillRecord, putFilled}
 use Rattle.blocks.specs.Held.{digit, holds, hold, release, wordOf, wordsOf, lowestFree, freeCount}

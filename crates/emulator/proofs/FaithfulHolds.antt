@@ -26,7 +26,6 @@ use Rattle.goodslots.proofs.NamedLaws.{words-held}
 use Rattle.filecalls.specs.declared.Drive.{Drive}
 use Rattle.filecalls.specs.declared.Reply.{Reply}
 use Rattle.filecalls.specs.State.{isOpen, closed, loggedIn}
-use Rattle.filecalls.specs.Outcome.{Act, deny, done, Outcome, outcome}
 use Rattle.filecalls.specs.LogIn.{logInTests, refusedLogIn, logIn}
 use Rattle.filecalls.proofs.OutcomeLaws.{sameAll, outcome-refused}
 use Rattle.several.specs.Several.{readOne, writeOne}

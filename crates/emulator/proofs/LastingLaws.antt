@@ -11,10 +11,9 @@ use Rattle.lists.specs.Search.{fold}
 use Rattle.lists.specs.Bytes.{byte, part}
 use Rattle.lists.proofs.PartLaws.{part-part, byte-part}
 use Rattle.geometry.specs.declared.Geometry.{Geometry}
-use Rattle.geometry.specs.Geometry.{lawful, slots, inside}
+use Rattle.geometry.specs.Geometry.{lawful, slots, inside, places}
 use Rattle.volume.specs.Name.{nameAt, nameOf, goodName}
 use Rattle.volume.specs.Entry.{Entry, blockIn, matches}
-use Rattle.geometry.specs.Geometry.{places}
 use Rattle.volume.specs.Directory.{slotAt}
 use Rattle.geometry.proofs.GeometryLaws.{bounds}
 use Rattle.answers.specs.declared.Refusal.{Refusal}
@@ -25,8 +24,8 @@ use Rattle.finding.specs.Search.{patternOf}
 use Rattle.filecalls.specs.declared.Search.{Search}
 use Rattle.filecalls.specs.declared.Drive.{Drive}
 use Rattle.filecalls.specs.State.{goodPattern, goodKept, isOpen}
-use Rattle.filecalls.specs.Outcome.{withHeld, withUser, withProtection, withSearch, Change, keeps, Store, Act, deny, done, unless, changedState, outcome}
-use Rattle.filecalls.specs.Search.{hit, isKept}
+use Rattle.filecalls.specs.Outcome.{withHeld, withUser, withProtection, withSearch, Change, Store, Act, deny, done, unless, changedState, outcome}
+use Rattle.filecalls.specs.Search.{isKept}
 use Rattle.filecalls.proofs.StateLaws.{is-open}
 use Rattle.drivebytes.specs.RoundTrip.{Carried}
 

@@ -19,7 +19,7 @@ use Rattle.served.specs.Asked.{asked}
 use Rattle.drivebytes.specs.Layout.{decoded, encoded, encodedIn}
 use Rattle.drivebytes.proofs.LoadLaws.{drive-whole}
 use Rattle.drivebytes.proofs.RoundTripHolds.{open-drive}
-use Rattle.emulator.specs.Seam.{answered, sealed, through, atSeam, logInAtSeam}
+use Rattle.emulator.specs.Seam.{answered, sealed, atSeam, logInAtSeam}
 use Rattle.emulator.proofs.ValueLaws.{step-value}
 
 -- 64 bytes take the whole encoding

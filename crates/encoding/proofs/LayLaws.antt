@@ -7,7 +7,7 @@ use Prim.Native.Nat.{ℕ, _+_, _≤_}
 use native.Mathlib.Omega.{arith}
 use lib.ListN.{length, take, drop, set}
 use lib.Seq.{length-take-le, take-append-add, take-at, take-all}
-use Rattle.lists.specs.Bytes.{part, put}
+use Rattle.lists.specs.Bytes.{put}
 use Rattle.lists.proofs.PartLaws.{length-put}
 use Rattle.geometry.specs.declared.Geometry.{Geometry}
 use Rattle.finding.specs.declared.Kept.{Kept}

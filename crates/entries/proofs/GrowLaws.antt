@@ -13,8 +13,7 @@ use borrow.Author.Tests.{lt-ltb, le-ltb, ltb-true, ltb-false, eqb-true, eqb-fals
 use Rattle.lists.proofs.PartLaws.{length-part}
 use Rattle.lists.specs.Bytes.{byte, part, put}
 use Rattle.volume.specs.Entry.{Entry, extent, blockIn, withBlock, countOf}
-use Rattle.geometry.specs.Geometry.{places}
-use Rattle.geometry.specs.Geometry.{lawful, placeOf}
+use Rattle.geometry.specs.Geometry.{places, lawful, placeOf}
 use Rattle.geometry.specs.declared.Geometry.{Geometry}
 use Rattle.volume.proofs.EntryLaws.{count-below, count-above, count-own}
 use Rattle.geometry.proofs.GeometryLaws.{place-lt}

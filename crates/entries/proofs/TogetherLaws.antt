@@ -16,7 +16,7 @@ use Rattle.blocks.proofs.FreeLaws.{lowest-free-is}
 use Rattle.blocks.specs.Held.{lowestFree}
 use Rattle.entries.specs.Alloc.{nearestBelow, alloc}
 use Rattle.entries.proofs.AllocLaws.{above, lowest, alloc-above, alloc-lowest}
-use Rattle.entries.proofs.InsideLaws.{inside-is, is-inside}
+use Rattle.geometry.proofs.InsideLaws.{inside-is, is-inside}
 
 -- ---- one place further down
 module _ (g : Geometry) (e : Entry) where

@@ -25,9 +25,8 @@ use Rattle.filecalls.specs.Ready.{Lent}
 use Rattle.filecalls.specs.Lent.{lentTests, firstLent}
 use Rattle.filecalls.specs.Search.{isKept, keptAt, shown}
 use Rattle.filecalls.proofs.OutcomeLaws.{clears}
-use Rattle.filecalls.proofs.StateLaws.{lent-clear}
+use Rattle.filecalls.proofs.StateLaws.{lent-clear, both-clear}
 use Rattle.filecalls.proofs.LentLaws.{lengths-passed}
-use Rattle.filecalls.proofs.StateLaws.{both-clear}
 
 -- what code knows once `first_why` has not refused
 pub record First (d : Drive) (v f b : List ℕ) : Type 0 where

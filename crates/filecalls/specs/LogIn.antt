@@ -1,7 +1,7 @@
 -- Log-in (functions 13 and 37): "Log-in accepts exactly when all slots are good. It answers 0, the number of free blocks,
 -- and a state with user 0, not protected, no search open. Otherwise it answers 36, the lowest bad slot in the count's
 -- place (0 for other refusals), and the closed state".
-use mathlib.Core.Bool.{Bool, not, cond}
+use mathlib.Core.Bool.{not, cond}
 use mathlib.Core.List.{List, [], _∷_}
 use Prim.Native.Nat.{ℕ}
 use lib.Dec.{ltb, eqb}

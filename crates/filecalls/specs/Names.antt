@@ -1,7 +1,7 @@
 -- The calls on names: delete (19), make (22), rename (23), attributes (30). "Make, and rename for its new name, refuse" a
 -- name that can't be typed, "straight after 39".
-use mathlib.Core.Bool.{Bool, true, false, not}
-use mathlib.Core.List.{List, [], _∷_, _++_}
+use mathlib.Core.Bool.{true, false}
+use mathlib.Core.List.{List, [], _∷_}
 use Prim.Native.Nat.{ℕ, _%_}
 use lib.Dec.{leb, eqb}
 use Rattle.lists.specs.Bytes.{byte, part}

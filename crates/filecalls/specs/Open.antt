@@ -1,5 +1,5 @@
 -- Open (15), close (16) and size (35).
-use mathlib.Core.Bool.{Bool, true, false}
+use mathlib.Core.Bool.{true, false}
 use mathlib.Core.List.{List, [], _∷_}
 use Prim.Native.Nat.{ℕ, _%_}
 use lib.Dec.{leb}
@@ -14,7 +14,7 @@ use Rattle.openclose.specs.Open.{openSlot, closeSlot}
 use Rattle.measuring.specs.Size.{sizeOf}
 use Rattle.filecalls.specs.declared.Drive.{Drive}
 use Rattle.filecalls.specs.Tests.{closedState, volumeLength, blockLength, driveCode, badName, tooLarge}
-use Rattle.filecalls.specs.Outcome.{keeps, Act, done, unless, Outcome, outcome}
+use Rattle.filecalls.specs.Outcome.{keeps, Act, done, unless}
 
 unfoldable pub openTests : Drive → List ℕ → List ℕ → List Test
 openTests d v f =

@@ -1,5 +1,5 @@
 -- The reads: sequential (20) and random (33).
-use mathlib.Core.Bool.{Bool, true, false, not}
+use mathlib.Core.Bool.{false, not}
 use mathlib.Core.List.{List, [], _∷_, _++_}
 use Prim.Native.Nat.{ℕ, _+_, _%_}
 use lib.Dec.{eqb}
@@ -8,9 +8,8 @@ use Rattle.volume.specs.Name.{nameOf}
 use Rattle.volume.specs.Directory.{slotAt}
 use Rattle.volume.specs.Record.{recordSlot}
 use Rattle.control.specs.Block.{position, random, positionFits, setTo}
-use Rattle.answers.specs.declared.Refusal.{Refusal}
 use Rattle.answers.specs.declared.Refusal.the-variants.{NoGroup, Absent}
-use Rattle.answers.specs.Refusal.{Test, test}
+use Rattle.answers.specs.Refusal.{Test}
 use Rattle.reading.specs.Read.{readTests, readBytes}
 use Rattle.filecalls.specs.declared.Drive.{Drive}
 use Rattle.filecalls.specs.Tests.{closedState, volumeLength, blockLength, bufferLength, driveCode, badName, tooLarge, beyond}

@@ -1,6 +1,6 @@
 -- Search first (17) and next (18): "First starts at slot 0 and keeps pattern and user; next, lent no control block, goes
 -- on after the last hit, whichever other calls came between. The transfer buffer gets the 128-byte directory record."
-use mathlib.Core.Bool.{Bool, true, false, not, cond, _&&_, _||_}
+use mathlib.Core.Bool.{Bool, true, false, not, _&&_, _||_}
 use mathlib.Core.List.{List, [], _∷_}
 use Prim.Native.Nat.{ℕ, _+_, _%_}
 use lib.Dec.{leb, ltb, eqb}

@@ -1,8 +1,8 @@
 -- The calls that look at no volume: write protect (28), user (32), set random record (36).
-use mathlib.Core.Bool.{Bool, not, cond, _&&_}
+use mathlib.Core.Bool.{cond, _&&_}
 use mathlib.Core.List.{List, [], _∷_}
 use Prim.Native.Nat.{ℕ}
-use lib.Dec.{leb, ltb, eqb}
+use lib.Dec.{ltb, eqb}
 use Rattle.control.specs.Block.{position, positionFits, withRandom}
 use Rattle.answers.specs.declared.Refusal.the-variants.{UserCode}
 use Rattle.answers.specs.Refusal.{Test, test}

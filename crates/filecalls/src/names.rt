@@ -1,6 +1,6 @@
 // The calls on names: delete (19), make (22), rename (23), attributes (30).
 ghost use mathlib.Core.Path.{_≡_};
-ghost use mathlib.Core.List.{List, []};
+ghost use mathlib.Core.List.{[]};
 ghost use Rattle.filecalls.specs.Outcome.{outcome, left};
 ghost use Rattle.filecalls.specs.Names.{deleteAct, makeAct, renameAct, attributesAct};
 use crate::Drive;

@@ -1,6 +1,6 @@
 // Open (15), close (16) and size (35).
 ghost use mathlib.Core.Path.{_≡_};
-ghost use mathlib.Core.List.{List, []};
+ghost use mathlib.Core.List.{[]};
 ghost use Rattle.filecalls.specs.Outcome.{outcome, left};
 ghost use Rattle.filecalls.specs.Open.{openAct, closeAct, sizeAct};
 use crate::Drive;

@@ -1,6 +1,6 @@
 // The calls that look at no volume: write protect (28), user (32), set random record (36).
 ghost use mathlib.Core.Path.{_≡_};
-ghost use mathlib.Core.List.{List, []};
+ghost use mathlib.Core.List.{[]};
 ghost use Rattle.answers.specs.Refusal.{firstMet};
 ghost use Rattle.filecalls.specs.Outcome.{outcome, left};
 ghost use Rattle.filecalls.specs.Small.{setRandomTests, protectAct, userAct, setRandomAct};

@@ -1,7 +1,6 @@
 // The state: whether it counts as closed, the closed value, and the replies that leave it as it is.
 ghost use mathlib.Core.Path.{_≡_};
-ghost use mathlib.Core.Bool.{Bool, true, false, cond};
-ghost use Prim.Native.Nat.{ℕ};
+ghost use mathlib.Core.Bool.{true, false, cond};
 ghost use lib.ListN.{length};
 ghost use Rattle.answers.specs.Refusal.{isNone};
 ghost use Rattle.answers.specs.declared.Answer.the-variants.{Done, Refused};

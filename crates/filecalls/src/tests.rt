@@ -1,8 +1,6 @@
 // The tests that look at the state and at what is lent, in the paper's order.
 ghost use mathlib.Core.Path.{_≡_};
-ghost use mathlib.Core.Bool.{Bool, true, false};
-ghost use Prim.Native.Nat.{ℕ};
-ghost use lib.ListN.{length};
+ghost use mathlib.Core.Bool.{false};
 ghost use Rattle.answers.specs.Refusal.{firstMet};
 ghost use Rattle.filecalls.specs.Lent.{lentTests, namedTests, sequentialLent, randomLent};
 use crate::Drive;

@@ -1,6 +1,6 @@
 -- Search: "slots matched as in open, ex 3FH matching any group. With dr 3FH every slot matches, empty ones too, of any
 -- user, and name and ex are not examined."
-use mathlib.Core.Bool.{Bool, cond}
+use mathlib.Core.Bool.{cond}
 use mathlib.Core.List.{List}
 use Prim.Native.Nat.{ℕ, _-_}
 use lib.Dec.{eqb}

@@ -1,7 +1,7 @@
 -- What a lawful geometry's sizes are, and where its records and slots lie: inside the volume, and apart from each other.
 -- Only `start-in` and `start-apart` know how records lie. Of two things apart the first lies before the second, or behind it.
 use mathlib.Core.Path.{_≡_, refl, sym, ap, _∙_}
-use mathlib.Core.Bool.{Bool, true, false, _&&_, _||_, false≢true}
+use mathlib.Core.Bool.{Bool, true, false, _||_}
 use mathlib.Core.Logic.{_⊎_, inl, inr, ⊎-elim, _≢_}
 use Prim.Native.Nat.{ℕ, suc, _+_, _*_, _/_, _%_, _≤_, _<_}
 use native.Mathlib.Decide.{ℕ-discrete}
@@ -12,8 +12,7 @@ use lib.Dec.{ltb}
 use borrow.Author.Tests.{leb-true, ltb-true, ltb-false, eqb-true}
 use Rattle.lists.proofs.BoolLaws.{and-parts}
 use Rattle.geometry.specs.declared.Geometry.{Geometry}
-use Rattle.geometry.specs.Geometry.{lawful, bytes, records, extents, start, slots, slotStart, recordStart, groupOf, placeOf}
-use Rattle.geometry.specs.Geometry.{places}
+use Rattle.geometry.specs.Geometry.{lawful, bytes, records, extents, start, slots, slotStart, recordStart, groupOf, placeOf, places}
 
 -- ---- the sizes
 pub record Bounds (g : Geometry) : Type 0 where

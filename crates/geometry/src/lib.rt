@@ -1,7 +1,7 @@
 // The geometry of a volume: its sizes, and where its records and slots lie.
 ghost use mathlib.Core.Path.{_≡_};
-ghost use mathlib.Core.Bool.{Bool, true, false};
-ghost use Prim.Native.Nat.{ℕ, _+_, _*_, _/_, _%_, _≤_, _<_};
+ghost use mathlib.Core.Bool.{true};
+ghost use Prim.Native.Nat.{_+_, _*_, _/_, _%_, _≤_, _<_};
 ghost use Rattle.geometry.specs.Geometry.{lawful, bytes, records, extents, start, slots, slotStart, recordStart, groupOf, places, placeOf, inside};
 ghost use Rattle.geometry.specs.Shift.{bsh, blm};
 

@@ -10,9 +10,8 @@ use native.Mathlib.Omega.{arith}
 use borrow.Author.Tests.{not-true, not-false}
 use Rattle.lists.proofs.SearchLaws.{low-le, low-hit, low-miss, low-no}
 use Rattle.geometry.specs.declared.Geometry.{Geometry}
-use Rattle.geometry.specs.Geometry.{slots, inside}
+use Rattle.geometry.specs.Geometry.{slots, inside, places}
 use Rattle.volume.specs.Entry.{isEmpty, blockIn}
-use Rattle.geometry.specs.Geometry.{places}
 use Rattle.volume.specs.Directory.{slotAt}
 use Rattle.goodslots.specs.GoodSlot.{goodSlot, lowestBad}
 use Rattle.goodslots.specs.Named.{named}

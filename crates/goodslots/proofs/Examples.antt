@@ -6,10 +6,9 @@ use lib.ListN.{replicate, length}
 use Rattle.lists.specs.Search.{lowFrom, anyFrom, everyFrom}
 use Rattle.lists.specs.Bytes.{part, all}
 use Rattle.geometry.specs.declared.Geometry.{Geometry}
-use Rattle.geometry.specs.Geometry.{start, slotStart, groupOf, inside}
+use Rattle.geometry.specs.Geometry.{start, slotStart, groupOf, inside, places}
 use Rattle.volume.specs.Name.{strip, nameAt, same, goodName}
 use Rattle.volume.specs.Entry.{Entry, blockIn, ofFile, ofGroup}
-use Rattle.geometry.specs.Geometry.{places}
 use Rattle.volume.specs.Directory.{slotAt}
 use Rattle.blocks.specs.Held.{wordOf, wordsOf, noneHeld}
 use Rattle.goodslots.specs.GoodSlot.{goodFields, goodTopBits, inPlaces, names, namedBelow, goodPlace, seenBelow, goodSlot, lowestBad}

@@ -1,6 +1,6 @@
 -- What a good slot is, as facts, and back: what theorems on inspection use in the place of `goodSlot`.
 use mathlib.Core.Path.{_≡_, refl, sym, _∙_}
-use mathlib.Core.Bool.{Bool, true, false, not, _&&_, _||_, or-false, or-true, false≢true}
+use mathlib.Core.Bool.{Bool, true, false, not, _&&_, _||_, or-false, or-true}
 use mathlib.Core.Logic.{_⊎_, inl, inr, ⊎-elim, _≢_}
 use mathlib.Core.List.{List}
 use Prim.Native.Nat.{ℕ, _+_, _≤_, _<_}
@@ -13,10 +13,9 @@ use Rattle.lists.specs.Search.{every}
 use Rattle.lists.specs.Bytes.{byte}
 use Rattle.lists.proofs.SearchLaws.{any-false, any-none, every-true, every-intro}
 use Rattle.geometry.specs.declared.Geometry.{Geometry}
-use Rattle.geometry.specs.Geometry.{groupOf, inside}
+use Rattle.geometry.specs.Geometry.{groupOf, inside, places}
 use Rattle.volume.specs.Name.{nameOf, goodName}
 use Rattle.volume.specs.Entry.{Entry, isEmpty, extent, blockIn, ofGroup}
-use Rattle.geometry.specs.Geometry.{places}
 use Rattle.volume.specs.Directory.{slotAt}
 use Rattle.goodslots.specs.GoodSlot.{goodFields, goodTopBits, inPlaces, names, namedBelow, goodPlace, seenBelow, goodSlot}
 

@@ -1,6 +1,4 @@
--- What code rests on: "any".
 -- What theorems cite: good slots, twins, accepted directories, the blocks that entries name, volumes with the same entries.
-pub mod AnyLaws
 pub mod GoodLaws
 pub mod TwinLaws
 pub mod AcceptedLaws

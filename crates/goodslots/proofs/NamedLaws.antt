@@ -1,6 +1,6 @@
 -- The blocks that entries name, and the words that hold them: "the held blocks, which log-in alone works out".
-use mathlib.Core.Path.{_≡_, _∙_}
-use mathlib.Core.Bool.{Bool, true, false, not}
+use mathlib.Core.Path.{_≡_}
+use mathlib.Core.Bool.{true, false, not}
 use mathlib.Core.Logic.{_≢_}
 use mathlib.Core.List.{List}
 use Prim.Native.Nat.{ℕ, _<_}
@@ -10,12 +10,11 @@ use lib.Dec.{eqb}
 use Rattle.lists.proofs.BoolLaws.{and-parts}
 use Rattle.lists.proofs.SearchLaws.{any-true, any-intro}
 use Rattle.geometry.specs.declared.Geometry.{Geometry}
-use Rattle.geometry.specs.Geometry.{slots, inside}
+use Rattle.geometry.specs.Geometry.{slots, inside, places}
 use Rattle.volume.specs.Entry.{isEmpty, blockIn}
-use Rattle.geometry.specs.Geometry.{places}
 use Rattle.volume.specs.Directory.{slotAt}
-use Rattle.blocks.specs.Held.{holds, wordsOf}
-use Rattle.blocks.proofs.WordsLaws.{Words, holds-words, words-words, words-are}
+use Rattle.blocks.specs.Held.{holds}
+use Rattle.blocks.proofs.WordsLaws.{Words, holds-words, words-words}
 use Rattle.goodslots.specs.GoodSlot.{inPlaces, names, namedBelow}
 use Rattle.goodslots.specs.Named.{named, heldOf}
 use Rattle.goodslots.proofs.GoodLaws.{not-named-below}
@@ -54,9 +53,6 @@ module _ (g : Geometry) (v : List ℕ) (n b : ℕ) where
       any-intro (λ j. names g (slotAt g v j) b) 0 n (a .slot) (omega arith) (omega (arith, a .below)) (rw (a .used, m))
 
 -- ---- the words
-pub words-ext : (p q : ℕ → Bool) → ((b : ℕ) → b < 256 → p b ≡ q b) → wordsOf p ≡ wordsOf q
-words-ext p q same = words-are q (wordsOf p) (words-words p) (λ b h. holds-words p b h ∙ same b h)
-
 module _ (g : Geometry) (v : List ℕ) where
   pub holds-held : (b : ℕ) → b < 256 → holds (heldOf g v) b ≡ named g v b
   unfolding heldOf

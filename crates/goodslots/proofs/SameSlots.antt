@@ -7,14 +7,13 @@ use native.Mathlib.Omega.{arith}
 use Rattle.lists.specs.Bytes.{byte}
 use Rattle.lists.proofs.SearchLaws.{low-ext, any-ext, every-ext}
 use Rattle.geometry.specs.declared.Geometry.{Geometry}
-use Rattle.geometry.specs.Geometry.{slots, groupOf}
+use Rattle.geometry.specs.Geometry.{slots, groupOf, places}
 use Rattle.volume.specs.Name.{nameOf}
 use Rattle.volume.specs.Entry.{Entry, extent, blockIn, ofGroup}
-use Rattle.geometry.specs.Geometry.{places}
 use Rattle.volume.specs.Directory.{slotAt}
 use Rattle.goodslots.specs.GoodSlot.{names, namedBelow, goodPlace, seenBelow, goodSlot, lowestBad}
 use Rattle.goodslots.specs.Named.{named, heldOf}
-use Rattle.goodslots.proofs.NamedLaws.{words-ext}
+use Rattle.blocks.proofs.WordsLaws.{words-ext}
 
 module _ (g : Geometry) (v w : List ℕ) where
   pub named-below-same : (n b : ℕ) → ((j : ℕ) → j < n → slotAt g v j ≡ slotAt g w j) → namedBelow g v n b ≡ namedBelow g w n b

@@ -9,10 +9,9 @@ use lib.Dec.{leb, ltb, eqb}
 use Rattle.lists.specs.Search.{lowest, any, every}
 use Rattle.lists.specs.Bytes.{byte}
 use Rattle.geometry.specs.declared.Geometry.{Geometry}
-use Rattle.geometry.specs.Geometry.{slots, groupOf, inside}
+use Rattle.geometry.specs.Geometry.{slots, groupOf, inside, places}
 use Rattle.volume.specs.Name.{nameOf, goodName}
 use Rattle.volume.specs.Entry.{Entry, isEmpty, extent, blockIn, ofGroup}
-use Rattle.geometry.specs.Geometry.{places}
 use Rattle.volume.specs.Directory.{slotAt}
 
 -- the bytes other than name and map

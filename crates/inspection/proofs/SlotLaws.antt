@@ -9,10 +9,9 @@ use Rattle.lists.specs.Search.{every}
 use Rattle.lists.specs.Bytes.{byte}
 use Rattle.lists.proofs.PartLaws.{byte-part}
 use Rattle.geometry.specs.declared.Geometry.{Geometry}
-use Rattle.geometry.specs.Geometry.{slotStart}
+use Rattle.geometry.specs.Geometry.{slotStart, places}
 use Rattle.volume.specs.Name.{nameOf, goodName}
 use Rattle.volume.specs.Entry.{isEmpty}
-use Rattle.geometry.specs.Geometry.{places}
 use Rattle.volume.specs.Directory.{slotAt}
 use Rattle.goodslots.specs.GoodSlot.{goodFields, goodTopBits, goodPlace, seenBelow, goodSlot}
 

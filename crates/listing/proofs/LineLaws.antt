@@ -13,10 +13,9 @@ use Rattle.lists.specs.Bytes.{byte, part}
 use Rattle.lists.proofs.BoolLaws.{and-left}
 use Rattle.blocks.proofs.CountLaws.{count-not}
 use Rattle.geometry.specs.declared.Geometry.{Geometry}
-use Rattle.geometry.specs.Geometry.{slots}
+use Rattle.geometry.specs.Geometry.{slots, places}
 use Rattle.volume.specs.Name.{strip, nameOf, same}
 use Rattle.volume.specs.Entry.{Entry, isEmpty, ofFile}
-use Rattle.geometry.specs.Geometry.{places}
 use Rattle.volume.specs.Directory.{slotAt}
 use Rattle.volume.proofs.NameLaws.{length-strip}
 use Rattle.goodslots.specs.GoodSlot.{goodSlot}

@@ -8,10 +8,9 @@ use Rattle.lists.specs.Search.{countFrom, fold}
 use Rattle.lists.specs.Bytes.{byte, part}
 use Rattle.geometry.specs.declared.Geometry.{Geometry}
 use Rattle.volume.specs.declared.Wanted.the-variants.{File}
-use Rattle.geometry.specs.Geometry.{slots}
+use Rattle.geometry.specs.Geometry.{slots, places}
 use Rattle.volume.specs.Name.{strip, nameOf}
 use Rattle.volume.specs.Entry.{Entry, isEmpty, blockIn, ofFile}
-use Rattle.geometry.specs.Geometry.{places}
 use Rattle.volume.specs.Directory.{slotAt, findSlot}
 use Rattle.text.specs.Decimal.{decimal}
 use Rattle.answers.specs.declared.Answer.{Answer}

@@ -1,5 +1,5 @@
 -- The held blocks as inspection goes on: how one place more and one slot more change them, and what they tell of a place.
-use mathlib.Core.Path.{_≡_, refl, sym, ap, _∙_}
+use mathlib.Core.Path.{_≡_, refl, sym, _∙_}
 use mathlib.Core.Bool.{Bool, true, false, not, _&&_, _||_, and-false, or-false, or-true, true≢false}
 use mathlib.Core.List.{List}
 use Prim.Native.Nat.{ℕ, _+_, _<_}
@@ -9,29 +9,16 @@ use borrow.Author.Tests.{eq-eqb, ne-eqb, lt-leb}
 use lib.Dec.{eqb}
 use Rattle.lists.specs.Search.{anyFrom}
 use Rattle.geometry.specs.declared.Geometry.{Geometry}
-use Rattle.geometry.specs.Geometry.{lawful, slots, inside}
+use Rattle.geometry.specs.Geometry.{lawful, slots, inside, places}
 use Rattle.volume.specs.Entry.{Entry, isEmpty, blockIn}
-use Rattle.geometry.specs.Geometry.{places}
 use Rattle.volume.specs.Directory.{slotAt}
 use Rattle.geometry.proofs.GeometryLaws.{bounds}
 use Rattle.blocks.specs.Held.{holds, hold, wordsOf, noneHeld}
-use Rattle.blocks.proofs.HoldLaws.{holds-hold-same, holds-hold-other}
-use Rattle.blocks.proofs.WordsLaws.{words-hold, words-words, words-none, holds-none, length-words, holds-words, words-are}
+use Rattle.blocks.proofs.WordsLaws.{hold-words, words-none, holds-none, holds-words, words-are, words-ext}
 use Rattle.goodslots.specs.GoodSlot.{inPlaces, names, namedBelow, goodPlace}
 use Rattle.goodslots.specs.Named.{named, heldOf}
 use Rattle.maps.specs.HeldBelow.{heldBelow, heldUpTo}
-use Rattle.goodslots.proofs.AnyLaws.{any-more}
-use Rattle.goodslots.proofs.NamedLaws.{words-ext}
-
--- ---- the words of a set with one block more
-pub hold-words : (p q : ℕ → Bool) (b : ℕ) → b < 256 → q b ≡ true → ((c : ℕ) → (c ≡ b → ⊥) → p c ≡ q c) → hold (wordsOf p) b ≡ wordsOf q
-hold-words p q b h in-q other = words-are q (hold (wordsOf p) b) (words-hold (wordsOf p) b (words-words p)) each
-  where
-    each : (c : ℕ) → c < 256 → holds (hold (wordsOf p) b) c ≡ q c
-    each c l = elim (ℕ-discrete c b) [
-      | yes e ↦ ap (holds (hold (wordsOf p) b)) e ∙ holds-hold-same (wordsOf p) (length-words p) b h ∙ sym (ap q e ∙ in-q)
-      | no n ↦ holds-hold-other (wordsOf p) (length-words p) b h c n ∙ holds-words p c l ∙ other c n
-    ]
+use Rattle.lists.proofs.AnyLaws.{any-more}
 
 -- ---- one place more
 module _ (g : Geometry) (v : List ℕ) (i k : ℕ) where

@@ -1,7 +1,7 @@
 // Rename and attributes: the tests of the new name and of the directory, and the changes in the file's entries.
 ghost use mathlib.Core.Path.{_≡_};
 ghost use mathlib.Core.Bool.{true, false, not, cond};
-ghost use mathlib.Core.List.{List, [], _∷_};
+ghost use mathlib.Core.List.{[], _∷_};
 ghost use lib.Dec.{leb};
 ghost use lib.ListN.{length};
 ghost use Rattle.volume.specs.declared.Wanted.the-variants.{File};

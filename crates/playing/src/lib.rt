@@ -1,11 +1,10 @@
 // The calls of a script are done one after the other, each with its line in the transcript.
 ghost use mathlib.Core.Path.{_≡_};
-ghost use Prim.Native.Nat.{ℕ, _+_, _≤_};
+ghost use Prim.Native.Nat.{_+_, _≤_};
 ghost use lib.ListN.{length};
-ghost use Rattle.filecalls.specs.State.{closed};
 ghost use Rattle.filecalls.specs.Outcome.{left};
 ghost use Rattle.served.specs.Asked.{asked};
-ghost use Rattle.text.specs.Text.{Text, text, puts};
+ghost use Rattle.text.specs.Text.{text};
 ghost use Rattle.script.specs.declared.Next.the-variants.{Call};
 ghost use Rattle.script.specs.Script.{nextOf, lentBy, usedBy, Within};
 ghost use Rattle.playing.specs.Play.{laid, played, leaves, called, afterwards, afterBy, after};

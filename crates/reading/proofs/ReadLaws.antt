@@ -1,16 +1,15 @@
 -- The plan of a read: what each way through the code finds is the first refusal of the ladder, or where the record lies.
 use mathlib.Core.Path.{_≡_, refl, sym}
-use mathlib.Core.Bool.{Bool, true, false, not, cond, _&&_, false≢true}
+use mathlib.Core.Bool.{Bool, true, false, not, cond}
 use mathlib.Core.List.{List}
 use Prim.Native.Nat.{ℕ, _/_, _≤_, _<_}
 use native.Mathlib.Omega.{arith}
-use lib.Dec.{leb, ltb, eqb}
+use lib.Dec.{leb, ltb}
 use borrow.Author.Tests.{leb-false, ltb-true, not-false, le-leb, lt-leb, lt-ltb}
-use Rattle.lists.proofs.BoolLaws.{and-left, and-right}
+use Rattle.lists.proofs.BoolLaws.{and-right}
 use Rattle.geometry.specs.declared.Geometry.{Geometry}
-use Rattle.volume.specs.declared.Wanted.the-variants.{File, Group}
+use Rattle.volume.specs.declared.Wanted.the-variants.{File}
 use Rattle.geometry.specs.Geometry.{slots, groupOf, inside}
-use Rattle.volume.specs.Entry.{Entry, extent, ofFile, ofGroup}
 use Rattle.volume.specs.Directory.{slotAt, findSlot}
 use Rattle.volume.specs.Record.{recordSlot, recordBlock, counted, present}
 use Rattle.answers.specs.declared.Refusal.{Refusal}

@@ -1,5 +1,5 @@
 -- The reads: the tests that look at the directory, in the paper's order, and what a read leaves.
-use mathlib.Core.Bool.{Bool, not, cond}
+use mathlib.Core.Bool.{not}
 use mathlib.Core.List.{List, [], _∷_}
 use Prim.Native.Nat.{ℕ}
 use lib.Dec.{leb}

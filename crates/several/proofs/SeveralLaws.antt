@@ -10,7 +10,7 @@ use Rattle.answers.specs.Refusal.{isNone, firstMet}
 use Rattle.answers.specs.Answer.{valueOf, succeeded}
 use Rattle.filecalls.specs.declared.Drive.{Drive}
 use Rattle.filecalls.specs.declared.Reply.{Reply}
-use Rattle.filecalls.specs.Outcome.{Outcome, outcome, left}
+use Rattle.filecalls.specs.Outcome.{Outcome, left}
 use Rattle.filecalls.specs.Read.{readSequentialAct}
 use Rattle.filecalls.specs.Write.{writeSequentialAct}
 use Rattle.filecalls.proofs.OutcomeLaws.{sameAll, outcome-refused, refuses, clears}

@@ -1,9 +1,9 @@
 -- Delete, rename and attributes change "all matching entries", "all entries of the file", and leave every other.
-use mathlib.Core.Bool.{Bool, cond}
+use mathlib.Core.Bool.{cond}
 use mathlib.Core.List.{List, [], _∷_, _++_}
-use Prim.Native.Nat.{ℕ, _+_, _*_, _/_, _%_}
+use Prim.Native.Nat.{ℕ, _+_, _%_}
 use lib.ListN.{set, take}
-use Rattle.lists.specs.Bytes.{byte, part, put}
+use Rattle.lists.specs.Bytes.{byte, put}
 use Rattle.volume.specs.Name.{strip, topBit}
 use Rattle.volume.specs.Entry.{Entry, ofFile, matches}
 use Rattle.sweeping.specs.declared.Edit.{Edit}

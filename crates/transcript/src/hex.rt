@@ -1,7 +1,7 @@
 // Bytes in hex, appended to a lent buffer.
 ghost use mathlib.Core.Path.{_≡_};
-ghost use Prim.Native.Nat.{ℕ, _<_};
-ghost use Rattle.text.specs.Text.{Text, text, puts};
+ghost use Prim.Native.Nat.{_<_};
+ghost use Rattle.text.specs.Text.{text, puts};
 ghost use Rattle.transcript.specs.Hex.{hexDigit, hex};
 
 // One digit, in capitals.

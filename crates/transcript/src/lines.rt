@@ -1,6 +1,6 @@
 // The lines of a transcript, appended to a lent buffer.
 ghost use mathlib.Core.Path.{_≡_};
-ghost use Rattle.text.specs.Text.{Text, text, puts};
+ghost use Rattle.text.specs.Text.{text, puts};
 ghost use mathlib.Core.List.{_++_};
 ghost use Rattle.text.specs.Decimal.{decimal};
 ghost use Rattle.answers.specs.Answer.{numberOf, valueOf};

@@ -1,9 +1,8 @@
 // The records that a run has changed, appended to a lent buffer.
 ghost use mathlib.Core.Path.{_≡_};
-ghost use Prim.Native.Nat.{ℕ, _+_, _-_, _*_, _≤_, min};
-ghost use lib.ListN.{length};
+ghost use Prim.Native.Nat.{_+_, _-_, _*_, min};
 ghost use mathlib.Core.List.{_++_};
-ghost use Rattle.text.specs.Text.{Text, text, puts};
+ghost use Rattle.text.specs.Text.{text, puts};
 ghost use Rattle.text.specs.Decimal.{decimal};
 ghost use Rattle.volume.specs.Name.{same};
 ghost use Rattle.transcript.specs.Hex.{hex};

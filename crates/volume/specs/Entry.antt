@@ -2,7 +2,7 @@
 -- 16..31 sixteen block numbers, 0 for none". It is its 32 bytes; bytes that a call doesn't name stay.
 use mathlib.Core.Bool.{Bool, cond, _&&_}
 use mathlib.Core.List.{List}
-use Prim.Native.Nat.{ℕ, _+_, _*_, _/_, _%_, min, max}
+use Prim.Native.Nat.{ℕ, _+_, _*_, min}
 use lib.Dec.{leb, ltb, eqb}
 use lib.ListN.{set}
 use Rattle.lists.specs.Bytes.{byte}

@@ -1,14 +1,13 @@
 // An entry: its 32 bytes, lent as a part of the volume.
 ghost use mathlib.Core.Path.{_≡_};
-ghost use mathlib.Core.Bool.{Bool, true, false, _&&_};
-ghost use Prim.Native.Nat.{ℕ, _+_, _*_, _/_, _%_, _≤_, _<_};
+ghost use mathlib.Core.Bool.{true, false, _&&_};
+ghost use Prim.Native.Nat.{_+_, _*_, _≤_, _<_};
 ghost use lib.ListN.{length};
 ghost use lib.Dec.{eqb};
 ghost use Rattle.lists.specs.Bytes.{byte};
-ghost use Rattle.geometry.specs.Geometry.{lawful, groupOf};
+ghost use Rattle.geometry.specs.Geometry.{lawful, groupOf, places};
 ghost use Rattle.volume.specs.Name.{strip};
 ghost use Rattle.volume.specs.Entry.{extent, blockIn, countOf, ofFile, matches};
-ghost use Rattle.geometry.specs.Geometry.{places};
 ghost use Rattle.volume.specs.Directory.{fits};
 use crate::Wanted;
 use crate::names;

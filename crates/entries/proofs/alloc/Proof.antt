@@ -10,7 +10,7 @@ use Rattle.geometry.proofs.GeometryLaws.{bounds}
 use Rattle.entries.specs.Alloc.{alloc}
 use Rattle.entries.proofs.AllocLaws.{lowest}
 use Rattle.entries.proofs.TogetherLaws.{given-above, none-above, outside-above}
-use Rattle.entries.proofs.InsideLaws.{inside-is}
+use Rattle.geometry.proofs.InsideLaws.{inside-is}
 use Rattle.entries.proofs.alloc.Statement.{statement}
 use Rattle.entries.proofs.alloc.Tie as tie
 

@@ -3,7 +3,6 @@ use mathlib.Core.Path.{_≡_, refl, sym, _∙_}
 use Prim.Native.Nat.{_≤_}
 use native.Mathlib.Omega.{arith}
 use borrow.Author.Needs.{needs}
-use lib.ListN.{length}
 use Rattle.entries.specs.Alloc.{nearestBelow}
 use Rattle.entries.proofs.TogetherLaws.{nearest-used, nearest-passed, nearest-none}
 use Rattle.entries.proofs.nearest_below.Statement.{statement}

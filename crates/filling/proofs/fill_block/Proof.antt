@@ -1,7 +1,6 @@
 -- The records passed are stored, so what is still to be stored gives the whole.
 use mathlib.Core.Path.{_≡_, sym, _∙_}
 use Prim.Native.Nat.{_-_, _≤_}
-use native.Mathlib.Omega.{arith}
 use lib.ListN.{length}
 use borrow.Author.Needs.{needs}
 use Rattle.lists.proofs.FoldLaws.{Folded, folded-start, folded-next, folded-end}

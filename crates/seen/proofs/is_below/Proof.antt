@@ -10,7 +10,7 @@ use Rattle.volume.specs.Name.{strip}
 use Rattle.volume.specs.Entry.{ofGroup}
 use Rattle.volume.specs.Directory.{slotAt}
 use Rattle.volume.proofs.EntryLaws.{lent-slot}
-use Rattle.goodslots.proofs.AnyLaws.{Asked, asked-start, asked-next, asked-hit, asked-none}
+use Rattle.lists.proofs.AnyLaws.{Asked, asked-start, asked-next, asked-hit, asked-none}
 use Rattle.seen.proofs.is_below.Statement.{statement}
 use Rattle.seen.proofs.is_below.Tie as tie
 

@@ -14,13 +14,11 @@ use Rattle.volume.specs.declared.Wanted.the-variants.{Empty}
 use Rattle.lists.specs.Bytes.{byte, part}
 use lib.Dec.{eqb}
 use Prim.Native.Nat.{_%_}
-use mathlib.Core.Bool.{false, not}
+use mathlib.Core.Bool.{false}
 use Rattle.filecalls.proofs.OutcomeLaws.{either}
 use Rattle.filecalls.proofs.StateLaws.{Named, named}
 use Rattle.volume.specs.Name.{nameAt, nameOf}
-use Rattle.typing.specs.Typing.{typeable}
 use denote.Ref.{now}
-use native.Mathlib.Omega.{arith}
 use mathlib.Core.List.{[], _∷_}
 use mathlib.Core.Path.{_≡_, refl, ap, _∙_}
 use borrow.Author.Needs.{needs}

@@ -1,5 +1,5 @@
 -- The tests of what is lent refuse, or leave the records to the single reads.
-use mathlib.Core.Path.{_≡_, sym, _∙_}
+use mathlib.Core.Path.{sym, _∙_}
 use denote.Ref.{now}
 use Rattle.several.specs.Several.{readOne}
 use Rattle.lent.proofs.LentLaws.{lent}
