@@ -1,14 +1,14 @@
 -- One door: the function's number, its parameter and what is lent decide the call; `step` is all that it leaves.
 use mathlib.Core.List.{List, []}
 use Prim.Native.Nat.{ℕ}
-use Rattle.geometry.specs.declared.Geometry.{Geometry}
-use Rattle.answers.specs.declared.Refusal.the-variants.{NotServed}
-use Rattle.served.specs.declared.Call.{Call}
-use Rattle.served.specs.declared.Call.the-variants.{LogIn, Open, Close, SearchFirst, SearchNext, Delete, Make, Rename, Protect, Attributes, User, Size, SetRandom, Moves, Unserved}
-use Rattle.served.specs.declared.Transfer.{Transfer}
-use Rattle.served.specs.declared.Transfer.the-variants.{ReadSequential, WriteSequential, ReadRandom, WriteRandom, WriteZeroFill, ReadSeveral, WriteSeveral}
-use Rattle.served.specs.Calls.{callOf}
-use Rattle.served.specs.Asked.{Asked}
+use Rattle.disk_geometry.specs.declared.Geometry.{Geometry}
+use Rattle.call_answers.specs.declared.Refusal.the-variants.{NotServed}
+use Rattle.call_served.specs.declared.Call.{Call}
+use Rattle.call_served.specs.declared.Call.the-variants.{LogIn, Open, Close, SearchFirst, SearchNext, Delete, Make, Rename, Protect, Attributes, User, Size, SetRandom, Moves, Unserved}
+use Rattle.call_served.specs.declared.Transfer.{Transfer}
+use Rattle.call_served.specs.declared.Transfer.the-variants.{ReadSequential, WriteSequential, ReadRandom, WriteRandom, WriteZeroFill, ReadSeveral, WriteSeveral}
+use Rattle.call_served.specs.Calls.{callOf}
+use Rattle.call_served.specs.Asked.{Asked}
 use Rattle.filecalls.specs.declared.Drive.{Drive}
 use Rattle.filecalls.specs.Outcome.{deny, Outcome, outcome, left}
 use Rattle.filecalls.specs.LogIn.{logIn}

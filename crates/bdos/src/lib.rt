@@ -2,13 +2,13 @@
 ghost use mathlib.Core.Path.{_≡_};
 ghost use Rattle.filecalls.specs.Outcome.{left};
 ghost use Rattle.bdos.specs.Step.{carries, does, step};
-ghost use Rattle.served.specs.Asked.{asked};
-use answers::Refusal;
+ghost use Rattle.call_served.specs.Asked.{asked};
+use call_answers::Refusal;
+use call_served::Call;
+use call_served::Transfer;
+use disk_geometry::Geometry;
 use filecalls::Drive;
 use filecalls::Reply;
-use geometry::Geometry;
-use served::Call;
-use served::Transfer;
 use several::read::read_several;
 use several::write::write_several;
 
@@ -77,6 +77,6 @@ pub fn enter(
 ) -> Reply
     ensures { λ r. ⌜ left r (now (volume .exit)) (now (f .exit)) (now (buffer .exit)) ≡ step g (asked function parameter (now (f .entry)) (now (buffer .entry))) drive (now (volume .entry)) ⌝ }
 {
-    let kind = served::call_of(function);
+    let kind = call_served::call_of(function);
     serve(g, kind, parameter, drive, volume, f, buffer)
 }

@@ -4,15 +4,15 @@ use mathlib.Core.Path.{_≡_, refl}
 use mathlib.Core.Bool.{Bool}
 use mathlib.Core.List.{List, []}
 use Prim.Native.Nat.{ℕ, _≤_, _<_}
-use Rattle.geometry.specs.declared.Geometry.{Geometry}
-use Rattle.geometry.specs.Geometry.{placeOf}
-use Rattle.volume.specs.Entry.{Entry}
-use Rattle.volume.specs.Name.{nameOf}
-use Rattle.blocks.specs.Held.{holds}
-use Rattle.answers.specs.declared.Refusal.the-variants.{NotServed}
-use Rattle.deciding.specs.Write.{baseEntry, writeBlock, writeTests}
-use Rattle.entries.specs.Alloc.{alloc}
-use Rattle.entries.proofs.AllocLaws.{alloc-ext}
+use Rattle.disk_geometry.specs.declared.Geometry.{Geometry}
+use Rattle.disk_geometry.specs.Geometry.{placeOf}
+use Rattle.disk_volume.specs.Entry.{Entry}
+use Rattle.disk_volume.specs.Name.{nameOf}
+use Rattle.disk_held.specs.Held.{holds}
+use Rattle.call_answers.specs.declared.Refusal.the-variants.{NotServed}
+use Rattle.call_decide.specs.Write.{baseEntry, writeBlock, writeTests}
+use Rattle.call_entry.specs.Alloc.{alloc}
+use Rattle.call_entry.proofs.AllocLaws.{alloc-ext}
 use Rattle.filecalls.specs.declared.Drive.{Drive}
 use Rattle.filecalls.specs.State.{isOpen}
 use Rattle.filecalls.specs.Open.{openTests, openAct, closeTests, closeAct, sizeTests, sizeAct}
@@ -23,9 +23,9 @@ use Rattle.filecalls.specs.Write.{writeEntry, writeChange, writeDone, writeSequ
 use Rattle.filecalls.specs.Small.{protectTests, protectAct, userTests, userAct, setRandomTests, setRandomAct}
 use Rattle.filecalls.specs.Outcome.{Change, keeps, takes, frees, protects, becomes, searches, Act, deny, done, changedState, withHeld, Outcome, outcome}
 use Rattle.several.specs.Several.{readOne, writeOne, several}
-use Rattle.served.specs.declared.Call.{Call}
-use Rattle.served.specs.declared.Call.the-variants.{LogIn, Open, Close, SearchFirst, SearchNext, Delete, Make, Rename, Protect, Attributes, User, Size, SetRandom, Moves, Unserved}
-use Rattle.served.specs.declared.Transfer.the-variants.{ReadSequential, WriteSequential, ReadRandom, WriteRandom, WriteZeroFill, ReadSeveral, WriteSeveral}
+use Rattle.call_served.specs.declared.Call.{Call}
+use Rattle.call_served.specs.declared.Call.the-variants.{LogIn, Open, Close, SearchFirst, SearchNext, Delete, Make, Rename, Protect, Attributes, User, Size, SetRandom, Moves, Unserved}
+use Rattle.call_served.specs.declared.Transfer.the-variants.{ReadSequential, WriteSequential, ReadRandom, WriteRandom, WriteZeroFill, ReadSeveral, WriteSeveral}
 use Rattle.bdos.specs.Step.{keepsBuffer, keepsBlock, keepsVolume, carries, does}
 use Rattle.demands.proofs.Acts.{Consistent, outcome-keeps}
 use Rattle.demands.proofs.WritesKeep.{write-sequential-keeps}

@@ -7,19 +7,19 @@ use native.Mathlib.Omega.{arith}
 use lib.Dec.{eqb}
 use lib.ListN.{length}
 use borrow.Author.Tests.{eq-eqb, le-ltb}
-use Rattle.geometry.specs.declared.Geometry.{Geometry}
-use Rattle.geometry.specs.Geometry.{lawful, bytes, slots}
-use Rattle.volume.specs.Directory.{slotAt}
-use Rattle.volume.specs.Name.{nameOf}
-use Rattle.blocks.specs.Held.{freeCount}
-use Rattle.control.specs.Block.{position, random}
-use Rattle.answers.specs.declared.Refusal.{Refusal}
-use Rattle.answers.specs.declared.Refusal.the-variants.{NoGroup, Absent, NotServed}
-use Rattle.answers.specs.declared.Answer.the-variants as answer
-use Rattle.answers.specs.Refusal.{Test, isNone, firstMet}
-use Rattle.goodslots.specs.GoodSlot.{lowestBad}
-use Rattle.goodslots.specs.Named.{heldOf}
-use Rattle.reading.specs.Read.{readTests}
+use Rattle.disk_geometry.specs.declared.Geometry.{Geometry}
+use Rattle.disk_geometry.specs.Geometry.{lawful, bytes, slots}
+use Rattle.disk_volume.specs.Directory.{slotAt}
+use Rattle.disk_volume.specs.Name.{nameOf}
+use Rattle.disk_held.specs.Held.{freeCount}
+use Rattle.call_fcb.specs.Block.{position, random}
+use Rattle.call_answers.specs.declared.Refusal.{Refusal}
+use Rattle.call_answers.specs.declared.Refusal.the-variants.{NoGroup, Absent, NotServed}
+use Rattle.call_answers.specs.declared.Answer.the-variants as answer
+use Rattle.call_answers.specs.Refusal.{Test, isNone, firstMet}
+use Rattle.disk_rules.specs.GoodSlot.{lowestBad}
+use Rattle.disk_rules.specs.Named.{heldOf}
+use Rattle.call_read.specs.Read.{readTests}
 use Rattle.filecalls.specs.declared.Drive.{Drive}
 use Rattle.filecalls.specs.State.{loggedIn}
 use Rattle.filecalls.specs.LogIn.{logInTests, logIn}
@@ -30,9 +30,9 @@ use Rattle.filecalls.specs.Small.{protectTests, protectAct, userTests, userAct,
 use Rattle.filecalls.specs.Outcome.{keeps, protects, becomes, Store, Act, deny, done, unless, changedState, Outcome, outcome, left}
 use Rattle.several.specs.Several.{readOne}
 use Rattle.several.proofs.SeveralLaws.{read-refuses}
-use Rattle.served.specs.declared.Call.{Call}
-use Rattle.served.specs.declared.Call.the-variants.{LogIn, Open, Close, SearchFirst, SearchNext, Delete, Make, Rename, Protect, Attributes, User, Size, SetRandom, Moves, Unserved}
-use Rattle.served.specs.declared.Transfer.the-variants.{ReadSequential, WriteSequential, ReadRandom, WriteRandom, WriteZeroFill, ReadSeveral, WriteSeveral}
+use Rattle.call_served.specs.declared.Call.{Call}
+use Rattle.call_served.specs.declared.Call.the-variants.{LogIn, Open, Close, SearchFirst, SearchNext, Delete, Make, Rename, Protect, Attributes, User, Size, SetRandom, Moves, Unserved}
+use Rattle.call_served.specs.declared.Transfer.the-variants.{ReadSequential, WriteSequential, ReadRandom, WriteRandom, WriteZeroFill, ReadSeveral, WriteSeveral}
 use Rattle.bdos.specs.Step.{keepsBuffer, keepsBlock, keepsVolume}
 use Rattle.bdos.specs.Step as door
 use Rattle.demands.specs.Demand3.{Bytes, names}

@@ -13,23 +13,23 @@ use Rattle.lists.specs.Bytes.{byte}
 use Rattle.lists.specs.Search.{anyFrom}
 use Rattle.lists.proofs.BoolLaws.{and-parts}
 use Rattle.lists.proofs.SearchLaws.{any-true, any-intro, any-false, any-none}
-use Rattle.geometry.specs.declared.Geometry.{Geometry}
-use Rattle.geometry.specs.Geometry.{lawful, bytes, slots, places}
-use Rattle.volume.specs.Name.{nameOf, like}
-use Rattle.volume.specs.Entry.{Entry, isEmpty, blockIn, matches}
-use Rattle.volume.specs.Directory.{slotAt, mapSlots}
-use Rattle.geometry.proofs.GeometryLaws.{bounds}
-use Rattle.volume.proofs.DirectoryLaws.{slot-length}
-use Rattle.sweeping.proofs.SweepLaws.{mapSlots-length, mapSlots-slot, mapSlots-record}
-use Rattle.blocks.specs.Held.{holds}
-use Rattle.answers.specs.declared.Refusal.the-variants.{Closed}
-use Rattle.answers.specs.Refusal.{isNone, firstMet}
-use Rattle.answers.proofs.Ladder.{unmet}
-use Rattle.goodslots.specs.GoodSlot.{inPlaces}
-use Rattle.sweeping.specs.declared.Edit.the-variants.{Erase}
-use Rattle.sweeping.specs.Sweep.{erased, changed}
-use Rattle.deleting.specs.Delete.{freeMatches}
-use Rattle.geometry.proofs.InsideLaws.{is-inside}
+use Rattle.disk_geometry.specs.declared.Geometry.{Geometry}
+use Rattle.disk_geometry.specs.Geometry.{lawful, bytes, slots, places}
+use Rattle.disk_volume.specs.Name.{nameOf, like}
+use Rattle.disk_volume.specs.Entry.{Entry, isEmpty, blockIn, matches}
+use Rattle.disk_volume.specs.Directory.{slotAt, mapSlots}
+use Rattle.disk_geometry.proofs.GeometryLaws.{bounds}
+use Rattle.disk_volume.proofs.DirectoryLaws.{slot-length}
+use Rattle.call_sweep.proofs.SweepLaws.{mapSlots-length, mapSlots-slot, mapSlots-record}
+use Rattle.disk_held.specs.Held.{holds}
+use Rattle.call_answers.specs.declared.Refusal.the-variants.{Closed}
+use Rattle.call_answers.specs.Refusal.{isNone, firstMet}
+use Rattle.call_answers.proofs.Ladder.{unmet}
+use Rattle.disk_rules.specs.GoodSlot.{inPlaces}
+use Rattle.call_sweep.specs.declared.Edit.the-variants.{Erase}
+use Rattle.call_sweep.specs.Sweep.{erased, changed}
+use Rattle.call_delete.specs.Delete.{freeMatches}
+use Rattle.disk_geometry.proofs.InsideLaws.{is-inside}
 use Rattle.filecalls.specs.declared.Drive.{Drive}
 use Rattle.filecalls.specs.State.{isOpen}
 use Rattle.filecalls.specs.Outcome.{stored, storedAll, changedState}

@@ -8,19 +8,19 @@ use Prim.Native.Nat.{ℕ, _%_, _<_}
 use native.Mathlib.Omega.{arith}
 use lib.Dec.{ltb, eqb}
 use borrow.Author.Tests.{eqb-true, lt-ltb, not-false}
-use Rattle.geometry.specs.declared.Geometry.{Geometry}
-use Rattle.answers.specs.declared.Refusal.{Refusal}
-use Rattle.answers.specs.declared.Refusal.the-variants.{Closed, NotServed}
-use Rattle.answers.specs.declared.Answer.the-variants.{BadSlot, Refused}
-use Rattle.answers.specs.Refusal.{Test, test, refusalNumber, isNone, firstMet}
-use Rattle.answers.specs.Answer.{numberOf, succeeded}
-use Rattle.answers.proofs.Ladder.{unmet}
-use Rattle.deleting.specs.Delete.{deleteTests}
-use Rattle.making.specs.Make.{makeTests}
-use Rattle.naming.specs.Rename.{renameTests}
-use Rattle.reading.specs.Read.{readTests}
-use Rattle.deciding.specs.Write.{writeTests}
-use Rattle.goodslots.specs.GoodSlot.{lowestBad}
+use Rattle.disk_geometry.specs.declared.Geometry.{Geometry}
+use Rattle.call_answers.specs.declared.Refusal.{Refusal}
+use Rattle.call_answers.specs.declared.Refusal.the-variants.{Closed, NotServed}
+use Rattle.call_answers.specs.declared.Answer.the-variants.{BadSlot, Refused}
+use Rattle.call_answers.specs.Refusal.{Test, test, refusalNumber, isNone, firstMet}
+use Rattle.call_answers.specs.Answer.{numberOf, succeeded}
+use Rattle.call_answers.proofs.Ladder.{unmet}
+use Rattle.call_delete.specs.Delete.{deleteTests}
+use Rattle.call_make.specs.Make.{makeTests}
+use Rattle.call_rename.specs.Rename.{renameTests}
+use Rattle.call_read.specs.Read.{readTests}
+use Rattle.call_decide.specs.Write.{writeTests}
+use Rattle.disk_rules.specs.GoodSlot.{lowestBad}
 use Rattle.filecalls.specs.declared.Drive.{Drive}
 use Rattle.filecalls.specs.Outcome.{Change, keeps, becomes, Store, Act, deny, done, unless, Outcome, outcome}
 use Rattle.filecalls.specs.State.{isOpen, closed}
@@ -36,11 +36,11 @@ use Rattle.several.specs.Several.{Single, readOne, writeOne, several}
 use Rattle.lent.specs.Lent.{severalTests}
 use Rattle.several.proofs.SinglesLaws.{Refuses}
 use Rattle.several.proofs.SeveralLaws.{leaves-all, read-refuses, write-refuses}
-use Rattle.served.specs.declared.Call.{Call}
-use Rattle.served.specs.declared.Call.the-variants.{LogIn, Open, Close, SearchFirst, SearchNext, Delete, Make, Rename, Protect, Attributes, User, Size, SetRandom, Moves, Unserved}
-use Rattle.served.specs.declared.Transfer.the-variants.{ReadSequential, WriteSequential, ReadRandom, WriteRandom, WriteZeroFill, ReadSeveral, WriteSeveral}
+use Rattle.call_served.specs.declared.Call.{Call}
+use Rattle.call_served.specs.declared.Call.the-variants.{LogIn, Open, Close, SearchFirst, SearchNext, Delete, Make, Rename, Protect, Attributes, User, Size, SetRandom, Moves, Unserved}
+use Rattle.call_served.specs.declared.Transfer.the-variants.{ReadSequential, WriteSequential, ReadRandom, WriteRandom, WriteZeroFill, ReadSeveral, WriteSeveral}
 use Rattle.bdos.specs.Step.{carries, does, step}
-use Rattle.served.specs.Asked.{Asked}
+use Rattle.call_served.specs.Asked.{Asked}
 use Rattle.demands.specs.Order.{paperTable, numbersOf, reasons, inOrder, testsOf, refusalsOf, among, answersOf}
 use Rattle.demands.specs.Demand1.{call, tests, answer, Leaves, Demand1}
 use Rattle.demands.proofs.Says.{Says, was-met, was-none, number-among}

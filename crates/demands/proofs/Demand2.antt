@@ -15,24 +15,24 @@ use borrow.Author.Tests.{not-false, eqb-true, eq-eqb, leb-true, le-leb, le-ltb, 
 use Rattle.lists.specs.Search.{countFrom}
 use Rattle.lists.proofs.BoolLaws.{and-parts}
 use Rattle.lists.proofs.SearchLaws.{count-ext}
-use Rattle.geometry.specs.declared.Geometry.{Geometry}
-use Rattle.geometry.specs.Geometry.{lawful, bytes, slots, inside, placeOf}
-use Rattle.volume.specs.Name.{nameOf}
-use Rattle.geometry.proofs.GeometryLaws.{bounds}
-use Rattle.blocks.specs.Held.{digit, holds, isFree, freeCount}
-use Rattle.blocks.proofs.WordsLaws.{length-words}
-use Rattle.answers.specs.declared.Refusal.the-variants.{Closed, VolumeLength, BadSlot, NoBlock}
-use Rattle.answers.specs.Refusal.{Test, test, refusalNumber, isNone, firstMet}
-use Rattle.answers.specs.Answer.{numberOf, valueOf, succeeded}
-use Rattle.answers.proofs.Ladder.{unmet, ladder-pass}
-use Rattle.goodslots.specs.GoodSlot.{namedBelow, goodSlot, lowestBad}
-use Rattle.goodslots.specs.Named.{named, heldOf}
-use Rattle.goodslots.proofs.AcceptedLaws.{accepted, accepts, lowest-bad-le}
-use Rattle.goodslots.proofs.NamedLaws.{holds-held}
-use Rattle.deciding.specs.Write.{baseEntry, needsBlock, writeTests}
-use Rattle.entries.specs.Alloc.{alloc}
-use Rattle.geometry.proofs.InsideLaws.{inside-is}
-use Rattle.entries.proofs.AllocLaws.{alloc-le, alloc-none, none-alloc}
+use Rattle.disk_geometry.specs.declared.Geometry.{Geometry}
+use Rattle.disk_geometry.specs.Geometry.{lawful, bytes, slots, inside, placeOf}
+use Rattle.disk_volume.specs.Name.{nameOf}
+use Rattle.disk_geometry.proofs.GeometryLaws.{bounds}
+use Rattle.disk_held.specs.Held.{digit, holds, isFree, freeCount}
+use Rattle.disk_held.proofs.WordsLaws.{length-words}
+use Rattle.call_answers.specs.declared.Refusal.the-variants.{Closed, VolumeLength, BadSlot, NoBlock}
+use Rattle.call_answers.specs.Refusal.{Test, test, refusalNumber, isNone, firstMet}
+use Rattle.call_answers.specs.Answer.{numberOf, valueOf, succeeded}
+use Rattle.call_answers.proofs.Ladder.{unmet, ladder-pass}
+use Rattle.disk_rules.specs.GoodSlot.{namedBelow, goodSlot, lowestBad}
+use Rattle.disk_rules.specs.Named.{named, heldOf}
+use Rattle.disk_rules.proofs.AcceptedLaws.{accepted, accepts, lowest-bad-le}
+use Rattle.disk_rules.proofs.NamedLaws.{holds-held}
+use Rattle.call_decide.specs.Write.{baseEntry, needsBlock, writeTests}
+use Rattle.call_entry.specs.Alloc.{alloc}
+use Rattle.disk_geometry.proofs.InsideLaws.{inside-is}
+use Rattle.call_entry.proofs.AllocLaws.{alloc-le, alloc-none, none-alloc}
 use Rattle.filecalls.specs.declared.Drive.{Drive}
 use Rattle.filecalls.specs.declared.Reply.{Reply}
 use Rattle.filecalls.specs.Outcome.{Outcome, left}
@@ -40,10 +40,10 @@ use Rattle.filecalls.specs.State.{isOpen, loggedIn}
 use Rattle.filecalls.specs.LogIn.{logInTests, logIn}
 use Rattle.filecalls.specs.Read.{sequentialTests, randomTests}
 use Rattle.filecalls.proofs.StateLaws.{is-open}
-use Rattle.served.specs.declared.Call.{Call}
-use Rattle.served.specs.declared.Call.the-variants.{LogIn}
+use Rattle.call_served.specs.declared.Call.{Call}
+use Rattle.call_served.specs.declared.Call.the-variants.{LogIn}
 use Rattle.bdos.specs.Step.{does, step}
-use Rattle.served.specs.Asked.{Asked}
+use Rattle.call_served.specs.Asked.{Asked}
 use Rattle.demands.specs.Order.{testsOf, answersOf}
 use Rattle.demands.specs.Demand1.{call, tests, answer}
 use Rattle.demands.specs.Demand2.{Writes, sequential, direct, zero-filling, Reads, earlier, NoneFree, Sound, Present, Same, Demand2}

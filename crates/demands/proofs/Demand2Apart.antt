@@ -11,30 +11,30 @@ use lib.Dec.{eqb}
 use lib.ListN.{length}
 use borrow.Author.Tests.{ltb-true, eq-eqb}
 use Rattle.lists.proofs.BoolLaws.{and-left}
-use Rattle.geometry.specs.declared.Geometry.{Geometry}
-use Rattle.volume.specs.declared.Wanted.the-variants.{File, Group}
-use Rattle.geometry.specs.Geometry.{lawful, bytes, slots, groupOf, placeOf, places}
-use Rattle.volume.specs.Entry.{Entry, isEmpty, extent, blockIn, ofFile, ofGroup}
-use Rattle.volume.specs.Directory.{slotAt, findSlot}
-use Rattle.volume.specs.Record.{recordSlot, recordBlock}
-use Rattle.volume.proofs.DirectoryLaws.{slot-length}
-use Rattle.volume.proofs.FindLaws.{found-fits}
-use Rattle.geometry.proofs.GeometryLaws.{bounds, place-lt}
-use Rattle.blocks.specs.Held.{holds, hold}
-use Rattle.blocks.proofs.HoldLaws.{length-hold, holds-hold-same, holds-hold-other}
-use Rattle.answers.specs.Refusal.{isNone, firstMet}
-use Rattle.goodslots.specs.GoodSlot.{lowestBad}
-use Rattle.goodslots.specs.Named.{named}
-use Rattle.goodslots.proofs.AcceptedLaws.{good-entry, place-named, one-place}
-use Rattle.deciding.specs.Write.{hasGroup, writeSlot, baseEntry, needsBlock, writeBlock, writeTests}
-use Rattle.entries.specs.Grown.{likeEntry}
-use Rattle.entries.specs.Alloc.{alloc}
-use Rattle.deciding.specs.WritePlan.{volumeAfter, heldAfter}
-use Rattle.entries.proofs.AllocLaws.{alloc-given}
-use Rattle.writing.proofs.AfterLaws.{after-block, after-slot, after-slot-other}
-use Rattle.entries.proofs.GrowLaws.{written-other}
-use Rattle.deciding.proofs.WriteLaws.{write-passed}
-use Rattle.geometry.proofs.InsideLaws.{inside-is}
+use Rattle.disk_geometry.specs.declared.Geometry.{Geometry}
+use Rattle.disk_volume.specs.declared.Wanted.the-variants.{File, Group}
+use Rattle.disk_geometry.specs.Geometry.{lawful, bytes, slots, groupOf, placeOf, places}
+use Rattle.disk_volume.specs.Entry.{Entry, isEmpty, extent, blockIn, ofFile, ofGroup}
+use Rattle.disk_volume.specs.Directory.{slotAt, findSlot}
+use Rattle.disk_volume.specs.Record.{recordSlot, recordBlock}
+use Rattle.disk_volume.proofs.DirectoryLaws.{slot-length}
+use Rattle.disk_volume.proofs.FindLaws.{found-fits}
+use Rattle.disk_geometry.proofs.GeometryLaws.{bounds, place-lt}
+use Rattle.disk_held.specs.Held.{holds, hold}
+use Rattle.disk_held.proofs.HoldLaws.{length-hold, holds-hold-same, holds-hold-other}
+use Rattle.call_answers.specs.Refusal.{isNone, firstMet}
+use Rattle.disk_rules.specs.GoodSlot.{lowestBad}
+use Rattle.disk_rules.specs.Named.{named}
+use Rattle.disk_rules.proofs.AcceptedLaws.{good-entry, place-named, one-place}
+use Rattle.call_decide.specs.Write.{hasGroup, writeSlot, baseEntry, needsBlock, writeBlock, writeTests}
+use Rattle.call_entry.specs.Grown.{likeEntry}
+use Rattle.call_entry.specs.Alloc.{alloc}
+use Rattle.call_decide.specs.WritePlan.{volumeAfter, heldAfter}
+use Rattle.call_entry.proofs.AllocLaws.{alloc-given}
+use Rattle.call_write.proofs.AfterLaws.{after-block, after-slot, after-slot-other}
+use Rattle.call_entry.proofs.GrowLaws.{written-other}
+use Rattle.call_decide.proofs.WriteLaws.{write-passed}
+use Rattle.disk_geometry.proofs.InsideLaws.{inside-is}
 use Rattle.demands.proofs.Demand2Entries.{file-used, like-no-block}
 
 -- a place of the map of an entry

@@ -8,22 +8,22 @@ use Prim.Native.Nat.{ℕ, zero, suc, _+_, _%_, _<_}
 use native.Mathlib.Omega.{arith}
 use lib.ListN.{length, getD}
 use Rattle.lists.proofs.BoolLaws.{and-parts}
-use Rattle.geometry.specs.declared.Geometry.{Geometry}
-use Rattle.volume.specs.Name.{nameOf}
-use Rattle.volume.specs.Record.{present}
-use Rattle.control.specs.Block.{position, setTo}
-use Rattle.answers.specs.Refusal.{isNone, firstMet}
-use Rattle.answers.specs.Answer.{succeeded}
-use Rattle.deciding.specs.WritePlan.{entryAfter}
-use Rattle.deciding.proofs.WriteLaws.{length-entryAfter}
+use Rattle.disk_geometry.specs.declared.Geometry.{Geometry}
+use Rattle.disk_volume.specs.Name.{nameOf}
+use Rattle.disk_volume.specs.Record.{present}
+use Rattle.call_fcb.specs.Block.{position, setTo}
+use Rattle.call_answers.specs.Refusal.{isNone, firstMet}
+use Rattle.call_answers.specs.Answer.{succeeded}
+use Rattle.call_decide.specs.WritePlan.{entryAfter}
+use Rattle.call_decide.proofs.WriteLaws.{length-entryAfter}
 use Rattle.filecalls.specs.declared.Drive.{Drive}
 use Rattle.filecalls.specs.Outcome.{Outcome}
 use Rattle.filecalls.specs.Write.{writeSequentialAct}
-use Rattle.served.specs.declared.Call.the-variants.{Moves}
-use Rattle.served.specs.declared.Transfer.the-variants.{WriteSequential}
+use Rattle.call_served.specs.declared.Call.the-variants.{Moves}
+use Rattle.call_served.specs.declared.Transfer.the-variants.{WriteSequential}
 use Rattle.bdos.specs.Step.{carries, does, step}
-use Rattle.served.specs.Asked.{asked}
-use Rattle.served.specs.Calls.{callOf}
+use Rattle.call_served.specs.Asked.{asked}
+use Rattle.call_served.specs.Calls.{callOf}
 use Rattle.demands.specs.Order.{testsOf}
 use Rattle.demands.specs.Demand2.{sequential, Present, allWritten, volumeAtEnd}
 use Rattle.demands.proofs.Says.{was-none}

@@ -10,19 +10,19 @@ use lib.ListN.{length, set, length-set}
 use lib.Seq.{getD-set-same, getD-set-other}
 use Rattle.lists.specs.Bytes.{byte, part}
 use Rattle.lists.proofs.PartLaws.{length-part, byte-out, part-apart, part-part}
-use Rattle.geometry.specs.declared.Geometry.{Geometry}
-use Rattle.geometry.specs.Geometry.{bytes}
-use Rattle.volume.specs.Name.{strip, nameAt, nameOf}
-use Rattle.volume.specs.Entry.{Entry, countOf}
-use Rattle.volume.specs.Record.{present}
-use Rattle.control.specs.Block.{position, random, setTo}
-use Rattle.answers.specs.declared.Refusal.the-variants.{Protected}
-use Rattle.answers.specs.Refusal.{Test, isNone, firstMet}
-use Rattle.answers.proofs.Ladder.{unmet}
-use Rattle.deciding.specs.Write.{writeTests}
-use Rattle.deciding.specs.WritePlan.{entryAfter, volumeAfter, heldAfter}
-use Rattle.writing.proofs.AfterLaws.{after-present}
-use Rattle.entries.proofs.HeadLaws.{head, head-set}
+use Rattle.disk_geometry.specs.declared.Geometry.{Geometry}
+use Rattle.disk_geometry.specs.Geometry.{bytes}
+use Rattle.disk_volume.specs.Name.{strip, nameAt, nameOf}
+use Rattle.disk_volume.specs.Entry.{Entry, countOf}
+use Rattle.disk_volume.specs.Record.{present}
+use Rattle.call_fcb.specs.Block.{position, random, setTo}
+use Rattle.call_answers.specs.declared.Refusal.the-variants.{Protected}
+use Rattle.call_answers.specs.Refusal.{Test, isNone, firstMet}
+use Rattle.call_answers.proofs.Ladder.{unmet}
+use Rattle.call_decide.specs.Write.{writeTests}
+use Rattle.call_decide.specs.WritePlan.{entryAfter, volumeAfter, heldAfter}
+use Rattle.call_write.proofs.AfterLaws.{after-present}
+use Rattle.call_entry.proofs.HeadLaws.{head, head-set}
 use Rattle.filecalls.specs.declared.Drive.{Drive}
 use Rattle.filecalls.specs.Outcome.{unless, Outcome, outcome}
 use Rattle.filecalls.specs.Ready.{Open, Lent}
@@ -33,9 +33,9 @@ use Rattle.filecalls.proofs.LentLaws.{sequential-lent, random-lent}
 use Rattle.filecalls.proofs.OutcomeLaws as laws
 use Rattle.filecalls.proofs.StateLaws.{both-clear, named-clear}
 use Rattle.filecalls.proofs.WriteLaws.{leaves}
-use Rattle.served.specs.declared.Call.{Call}
-use Rattle.served.specs.declared.Call.the-variants.{Moves}
-use Rattle.served.specs.declared.Transfer.the-variants.{WriteSequential, WriteRandom, WriteZeroFill}
+use Rattle.call_served.specs.declared.Call.{Call}
+use Rattle.call_served.specs.declared.Call.the-variants.{Moves}
+use Rattle.call_served.specs.declared.Transfer.the-variants.{WriteSequential, WriteRandom, WriteZeroFill}
 use Rattle.bdos.specs.Step.{carries, does}
 use Rattle.demands.specs.Order.{testsOf}
 use Rattle.demands.specs.Demand2.{Writes, sequential, direct, zero-filling, Present}

@@ -5,22 +5,22 @@ use mathlib.Core.Bool.{true, false, _&&_, _||_}
 use mathlib.Core.List.{List, [], _∷_}
 use Prim.Native.Nat.{ℕ, _≤_}
 use lib.ListN.{length}
-use Rattle.geometry.specs.declared.Geometry.{Geometry}
-use Rattle.geometry.specs.Geometry.{lawful, bytes, slots}
-use Rattle.blocks.specs.Held.{freeCount}
-use Rattle.answers.specs.declared.Answer.the-variants.{Ready}
-use Rattle.answers.specs.Answer.{succeeded}
-use Rattle.goodslots.specs.GoodSlot.{lowestBad}
-use Rattle.goodslots.specs.Named.{heldOf}
-use Rattle.goodslots.proofs.AcceptedLaws.{one-place}
-use Rattle.sweeping.proofs.EditLaws.{or-false}
+use Rattle.disk_geometry.specs.declared.Geometry.{Geometry}
+use Rattle.disk_geometry.specs.Geometry.{lawful, bytes, slots}
+use Rattle.disk_held.specs.Held.{freeCount}
+use Rattle.call_answers.specs.declared.Answer.the-variants.{Ready}
+use Rattle.call_answers.specs.Answer.{succeeded}
+use Rattle.disk_rules.specs.GoodSlot.{lowestBad}
+use Rattle.disk_rules.specs.Named.{heldOf}
+use Rattle.disk_rules.proofs.AcceptedLaws.{one-place}
+use Rattle.call_sweep.proofs.EditLaws.{or-false}
 use Rattle.filecalls.specs.declared.Drive.{Drive}
 use Rattle.filecalls.specs.State.{loggedIn}
 use Rattle.filecalls.specs.Outcome.{Outcome, withHeld}
-use Rattle.served.specs.declared.Call.the-variants.{LogIn}
+use Rattle.call_served.specs.declared.Call.the-variants.{LogIn}
 use Rattle.bdos.specs.Step.{does, step}
-use Rattle.served.specs.Asked.{Asked}
-use Rattle.served.specs.Calls.{callOf}
+use Rattle.call_served.specs.Asked.{Asked}
+use Rattle.call_served.specs.Calls.{callOf}
 use Rattle.demands.specs.Run.{Seen, seen, answers, final, plainStep}
 use Rattle.demands.specs.Demand3.{Bytes, BytesLent, touches, touched, Kept, Demand3, NoBlockTwice}
 use Rattle.demands.proofs.Inspected.{accepted-sound, sound-accepted, held-of}

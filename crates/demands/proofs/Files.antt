@@ -9,13 +9,13 @@ use lib.Dec.{eqb}
 use borrow.Author.Tests.{eqb-true, eq-eqb, ne-eqb}
 use Rattle.lists.specs.Bytes.{byte}
 use Rattle.lists.proofs.BoolLaws.{and-parts}
-use Rattle.volume.specs.Name.{nameOf, same, like}
-use Rattle.geometry.specs.declared.Geometry.{Geometry}
-use Rattle.geometry.specs.Geometry.{slots, places}
-use Rattle.volume.specs.Entry.{Entry, blockIn, ofFile, matches}
-use Rattle.volume.specs.Directory.{slotAt}
-use Rattle.volume.proofs.NameLaws.{same-refl, same-true}
-use Rattle.geometry.proofs.InsideLaws.{inside-is}
+use Rattle.disk_volume.specs.Name.{nameOf, same, like}
+use Rattle.disk_geometry.specs.declared.Geometry.{Geometry}
+use Rattle.disk_geometry.specs.Geometry.{slots, places}
+use Rattle.disk_volume.specs.Entry.{Entry, blockIn, ofFile, matches}
+use Rattle.disk_volume.specs.Directory.{slotAt}
+use Rattle.disk_volume.proofs.NameLaws.{same-refl, same-true}
+use Rattle.disk_geometry.proofs.InsideLaws.{inside-is}
 use Rattle.demands.proofs.Orderly.{Live, Orderly}
 
 pub record IsOf (u : ℕ) (name : List ℕ) (e : Entry) : Type 0 where

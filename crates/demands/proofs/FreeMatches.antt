@@ -9,16 +9,16 @@ use lib.Dec.{eqb}
 use lib.ListN.{length}
 use borrow.Author.Tests.{eqb-true, eqb-false}
 use Rattle.lists.specs.Search.{anyFrom, fold}
-use Rattle.geometry.specs.declared.Geometry.{Geometry}
-use Rattle.geometry.specs.Geometry.{lawful, slots, inside, places}
-use Rattle.volume.specs.Entry.{Entry, blockIn, matches}
-use Rattle.volume.specs.Directory.{slotAt}
-use Rattle.geometry.proofs.GeometryLaws.{bounds}
-use Rattle.blocks.specs.Held.{holds, release}
-use Rattle.blocks.proofs.HoldLaws.{length-release, holds-release-same, holds-release-other}
-use Rattle.goodslots.specs.GoodSlot.{inPlaces}
-use Rattle.deleting.specs.Delete.{freePlace, freeEntry, freeSlot, freeMatches}
-use Rattle.geometry.proofs.InsideLaws.{inside-is}
+use Rattle.disk_geometry.specs.declared.Geometry.{Geometry}
+use Rattle.disk_geometry.specs.Geometry.{lawful, slots, inside, places}
+use Rattle.disk_volume.specs.Entry.{Entry, blockIn, matches}
+use Rattle.disk_volume.specs.Directory.{slotAt}
+use Rattle.disk_geometry.proofs.GeometryLaws.{bounds}
+use Rattle.disk_held.specs.Held.{holds, release}
+use Rattle.disk_held.proofs.HoldLaws.{length-release, holds-release-same, holds-release-other}
+use Rattle.disk_rules.specs.GoodSlot.{inPlaces}
+use Rattle.call_delete.specs.Delete.{freePlace, freeEntry, freeSlot, freeMatches}
+use Rattle.disk_geometry.proofs.InsideLaws.{inside-is}
 
 and-yes : (a : Bool) → a ≡ (a && true)
 and-yes true = refl

@@ -9,20 +9,20 @@ use native.Mathlib.Decide.{ℕ-discrete}
 use lib.Dec.{eqb}
 use lib.ListN.{length}
 use borrow.Author.Tests.{not-false, eqb-true, ltb-false, leb-false}
-use Rattle.geometry.specs.declared.Geometry.{Geometry}
-use Rattle.volume.specs.declared.Wanted.the-variants.{Empty, File}
-use Rattle.geometry.specs.Geometry.{bytes, slots, places}
-use Rattle.volume.specs.Name.{nameOf, goodName, same}
-use Rattle.volume.specs.Entry.{Entry, isEmpty, blockIn, ofFile}
-use Rattle.volume.specs.Directory.{slotAt, putSlot, findSlot}
-use Rattle.volume.specs.Record.{recordAt}
-use Rattle.volume.proofs.FindLaws.{found-fits, not-found}
-use Rattle.geometry.proofs.GeometryLaws.{bounds}
-use Rattle.volume.proofs.DirectoryLaws.{putSlot-length, slot-putSlot, slot-putSlot-other, record-putSlot}
-use Rattle.answers.specs.declared.Refusal.the-variants.{Closed, VolumeLength, BlockLength, DriveCode, Name, Untypeable, Position, Protected, Exists, NoRoom}
-use Rattle.answers.specs.Refusal.{isNone, firstMet}
-use Rattle.answers.proofs.Ladder.{unmet}
-use Rattle.making.specs.Make.{makeTests, freshEntry}
+use Rattle.disk_geometry.specs.declared.Geometry.{Geometry}
+use Rattle.disk_volume.specs.declared.Wanted.the-variants.{Empty, File}
+use Rattle.disk_geometry.specs.Geometry.{bytes, slots, places}
+use Rattle.disk_volume.specs.Name.{nameOf, goodName, same}
+use Rattle.disk_volume.specs.Entry.{Entry, isEmpty, blockIn, ofFile}
+use Rattle.disk_volume.specs.Directory.{slotAt, putSlot, findSlot}
+use Rattle.disk_volume.specs.Record.{recordAt}
+use Rattle.disk_volume.proofs.FindLaws.{found-fits, not-found}
+use Rattle.disk_geometry.proofs.GeometryLaws.{bounds}
+use Rattle.disk_volume.proofs.DirectoryLaws.{putSlot-length, slot-putSlot, slot-putSlot-other, record-putSlot}
+use Rattle.call_answers.specs.declared.Refusal.the-variants.{Closed, VolumeLength, BlockLength, DriveCode, Name, Untypeable, Position, Protected, Exists, NoRoom}
+use Rattle.call_answers.specs.Refusal.{isNone, firstMet}
+use Rattle.call_answers.proofs.Ladder.{unmet}
+use Rattle.call_make.specs.Make.{makeTests, freshEntry}
 use Rattle.filecalls.specs.declared.Drive.{Drive}
 use Rattle.filecalls.specs.State.{isOpen}
 use Rattle.filecalls.specs.Outcome.{keeps, stored, storedAll, changedState}

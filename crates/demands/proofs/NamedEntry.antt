@@ -11,13 +11,13 @@ use lib.ListN.{length, set, length-set}
 use lib.Seq.{getD-set-same, getD-set-other, ext-getD}
 use Rattle.lists.specs.Bytes.{byte, part, put}
 use Rattle.lists.proofs.PartLaws.{length-part, length-put, part-put, part-apart, byte-part}
-use Rattle.volume.specs.Name.{strip, nameAt, nameOf}
-use Rattle.volume.specs.Entry.{Entry}
-use Rattle.volume.proofs.NameLaws.{length-strip, byte-strip, strip-strip}
-use Rattle.goodslots.specs.GoodSlot.{goodTopBits}
-use Rattle.goodslots.proofs.GoodLaws.{top-bits-good, good-top-bits}
-use Rattle.sweeping.specs.Sweep.{marked, renamed, attributed}
-use Rattle.sweeping.proofs.EditLaws.{named-and-marked}
+use Rattle.disk_volume.specs.Name.{strip, nameAt, nameOf}
+use Rattle.disk_volume.specs.Entry.{Entry}
+use Rattle.disk_volume.proofs.NameLaws.{length-strip, byte-strip, strip-strip}
+use Rattle.disk_rules.specs.GoodSlot.{goodTopBits}
+use Rattle.disk_rules.proofs.GoodLaws.{top-bits-good, good-top-bits}
+use Rattle.call_sweep.specs.Sweep.{marked, renamed, attributed}
+use Rattle.call_sweep.proofs.EditLaws.{named-and-marked}
 
 -- ---- what an edit that gives an entry the name `to` owes
 pub record Renames (to : List ℕ) (e e′ : Entry) : Type 0 where

@@ -9,14 +9,14 @@ use mathlib.Core.List.{List}
 use Prim.Native.Nat.{ℕ, _≤_, _<_}
 use native.Mathlib.Decide.{ℕ-discrete}
 use lib.ListN.{length}
-use Rattle.geometry.specs.declared.Geometry.{Geometry}
-use Rattle.geometry.specs.Geometry.{slots, inside, places}
-use Rattle.volume.specs.Name.{nameOf, goodName}
-use Rattle.volume.specs.Entry.{Entry, isEmpty, blockIn}
-use Rattle.blocks.specs.Held.{holds}
-use Rattle.goodslots.specs.GoodSlot.{goodTopBits}
-use Rattle.goodslots.proofs.GoodLaws.{Fields}
-use Rattle.goodslots.proofs.TwinLaws.{Twins}
+use Rattle.disk_geometry.specs.declared.Geometry.{Geometry}
+use Rattle.disk_geometry.specs.Geometry.{slots, inside, places}
+use Rattle.disk_volume.specs.Name.{nameOf, goodName}
+use Rattle.disk_volume.specs.Entry.{Entry, isEmpty, blockIn}
+use Rattle.disk_held.specs.Held.{holds}
+use Rattle.disk_rules.specs.GoodSlot.{goodTopBits}
+use Rattle.disk_rules.proofs.GoodLaws.{Fields}
+use Rattle.disk_rules.proofs.TwinLaws.{Twins}
 
 abbrev pub Directory : Type 0
 Directory = ℕ → Entry

@@ -9,19 +9,19 @@ use lib.ListN.{length}
 use borrow.Author.Tests.{not-false, eqb-true, ltb-false}
 use Rattle.lists.specs.Bytes.{part}
 use Rattle.lists.proofs.PartLaws.{length-part}
-use Rattle.volume.specs.declared.Wanted.the-variants.{File}
-use Rattle.geometry.specs.Geometry.{slots}
-use Rattle.volume.specs.Name.{nameAt, nameOf, goodName, same}
-use Rattle.volume.specs.Entry.{Entry, ofFile}
-use Rattle.volume.specs.Directory.{slotAt, findSlot}
-use Rattle.volume.proofs.FindLaws.{not-found}
-use Rattle.control.specs.Block.{newName}
-use Rattle.answers.specs.declared.Refusal.the-variants.{Closed, VolumeLength, BlockLength, DriveCode, Name, Untypeable, Protected, NoMatch, ReadOnly, Exists}
-use Rattle.answers.specs.Refusal.{isNone, firstMet}
-use Rattle.answers.proofs.Ladder.{unmet}
-use Rattle.sweeping.specs.declared.Edit.the-variants.{Rename}
-use Rattle.sweeping.specs.Sweep.{renamed, changed}
-use Rattle.naming.specs.Rename.{renameTests}
+use Rattle.disk_volume.specs.declared.Wanted.the-variants.{File}
+use Rattle.disk_geometry.specs.Geometry.{slots}
+use Rattle.disk_volume.specs.Name.{nameAt, nameOf, goodName, same}
+use Rattle.disk_volume.specs.Entry.{Entry, ofFile}
+use Rattle.disk_volume.specs.Directory.{slotAt, findSlot}
+use Rattle.disk_volume.proofs.FindLaws.{not-found}
+use Rattle.call_fcb.specs.Block.{newName}
+use Rattle.call_answers.specs.declared.Refusal.the-variants.{Closed, VolumeLength, BlockLength, DriveCode, Name, Untypeable, Protected, NoMatch, ReadOnly, Exists}
+use Rattle.call_answers.specs.Refusal.{isNone, firstMet}
+use Rattle.call_answers.proofs.Ladder.{unmet}
+use Rattle.call_sweep.specs.declared.Edit.the-variants.{Rename}
+use Rattle.call_sweep.specs.Sweep.{renamed, changed}
+use Rattle.call_rename.specs.Rename.{renameTests}
 use Rattle.filecalls.specs.declared.Drive.{Drive}
 use Rattle.filecalls.specs.Outcome.{stored, storedAll, changedState}
 use Rattle.filecalls.specs.Names.{renameLadder, renameAct}

@@ -11,13 +11,13 @@ use lib.ListN.{length, set}
 use lib.Seq.{ext-getD}
 use Rattle.lists.specs.Bytes.{byte, part, put}
 use Rattle.lists.proofs.PartLaws.{byte-part}
-use Rattle.volume.specs.Name.{strip, topBit, nameAt, nameOf}
-use Rattle.volume.specs.Entry.{Entry}
-use Rattle.volume.proofs.NameLaws.{length-strip, byte-strip}
-use Rattle.goodslots.specs.GoodSlot.{goodTopBits}
-use Rattle.goodslots.proofs.GoodLaws.{top-bits-good}
-use Rattle.sweeping.specs.Sweep.{marked, renamed}
-use Rattle.sweeping.proofs.EditLaws.{named-and-marked}
+use Rattle.disk_volume.specs.Name.{strip, topBit, nameAt, nameOf}
+use Rattle.disk_volume.specs.Entry.{Entry}
+use Rattle.disk_volume.proofs.NameLaws.{length-strip, byte-strip}
+use Rattle.disk_rules.specs.GoodSlot.{goodTopBits}
+use Rattle.disk_rules.proofs.GoodLaws.{top-bits-good}
+use Rattle.call_sweep.specs.Sweep.{marked, renamed}
+use Rattle.call_sweep.proofs.EditLaws.{named-and-marked}
 use Rattle.demands.proofs.NamedEntry.{Renames, marks-nine, marks-ten, marks-other, laid-length, laid-byte, rename-renames}
 
 -- ---- the bytes of the entry e under a name without top bits

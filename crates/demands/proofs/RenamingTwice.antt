@@ -5,11 +5,11 @@ use mathlib.Core.Bool.{true, false}
 use mathlib.Core.List.{List, []}
 use Prim.Native.Nat.{ℕ, _<_}
 use Rattle.lists.specs.Bytes.{part}
-use Rattle.geometry.specs.Geometry.{slots}
-use Rattle.volume.specs.Entry.{ofFile}
-use Rattle.volume.specs.Directory.{slotAt, mapSlots}
-use Rattle.answers.specs.declared.Answer.the-variants.{Done}
-use Rattle.sweeping.specs.Sweep.{renamed}
+use Rattle.disk_geometry.specs.Geometry.{slots}
+use Rattle.disk_volume.specs.Entry.{ofFile}
+use Rattle.disk_volume.specs.Directory.{slotAt, mapSlots}
+use Rattle.call_answers.specs.declared.Answer.the-variants.{Done}
+use Rattle.call_sweep.specs.Sweep.{renamed}
 use Rattle.filecalls.specs.declared.Drive.{Drive}
 use Rattle.demands.specs.Renaming.{rename, thenRename}
 use Rattle.demands.proofs.Files.{of-file}

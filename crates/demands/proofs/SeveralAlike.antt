@@ -5,10 +5,10 @@ use mathlib.Core.Bool.{Bool, true, false, cond}
 use mathlib.Core.List.{List}
 use Prim.Native.Nat.{ℕ, zero, suc, _*_, _≤_, _<_}
 use Rattle.lists.specs.Bytes.{part, put}
-use Rattle.volume.specs.Directory.{slotAt}
-use Rattle.blocks.specs.Held.{holds}
-use Rattle.answers.specs.Refusal.{isNone, firstMet}
-use Rattle.answers.specs.Answer.{succeeded, whyOf}
+use Rattle.disk_volume.specs.Directory.{slotAt}
+use Rattle.disk_held.specs.Held.{holds}
+use Rattle.call_answers.specs.Refusal.{isNone, firstMet}
+use Rattle.call_answers.specs.Answer.{succeeded, whyOf}
 use Rattle.filecalls.specs.declared.Drive.{Drive}
 use Rattle.filecalls.specs.State.{isOpen}
 use Rattle.filecalls.specs.Outcome.{Outcome, withHeld}

@@ -10,17 +10,17 @@ use lib.ListN.{length, drop}
 use borrow.Author.Tests.{eq-eqb}
 use Rattle.lists.specs.Bytes.{part}
 use Rattle.lists.proofs.PartLaws.{length-part}
-use Rattle.geometry.specs.Geometry.{bytes}
-use Rattle.volume.specs.Name.{nameOf}
-use Rattle.control.specs.Block.{position}
-use Rattle.answers.specs.declared.Refusal.the-variants.{Absent}
-use Rattle.answers.specs.declared.Answer.{Answer}
-use Rattle.answers.specs.declared.Answer.the-variants.{Refused, Several}
-use Rattle.answers.specs.Refusal.{Test, refusalNumber, isNone, firstMet}
-use Rattle.answers.specs.Answer.{numberOf, succeeded, whyOf}
-use Rattle.answers.proofs.Ladder.{ladder-stop, ladder-pass}
-use Rattle.reading.specs.Read.{readTests}
-use Rattle.deciding.specs.Write.{writeTests}
+use Rattle.disk_geometry.specs.Geometry.{bytes}
+use Rattle.disk_volume.specs.Name.{nameOf}
+use Rattle.call_fcb.specs.Block.{position}
+use Rattle.call_answers.specs.declared.Refusal.the-variants.{Absent}
+use Rattle.call_answers.specs.declared.Answer.{Answer}
+use Rattle.call_answers.specs.declared.Answer.the-variants.{Refused, Several}
+use Rattle.call_answers.specs.Refusal.{Test, refusalNumber, isNone, firstMet}
+use Rattle.call_answers.specs.Answer.{numberOf, succeeded, whyOf}
+use Rattle.call_answers.proofs.Ladder.{ladder-stop, ladder-pass}
+use Rattle.call_read.specs.Read.{readTests}
+use Rattle.call_decide.specs.Write.{writeTests}
 use Rattle.filecalls.specs.declared.Drive.{Drive}
 use Rattle.filecalls.specs.Tests.{closedState, volumeLength, blockLength, bufferLength}
 use Rattle.filecalls.specs.Outcome.{Outcome, unless, outcome}
@@ -31,8 +31,8 @@ use Rattle.lent.specs.Lent.{severalTests}
 use Rattle.several.proofs.SinglesLaws.{piece-answer, first-refused, first-done, stop-number}
 use Rattle.several.proofs.SeveralLaws.{several-refused, several-passed}
 use Rattle.lent.proofs.LentLaws.{Lent, lent}
-use Rattle.served.specs.declared.Call.the-variants.{Moves}
-use Rattle.served.specs.declared.Transfer.the-variants.{ReadSequential, WriteSequential, ReadSeveral, WriteSeveral}
+use Rattle.call_served.specs.declared.Call.the-variants.{Moves}
+use Rattle.call_served.specs.declared.Transfer.the-variants.{ReadSequential, WriteSequential, ReadSeveral, WriteSeveral}
 use Rattle.demands.specs.Order.{numbersOf, reasons, blockTests, refusalsOf, among, answersOf}
 use Rattle.demands.proofs.Says.{Says, number-among}
 

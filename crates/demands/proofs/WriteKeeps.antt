@@ -12,29 +12,29 @@ use lib.ListN.{length}
 use borrow.Author.Tests.{ltb-true, ltb-false, eqb-true, eq-eqb}
 use Rattle.lists.specs.Bytes.{byte}
 use Rattle.lists.proofs.BoolLaws.{and-left, and-right}
-use Rattle.geometry.specs.declared.Geometry.{Geometry}
-use Rattle.volume.specs.declared.Wanted.the-variants.{Empty, File, Group}
-use Rattle.geometry.specs.Geometry.{lawful, bytes, slots, inside, groupOf, placeOf, places}
-use Rattle.volume.specs.Name.{nameOf, same}
-use Rattle.volume.specs.Entry.{Entry, isEmpty, extent, blockIn, ofFile, ofGroup}
-use Rattle.volume.specs.Directory.{slotAt, findSlot}
-use Rattle.volume.specs.Record.{recordSlot, recordBlock, recordAt}
-use Rattle.volume.proofs.FindLaws.{found-fits, not-found}
-use Rattle.geometry.proofs.GeometryLaws.{bounds, place-lt}
-use Rattle.volume.proofs.DirectoryLaws.{slot-length}
-use Rattle.blocks.specs.Held.{holds, hold}
-use Rattle.blocks.proofs.HoldLaws.{length-hold, holds-hold-same, holds-hold-other}
-use Rattle.answers.specs.Refusal.{isNone, firstMet}
-use Rattle.goodslots.proofs.TwinLaws.{Twins}
-use Rattle.deciding.specs.Write.{hasGroup, writeSlot, baseEntry, needsBlock, writeBlock, writeTests}
-use Rattle.entries.specs.Grown.{likeEntry}
-use Rattle.entries.specs.Alloc.{alloc}
-use Rattle.deciding.specs.WritePlan.{entryAfter, volumeAfter, heldAfter}
-use Rattle.entries.proofs.AllocLaws.{alloc-given}
-use Rattle.entries.proofs.GrowLaws.{written-block, written-other}
-use Rattle.deciding.proofs.WriteLaws.{length-base, write-passed}
-use Rattle.geometry.proofs.InsideLaws.{is-inside}
-use Rattle.writing.proofs.AfterLaws.{after-file, after-group, after-size, after-slot, after-slot-other, after-record-other}
+use Rattle.disk_geometry.specs.declared.Geometry.{Geometry}
+use Rattle.disk_volume.specs.declared.Wanted.the-variants.{Empty, File, Group}
+use Rattle.disk_geometry.specs.Geometry.{lawful, bytes, slots, inside, groupOf, placeOf, places}
+use Rattle.disk_volume.specs.Name.{nameOf, same}
+use Rattle.disk_volume.specs.Entry.{Entry, isEmpty, extent, blockIn, ofFile, ofGroup}
+use Rattle.disk_volume.specs.Directory.{slotAt, findSlot}
+use Rattle.disk_volume.specs.Record.{recordSlot, recordBlock, recordAt}
+use Rattle.disk_volume.proofs.FindLaws.{found-fits, not-found}
+use Rattle.disk_geometry.proofs.GeometryLaws.{bounds, place-lt}
+use Rattle.disk_volume.proofs.DirectoryLaws.{slot-length}
+use Rattle.disk_held.specs.Held.{holds, hold}
+use Rattle.disk_held.proofs.HoldLaws.{length-hold, holds-hold-same, holds-hold-other}
+use Rattle.call_answers.specs.Refusal.{isNone, firstMet}
+use Rattle.disk_rules.proofs.TwinLaws.{Twins}
+use Rattle.call_decide.specs.Write.{hasGroup, writeSlot, baseEntry, needsBlock, writeBlock, writeTests}
+use Rattle.call_entry.specs.Grown.{likeEntry}
+use Rattle.call_entry.specs.Alloc.{alloc}
+use Rattle.call_decide.specs.WritePlan.{entryAfter, volumeAfter, heldAfter}
+use Rattle.call_entry.proofs.AllocLaws.{alloc-given}
+use Rattle.call_entry.proofs.GrowLaws.{written-block, written-other}
+use Rattle.call_decide.proofs.WriteLaws.{length-base, write-passed}
+use Rattle.disk_geometry.proofs.InsideLaws.{is-inside}
+use Rattle.call_write.proofs.AfterLaws.{after-file, after-group, after-size, after-slot, after-slot-other, after-record-other}
 use Rattle.demands.proofs.Orderly.{Live, InOrder, Orderly, Laid, Fresh, Held, InMap, HeldAnew, sound-laid, held-laid}
 use Rattle.demands.proofs.Frame.{Touch, unchanged, foreign, Apart}
 use Rattle.demands.proofs.Files.{IsOf, is-of, of-file, other-file, user-live, file-live, file-block, empty-foreign}

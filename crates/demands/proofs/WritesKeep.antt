@@ -6,14 +6,14 @@ use Prim.Native.Nat.{ℕ, _+_, _%_, _<_}
 use native.Mathlib.Omega.{arith}
 use lib.Dec.{eqb}
 use lib.ListN.{length}
-use Rattle.volume.specs.Name.{nameOf, same}
-use Rattle.blocks.specs.Held.{hold}
-use Rattle.control.specs.Block.{position, random}
-use Rattle.answers.specs.declared.Refusal.the-variants.{Protected}
-use Rattle.answers.specs.Refusal.{isNone, firstMet}
-use Rattle.answers.proofs.Ladder.{unmet}
-use Rattle.deciding.specs.Write.{needsBlock, writeBlock, writeTests}
-use Rattle.deciding.specs.WritePlan.{volumeAfter}
+use Rattle.disk_volume.specs.Name.{nameOf, same}
+use Rattle.disk_held.specs.Held.{hold}
+use Rattle.call_fcb.specs.Block.{position, random}
+use Rattle.call_answers.specs.declared.Refusal.the-variants.{Protected}
+use Rattle.call_answers.specs.Refusal.{isNone, firstMet}
+use Rattle.call_answers.proofs.Ladder.{unmet}
+use Rattle.call_decide.specs.Write.{needsBlock, writeBlock, writeTests}
+use Rattle.call_decide.specs.WritePlan.{volumeAfter}
 use Rattle.filecalls.specs.declared.Drive.{Drive}
 use Rattle.filecalls.specs.Ready.{Open}
 use Rattle.filecalls.specs.Outcome.{keeps, takes, stored, storedAll, changedState, withHeld}

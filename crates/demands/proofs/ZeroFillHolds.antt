@@ -8,22 +8,22 @@ use Prim.Native.Nat.{ℕ, _+_, _*_, _/_, _%_}
 use native.Mathlib.Nat.{div-add-mod'}
 use lib.ListN.{length, replicate}
 use Rattle.lists.specs.Bytes.{byte}
-use Rattle.geometry.specs.declared.Geometry.{Geometry}
-use Rattle.volume.specs.declared.Wanted.the-variants.{Group}
-use Rattle.geometry.specs.Geometry.{bytes, records}
-use Rattle.volume.specs.Name.{nameOf}
-use Rattle.volume.specs.Entry.{Entry, blockIn}
-use Rattle.volume.specs.Directory.{slotAt, findSlot}
-use Rattle.volume.specs.Record.{recordSlot, recordBlock, recordAt, OffBlock}
-use Rattle.geometry.proofs.GeometryLaws.{same-place, same-group}
-use Rattle.control.specs.Block.{random, setTo}
-use Rattle.answers.specs.declared.Answer.the-variants.{Done, Refused}
-use Rattle.answers.specs.Refusal.{Test, isNone, firstMet}
-use Rattle.answers.specs.Answer.{succeeded}
-use Rattle.reading.specs.Read.{readBlock, readBytes}
-use Rattle.deciding.specs.Write.{writeSlot}
-use Rattle.deciding.specs.WritePlan.{entryAfter, volumeAfter, heldAfter}
-use Rattle.writing.proofs.AfterLaws.{after-size, after-byte, after-block, after-slot, after-recordSlot, after-record-within}
+use Rattle.disk_geometry.specs.declared.Geometry.{Geometry}
+use Rattle.disk_volume.specs.declared.Wanted.the-variants.{Group}
+use Rattle.disk_geometry.specs.Geometry.{bytes, records}
+use Rattle.disk_volume.specs.Name.{nameOf}
+use Rattle.disk_volume.specs.Entry.{Entry, blockIn}
+use Rattle.disk_volume.specs.Directory.{slotAt, findSlot}
+use Rattle.disk_volume.specs.Record.{recordSlot, recordBlock, recordAt, OffBlock}
+use Rattle.disk_geometry.proofs.GeometryLaws.{same-place, same-group}
+use Rattle.call_fcb.specs.Block.{random, setTo}
+use Rattle.call_answers.specs.declared.Answer.the-variants.{Done, Refused}
+use Rattle.call_answers.specs.Refusal.{Test, isNone, firstMet}
+use Rattle.call_answers.specs.Answer.{succeeded}
+use Rattle.call_read.specs.Read.{readBlock, readBytes}
+use Rattle.call_decide.specs.Write.{writeSlot}
+use Rattle.call_decide.specs.WritePlan.{entryAfter, volumeAfter, heldAfter}
+use Rattle.call_write.proofs.AfterLaws.{after-size, after-byte, after-block, after-slot, after-recordSlot, after-record-within}
 use Rattle.filecalls.specs.declared.Drive.{Drive}
 use Rattle.filecalls.specs.Outcome.{Outcome, outcome, withHeld}
 use Rattle.filecalls.specs.Read.{randomTests}
@@ -31,7 +31,7 @@ use Rattle.filecalls.specs.Write.{directoryTests, writeDone, writeDirectAct, wr
 use Rattle.filecalls.proofs.OutcomeLaws as laws
 use Rattle.filecalls.proofs.WriteLaws.{leaves}
 use Rattle.bdos.specs.Step.{carries, does, step}
-use Rattle.served.specs.Calls.{callOf}
+use Rattle.call_served.specs.Calls.{callOf}
 use Rattle.demands.specs.ZeroFill.{gives, blockOf, ZeroFill}
 use Rattle.demands.proofs.Demand2Writes.{Clear, clear-random}
 

@@ -8,18 +8,18 @@ use mathlib.Core.Bool.{true, false}
 use mathlib.Core.Logic.{_≢_}
 use mathlib.Core.List.{List, [], _∷_}
 use Prim.Native.Nat.{ℕ}
-use Rattle.geometry.specs.declared.Geometry.{Geometry}
-use Rattle.answers.specs.declared.Answer.{Answer}
-use Rattle.answers.specs.Refusal.{Test, refusalNumber, isNone, firstMet}
-use Rattle.answers.specs.Answer.{numberOf, succeeded}
+use Rattle.disk_geometry.specs.declared.Geometry.{Geometry}
+use Rattle.call_answers.specs.declared.Answer.{Answer}
+use Rattle.call_answers.specs.Refusal.{Test, refusalNumber, isNone, firstMet}
+use Rattle.call_answers.specs.Answer.{numberOf, succeeded}
 use Rattle.filecalls.specs.declared.Drive.{Drive}
 use Rattle.filecalls.specs.Outcome.{Outcome}
 use Rattle.filecalls.specs.State.{closed}
-use Rattle.served.specs.declared.Call.{Call}
-use Rattle.served.specs.declared.Call.the-variants.{LogIn, Unserved}
+use Rattle.call_served.specs.declared.Call.{Call}
+use Rattle.call_served.specs.declared.Call.the-variants.{LogIn, Unserved}
 use Rattle.bdos.specs.Step.{step}
-use Rattle.served.specs.Asked.{Asked}
-use Rattle.served.specs.Calls.{callOf}
+use Rattle.call_served.specs.Asked.{Asked}
+use Rattle.call_served.specs.Calls.{callOf}
 use Rattle.demands.specs.Order.{paperTable, numbersOf, reasons, inOrder, testsOf, refusalsOf, among, answersOf}
 
 -- ---- what the statement is written with

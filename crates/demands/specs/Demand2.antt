@@ -11,27 +11,27 @@ use mathlib.Core.List.{List, [], _∷_}
 use Prim.Native.Nat.{ℕ, _+_, _-_, _≤_, _<_}
 use lib.ListN.{length, getD}
 use Rattle.lists.specs.Search.{countFrom}
-use Rattle.geometry.specs.declared.Geometry.{Geometry}
-use Rattle.geometry.specs.Geometry.{lawful, bytes, slots}
-use Rattle.volume.specs.Name.{nameOf}
-use Rattle.volume.specs.Record.{present}
-use Rattle.control.specs.Block.{position, random}
-use Rattle.blocks.specs.Held.{holds}
-use Rattle.answers.specs.Refusal.{Test, isNone, firstMet}
-use Rattle.answers.specs.Answer.{numberOf, valueOf, succeeded}
-use Rattle.goodslots.specs.GoodSlot.{namedBelow, goodSlot, lowestBad}
-use Rattle.goodslots.specs.Named.{named}
-use Rattle.reading.specs.Read.{readBytes}
-use Rattle.deciding.specs.Write.{needsBlock}
+use Rattle.disk_geometry.specs.declared.Geometry.{Geometry}
+use Rattle.disk_geometry.specs.Geometry.{lawful, bytes, slots}
+use Rattle.disk_volume.specs.Name.{nameOf}
+use Rattle.disk_volume.specs.Record.{present}
+use Rattle.call_fcb.specs.Block.{position, random}
+use Rattle.disk_held.specs.Held.{holds}
+use Rattle.call_answers.specs.Refusal.{Test, isNone, firstMet}
+use Rattle.call_answers.specs.Answer.{numberOf, valueOf, succeeded}
+use Rattle.disk_rules.specs.GoodSlot.{namedBelow, goodSlot, lowestBad}
+use Rattle.disk_rules.specs.Named.{named}
+use Rattle.call_read.specs.Read.{readBytes}
+use Rattle.call_decide.specs.Write.{needsBlock}
 use Rattle.filecalls.specs.declared.Drive.{Drive}
 use Rattle.filecalls.specs.declared.Reply.{Reply}
 use Rattle.filecalls.specs.Outcome.{left}
 use Rattle.filecalls.specs.Read.{sequentialTests, randomTests}
-use Rattle.served.specs.declared.Call.{Call}
-use Rattle.served.specs.declared.Call.the-variants.{LogIn, Moves}
-use Rattle.served.specs.declared.Transfer.the-variants.{ReadSequential, WriteSequential, ReadRandom, WriteRandom, WriteZeroFill}
+use Rattle.call_served.specs.declared.Call.{Call}
+use Rattle.call_served.specs.declared.Call.the-variants.{LogIn, Moves}
+use Rattle.call_served.specs.declared.Transfer.the-variants.{ReadSequential, WriteSequential, ReadRandom, WriteRandom, WriteZeroFill}
 use Rattle.bdos.specs.Step.{step}
-use Rattle.served.specs.Asked.{Asked, asked}
+use Rattle.call_served.specs.Asked.{Asked, asked}
 use Rattle.demands.specs.Demand1.{call, tests, answer}
 
 -- ---- what the statement is written with

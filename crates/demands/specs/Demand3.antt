@@ -17,23 +17,23 @@ use Prim.Native.Nat.{ℕ, _≤_, _<_}
 use lib.Dec.{eqb}
 use lib.ListN.{length}
 use Rattle.lists.specs.Bytes.{byte}
-use Rattle.geometry.specs.declared.Geometry.{Geometry}
-use Rattle.geometry.specs.Geometry.{lawful, bytes, slots, places}
-use Rattle.volume.specs.Name.{nameOf, same, like}
-use Rattle.volume.specs.Entry.{isEmpty, blockIn}
-use Rattle.volume.specs.Directory.{slotAt}
-use Rattle.volume.specs.Record.{present}
-use Rattle.control.specs.Block.{newName}
-use Rattle.answers.specs.Answer.{succeeded}
-use Rattle.goodslots.specs.GoodSlot.{lowestBad}
-use Rattle.reading.specs.Read.{readBytes}
+use Rattle.disk_geometry.specs.declared.Geometry.{Geometry}
+use Rattle.disk_geometry.specs.Geometry.{lawful, bytes, slots, places}
+use Rattle.disk_volume.specs.Name.{nameOf, same, like}
+use Rattle.disk_volume.specs.Entry.{isEmpty, blockIn}
+use Rattle.disk_volume.specs.Directory.{slotAt}
+use Rattle.disk_volume.specs.Record.{present}
+use Rattle.call_fcb.specs.Block.{newName}
+use Rattle.call_answers.specs.Answer.{succeeded}
+use Rattle.disk_rules.specs.GoodSlot.{lowestBad}
+use Rattle.call_read.specs.Read.{readBytes}
 use Rattle.filecalls.specs.declared.Drive.{Drive}
-use Rattle.served.specs.declared.Call.{Call}
-use Rattle.served.specs.declared.Call.the-variants.{LogIn, Open, Close, SearchFirst, SearchNext, Delete, Make, Rename, Protect, Attributes, User, Size, SetRandom, Moves, Unserved}
-use Rattle.served.specs.declared.Transfer.the-variants.{ReadSequential, WriteSequential, ReadRandom, WriteRandom, WriteZeroFill, ReadSeveral, WriteSeveral}
+use Rattle.call_served.specs.declared.Call.{Call}
+use Rattle.call_served.specs.declared.Call.the-variants.{LogIn, Open, Close, SearchFirst, SearchNext, Delete, Make, Rename, Protect, Attributes, User, Size, SetRandom, Moves, Unserved}
+use Rattle.call_served.specs.declared.Transfer.the-variants.{ReadSequential, WriteSequential, ReadRandom, WriteRandom, WriteZeroFill, ReadSeveral, WriteSeveral}
 use Rattle.bdos.specs.Step.{step}
-use Rattle.served.specs.Asked.{Asked}
-use Rattle.served.specs.Calls.{callOf}
+use Rattle.call_served.specs.Asked.{Asked}
+use Rattle.call_served.specs.Calls.{callOf}
 use Rattle.demands.specs.Run.{answers, final, plainStep}
 
 -- bytes are below 256

@@ -4,13 +4,13 @@ use mathlib.Core.Bool.{Bool, true, false, cond, _||_}
 use mathlib.Core.List.{List, [], _∷_, _++_}
 use Prim.Native.Nat.{ℕ}
 use lib.Dec.{ltb, eqb}
-use Rattle.geometry.specs.declared.Geometry.{Geometry}
-use Rattle.volume.specs.Name.{nameOf}
-use Rattle.control.specs.Block.{position, positionFits, random}
-use Rattle.answers.specs.declared.Refusal.{Refusal}
-use Rattle.answers.specs.declared.Refusal.the-variants.{None, NotServed, Closed, VolumeLength, BlockLength, BadCount, BufferLength, DriveCode, UserCode, Name, Untypeable, Position, Beyond, BadSlot, Protected, NoMatch, NoFile, ReadOnly, Exists, NoGroup, Absent, Outside, NoSlot, NoRoom, NoBlock}
-use Rattle.answers.specs.Refusal.{refusalNumber, Test, test}
-use Rattle.reading.specs.Read.{readTests}
+use Rattle.disk_geometry.specs.declared.Geometry.{Geometry}
+use Rattle.disk_volume.specs.Name.{nameOf}
+use Rattle.call_fcb.specs.Block.{position, positionFits, random}
+use Rattle.call_answers.specs.declared.Refusal.{Refusal}
+use Rattle.call_answers.specs.declared.Refusal.the-variants.{None, NotServed, Closed, VolumeLength, BlockLength, BadCount, BufferLength, DriveCode, UserCode, Name, Untypeable, Position, Beyond, BadSlot, Protected, NoMatch, NoFile, ReadOnly, Exists, NoGroup, Absent, Outside, NoSlot, NoRoom, NoBlock}
+use Rattle.call_answers.specs.Refusal.{refusalNumber, Test, test}
+use Rattle.call_read.specs.Read.{readTests}
 use Rattle.filecalls.specs.declared.Drive.{Drive}
 use Rattle.filecalls.specs.Tests.{driveCode, badName, tooLarge, beyond}
 use Rattle.filecalls.specs.LogIn.{logInTests}
@@ -21,9 +21,9 @@ use Rattle.filecalls.specs.Read.{sequentialTests, randomTests}
 use Rattle.filecalls.specs.Write.{directoryTests}
 use Rattle.filecalls.specs.Small.{protectTests, userTests, setRandomTests}
 use Rattle.lent.specs.Lent.{severalTests}
-use Rattle.served.specs.declared.Call.{Call}
-use Rattle.served.specs.declared.Call.the-variants.{LogIn, Open, Close, SearchFirst, SearchNext, Delete, Make, Rename, Protect, Attributes, User, Size, SetRandom, Moves, Unserved}
-use Rattle.served.specs.declared.Transfer.the-variants.{ReadSequential, WriteSequential, ReadRandom, WriteRandom, WriteZeroFill, ReadSeveral, WriteSeveral}
+use Rattle.call_served.specs.declared.Call.{Call}
+use Rattle.call_served.specs.declared.Call.the-variants.{LogIn, Open, Close, SearchFirst, SearchNext, Delete, Make, Rename, Protect, Attributes, User, Size, SetRandom, Moves, Unserved}
+use Rattle.call_served.specs.declared.Transfer.the-variants.{ReadSequential, WriteSequential, ReadRandom, WriteRandom, WriteZeroFill, ReadSeveral, WriteSeveral}
 
 -- the paper's table from top to bottom, 46 "straight before 35" and 45 "straight after 39"; "5 .. make answers 255 here" is two
 -- cases of one row

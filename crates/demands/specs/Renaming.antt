@@ -12,15 +12,15 @@ use Prim.Native.Nat.{ℕ, _≤_, _<_}
 use lib.Dec.{ltb}
 use lib.ListN.{length}
 use Rattle.lists.specs.Bytes.{byte}
-use Rattle.volume.specs.declared.Wanted.the-variants.{File, ReadOnlyFile}
-use Rattle.geometry.specs.Geometry.{bytes, slots}
-use Rattle.volume.specs.Name.{topBit, nameOf, same, goodName}
-use Rattle.typing.specs.Typing.{typeable}
-use Rattle.volume.specs.Entry.{Entry}
-use Rattle.volume.specs.Directory.{slotAt, findSlot}
-use Rattle.control.specs.Block.{newName}
-use Rattle.answers.specs.declared.Answer.the-variants.{Done}
-use Rattle.goodslots.specs.GoodSlot.{lowestBad}
+use Rattle.disk_volume.specs.declared.Wanted.the-variants.{File, ReadOnlyFile}
+use Rattle.disk_geometry.specs.Geometry.{bytes, slots}
+use Rattle.disk_volume.specs.Name.{topBit, nameOf, same, goodName}
+use Rattle.call_typing.specs.Typing.{typeable}
+use Rattle.disk_volume.specs.Entry.{Entry}
+use Rattle.disk_volume.specs.Directory.{slotAt, findSlot}
+use Rattle.call_fcb.specs.Block.{newName}
+use Rattle.call_answers.specs.declared.Answer.the-variants.{Done}
+use Rattle.disk_rules.specs.GoodSlot.{lowestBad}
 use Rattle.filecalls.specs.declared.Drive.{Drive}
 use Rattle.filecalls.specs.State.{isOpen}
 use Rattle.filecalls.specs.Outcome.{Outcome, outcome}

@@ -10,19 +10,19 @@ use native.Mathlib.Omega.{arith}
 use lib.ListN.{replicate, set}
 use Rattle.lists.specs.Search.{lowFrom, anyFrom, everyFrom, countFrom, fold}
 use Rattle.lists.specs.Bytes.{byte, part, put, all}
-use Rattle.geometry.specs.declared.Geometry.{Geometry}
-use Rattle.geometry.specs.Geometry.{lawful, start, slotStart, groupOf, inside, places}
-use Rattle.volume.specs.Name.{strip, nameAt, same, goodName}
-use Rattle.typing.specs.Typing.{typeableByte, blankBefore, typeable}
-use Rattle.volume.specs.Entry.{Entry, blockIn, ofFile, ofGroup}
-use Rattle.volume.specs.Directory.{slotAt, putSlot, findSlot, mapSlot}
-use Rattle.blocks.specs.Held.{digit, holds, wordOf, wordsOf, freeCount}
-use Rattle.answers.specs.declared.Answer.the-variants.{Done, Ready}
-use Rattle.answers.specs.Refusal.{firstMet}
-use Rattle.goodslots.specs.GoodSlot.{goodFields, goodTopBits, inPlaces, names, namedBelow, goodPlace, seenBelow, goodSlot, lowestBad}
-use Rattle.goodslots.specs.Named.{named, heldOf}
-use Rattle.sweeping.specs.Sweep.{renamed, changed}
-use Rattle.naming.specs.Rename.{renameTests}
+use Rattle.disk_geometry.specs.declared.Geometry.{Geometry}
+use Rattle.disk_geometry.specs.Geometry.{lawful, start, slotStart, groupOf, inside, places}
+use Rattle.disk_volume.specs.Name.{strip, nameAt, same, goodName}
+use Rattle.call_typing.specs.Typing.{typeableByte, blankBefore, typeable}
+use Rattle.disk_volume.specs.Entry.{Entry, blockIn, ofFile, ofGroup}
+use Rattle.disk_volume.specs.Directory.{slotAt, putSlot, findSlot, mapSlot}
+use Rattle.disk_held.specs.Held.{digit, holds, wordOf, wordsOf, freeCount}
+use Rattle.call_answers.specs.declared.Answer.the-variants.{Done, Ready}
+use Rattle.call_answers.specs.Refusal.{firstMet}
+use Rattle.disk_rules.specs.GoodSlot.{goodFields, goodTopBits, inPlaces, names, namedBelow, goodPlace, seenBelow, goodSlot, lowestBad}
+use Rattle.disk_rules.specs.Named.{named, heldOf}
+use Rattle.call_sweep.specs.Sweep.{renamed, changed}
+use Rattle.call_rename.specs.Rename.{renameTests}
 use Rattle.filecalls.specs.declared.Drive.{Drive}
 use Rattle.filecalls.specs.State.{isOpen, loggedIn}
 use Rattle.filecalls.specs.Outcome.{Outcome, outcome, unless, stored, storedAll, changedState}

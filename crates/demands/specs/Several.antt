@@ -4,11 +4,11 @@
 use mathlib.Core.Path.{_≡_}
 use mathlib.Core.List.{List}
 use Prim.Native.Nat.{ℕ}
-use Rattle.geometry.specs.declared.Geometry.{Geometry}
+use Rattle.disk_geometry.specs.declared.Geometry.{Geometry}
 use Rattle.filecalls.specs.declared.Drive.{Drive}
 use Rattle.several.specs.Several.{Single, several}
 use Rattle.bdos.specs.Step.{step}
-use Rattle.served.specs.Asked.{asked}
+use Rattle.call_served.specs.Asked.{asked}
 
 -- the call of this number at the door, as a single call
 abbrev pub atDoor : Geometry → ℕ → ℕ → Single

@@ -4,12 +4,12 @@
 use mathlib.Core.Path.{_≡_}
 use mathlib.Core.List.{List, [], _∷_}
 use Prim.Native.Nat.{ℕ}
-use Rattle.geometry.specs.declared.Geometry.{Geometry}
+use Rattle.disk_geometry.specs.declared.Geometry.{Geometry}
 use Rattle.filecalls.specs.declared.Drive.{Drive}
 use Rattle.filecalls.specs.declared.Reply.{Reply}
 use Rattle.filecalls.specs.Outcome.{left}
 use Rattle.bdos.specs.Step.{step}
-use Rattle.served.specs.Asked.{Asked}
+use Rattle.call_served.specs.Asked.{Asked}
 use Rattle.demands.specs.Run.{Seen, answers, final}
 
 -- the calls, the state and the volume that they begin with, what is seen of each, and the volume at the end

@@ -9,28 +9,28 @@ use lib.Dec.{eqb}
 use lib.ListN.{replicate, set}
 use Rattle.lists.specs.Search.{lowFrom, anyFrom, everyFrom, countFrom, fold, every}
 use Rattle.lists.specs.Bytes.{byte, part, put, all}
-use Rattle.geometry.specs.declared.Geometry.{Geometry}
-use Rattle.geometry.specs.Geometry.{lawful, start, slots, slotStart, recordStart, groupOf, placeOf, inside, places}
-use Rattle.volume.specs.Name.{strip, nameAt, nameOf, same, like, goodName}
-use Rattle.typing.specs.Typing.{typeableByte, blankBefore, typeable}
-use Rattle.volume.specs.Entry.{isEmpty, blockIn, withBlock, countOf, ofFile, ofGroup, matches}
-use Rattle.volume.specs.Directory.{slotAt, putSlot, findSlot, mapSlot}
-use Rattle.volume.specs.Record.{recordSlot, counted, present, recordAt, putRecord, fillRecord, putFilled}
-use Rattle.blocks.specs.Held.{digit, holds, hold, release, wordOf, wordsOf, lowestFree, freeCount}
-use Rattle.control.specs.Block.{random, setTo, made}
-use Rattle.answers.specs.declared.Refusal.the-variants.{NotServed}
-use Rattle.answers.specs.declared.Answer.the-variants.{Refused, Ready}
-use Rattle.answers.specs.Refusal.{firstMet}
-use Rattle.answers.specs.Answer.{succeeded}
-use Rattle.goodslots.specs.GoodSlot.{goodFields, goodTopBits, inPlaces, names, namedBelow, goodPlace, seenBelow, goodSlot, lowestBad}
-use Rattle.goodslots.specs.Named.{named, heldOf}
-use Rattle.reading.specs.Read.{readBlock, readTests, readBytes}
-use Rattle.sweeping.specs.Sweep.{changed}
-use Rattle.deleting.specs.Delete.{deleteTests, freePlace, freeEntry, freeSlot, freeMatches}
-use Rattle.making.specs.Make.{makeTests, freshEntry}
-use Rattle.deciding.specs.Write.{writeSlot, baseEntry, needsBlock, writeBlock, writeTests}
-use Rattle.entries.specs.Grown.{likeEntry, grown, writtenEntry}
-use Rattle.entries.specs.Alloc.{alloc}
+use Rattle.disk_geometry.specs.declared.Geometry.{Geometry}
+use Rattle.disk_geometry.specs.Geometry.{lawful, start, slots, slotStart, recordStart, groupOf, placeOf, inside, places}
+use Rattle.disk_volume.specs.Name.{strip, nameAt, nameOf, same, like, goodName}
+use Rattle.call_typing.specs.Typing.{typeableByte, blankBefore, typeable}
+use Rattle.disk_volume.specs.Entry.{isEmpty, blockIn, withBlock, countOf, ofFile, ofGroup, matches}
+use Rattle.disk_volume.specs.Directory.{slotAt, putSlot, findSlot, mapSlot}
+use Rattle.disk_volume.specs.Record.{recordSlot, counted, present, recordAt, putRecord, fillRecord, putFilled}
+use Rattle.disk_held.specs.Held.{digit, holds, hold, release, wordOf, wordsOf, lowestFree, freeCount}
+use Rattle.call_fcb.specs.Block.{random, setTo, made}
+use Rattle.call_answers.specs.declared.Refusal.the-variants.{NotServed}
+use Rattle.call_answers.specs.declared.Answer.the-variants.{Refused, Ready}
+use Rattle.call_answers.specs.Refusal.{firstMet}
+use Rattle.call_answers.specs.Answer.{succeeded}
+use Rattle.disk_rules.specs.GoodSlot.{goodFields, goodTopBits, inPlaces, names, namedBelow, goodPlace, seenBelow, goodSlot, lowestBad}
+use Rattle.disk_rules.specs.Named.{named, heldOf}
+use Rattle.call_read.specs.Read.{readBlock, readTests, readBytes}
+use Rattle.call_sweep.specs.Sweep.{changed}
+use Rattle.call_delete.specs.Delete.{deleteTests, freePlace, freeEntry, freeSlot, freeMatches}
+use Rattle.call_make.specs.Make.{makeTests, freshEntry}
+use Rattle.call_decide.specs.Write.{writeSlot, baseEntry, needsBlock, writeBlock, writeTests}
+use Rattle.call_entry.specs.Grown.{likeEntry, grown, writtenEntry}
+use Rattle.call_entry.specs.Alloc.{alloc}
 use Rattle.filecalls.specs.declared.Drive.{Drive}
 use Rattle.filecalls.specs.Outcome.{Outcome, unless, outcome, left, withHeld, stored, storedAll, changedState}
 use Rattle.filecalls.specs.State.{isOpen, closed, loggedIn}
@@ -39,8 +39,8 @@ use Rattle.filecalls.specs.Names.{deleteLadder, deleteAct, makeLadder, makeAct}
 use Rattle.filecalls.specs.Read.{randomTests, readDone, readRandomAct}
 use Rattle.filecalls.specs.Write.{writeEntry, writeChange, writeDone, writeRandomAct, writeZeroFillAct}
 use Rattle.bdos.specs.Step.{carries, does, step}
-use Rattle.served.specs.Asked.{Asked, asked}
-use Rattle.served.specs.Calls.{callOf}
+use Rattle.call_served.specs.Asked.{Asked, asked}
+use Rattle.call_served.specs.Calls.{callOf}
 
 -- ---- a way to do the calls, and the wrong ones
 abbrev pub Way : Type 0

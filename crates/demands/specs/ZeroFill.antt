@@ -9,17 +9,17 @@ use mathlib.Core.List.{List}
 use Prim.Native.Nat.{ℕ, _/_, _%_}
 use lib.ListN.{length, replicate}
 use Rattle.lists.specs.Bytes.{byte}
-use Rattle.geometry.specs.declared.Geometry.{Geometry}
-use Rattle.geometry.specs.Geometry.{records}
-use Rattle.volume.specs.Name.{nameOf}
-use Rattle.volume.specs.Record.{recordAt, OffBlock}
-use Rattle.control.specs.Block.{random}
-use Rattle.answers.specs.Answer.{succeeded}
-use Rattle.deciding.specs.Write.{needsBlock, writeBlock}
+use Rattle.disk_geometry.specs.declared.Geometry.{Geometry}
+use Rattle.disk_geometry.specs.Geometry.{records}
+use Rattle.disk_volume.specs.Name.{nameOf}
+use Rattle.disk_volume.specs.Record.{recordAt, OffBlock}
+use Rattle.call_fcb.specs.Block.{random}
+use Rattle.call_answers.specs.Answer.{succeeded}
+use Rattle.call_decide.specs.Write.{needsBlock, writeBlock}
 use Rattle.filecalls.specs.declared.Drive.{Drive}
 use Rattle.filecalls.specs.Outcome.{Outcome}
 use Rattle.bdos.specs.Step.{step}
-use Rattle.served.specs.Asked.{asked}
+use Rattle.call_served.specs.Asked.{asked}
 use Rattle.demands.specs.Demand2.{Present}
 
 -- what is asked of both: geometry and parameter, which they don't look at, state, volume, control block and buffer

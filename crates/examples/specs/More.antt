@@ -5,14 +5,14 @@ use mathlib.Core.List.{List, [], _∷_, _++_}
 use Prim.Native.Nat.{ℕ, _+_, _^_}
 use lib.Dec.{ltb, eqb}
 use lib.ListN.{replicate, set}
-use Rattle.geometry.specs.declared.Geometry.{Geometry}
-use Rattle.geometry.specs.Geometry.{lawful}
-use Rattle.volume.specs.Name.{strip, nameAt, goodName}
+use Rattle.disk_geometry.specs.declared.Geometry.{Geometry}
+use Rattle.disk_geometry.specs.Geometry.{lawful}
+use Rattle.disk_volume.specs.Name.{strip, nameAt, goodName}
 use Rattle.lists.specs.Bytes.{part, all}
-use Rattle.blocks.specs.Held.{hold, release, wordsOf, noneHeld, lowestFree, freeCount}
-use Rattle.deleting.specs.Delete.{freeMatches}
-use Rattle.finding.specs.declared.Kept.{Kept}
-use Rattle.finding.specs.declared.Kept.the-variants.{Nothing, Pattern, Everything}
+use Rattle.disk_held.specs.Held.{hold, release, wordsOf, noneHeld, lowestFree, freeCount}
+use Rattle.call_delete.specs.Delete.{freeMatches}
+use Rattle.call_search.specs.declared.Kept.{Kept}
+use Rattle.call_search.specs.declared.Kept.the-variants.{Nothing, Pattern, Everything}
 use Rattle.filecalls.specs.declared.Drive.{Drive}
 use Rattle.filecalls.specs.State.{isOpen}
 use Rattle.examples.specs.Script.{logIn, openFile, closeFile, searchFirst, searchNext, delete, readNext, writeNext, make, rename, protect, attributes, user, read, write, size, setRandom, writeZeroFill, done, free, refused, badSlot, Line, call, altered, slotsAre, heldAre, volumeAt, blockAt, blockIs, bufferIs, Script, script, seen, told}

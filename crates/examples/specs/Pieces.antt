@@ -2,7 +2,7 @@
 use mathlib.Core.List.{List, [], _∷_, _++_}
 use Prim.Native.Nat.{ℕ, zero, suc, _+_, _*_, _/_, _%_}
 use lib.ListN.{replicate, take}
-use Rattle.geometry.specs.declared.Geometry.{Geometry}
+use Rattle.disk_geometry.specs.declared.Geometry.{Geometry}
 
 -- the names SIGLA.TXT and LEMMATA.TXT
 abbrev pub sigla : List ℕ

@@ -7,33 +7,33 @@ use Prim.Native.Nat.{ℕ}
 use lib.ListN.{length}
 use Rattle.lists.specs.Search.{lowFrom, anyFrom, everyFrom, countFrom, fold}
 use Rattle.lists.specs.Bytes.{part, put, all}
-use Rattle.geometry.specs.declared.Geometry.{Geometry}
-use Rattle.geometry.specs.Geometry.{lawful, start, slots, slotStart, recordStart, groupOf, placeOf, inside, places}
-use Rattle.volume.specs.Name.{strip, nameAt, same, like, goodName}
-use Rattle.typing.specs.Typing.{typeableByte, blankBefore, typeable}
-use Rattle.volume.specs.Entry.{blockIn, withBlock, countOf, ofFile, ofGroup, matches}
-use Rattle.volume.specs.Directory.{slotAt, putSlot, findSlot, mapSlot}
-use Rattle.volume.specs.Record.{recordSlot, counted, present, recordAt, putRecord, fillRecord, putFilled, slotRecord}
-use Rattle.blocks.specs.Held.{digit, holds, hold, release, wordOf, wordsOf, lowestFree, freeCount}
-use Rattle.control.specs.Block.{position, random, setTo, opened, made, withRandom}
-use Rattle.answers.specs.declared.Refusal.the-variants.{Closed}
-use Rattle.answers.specs.declared.Answer.{Answer}
-use Rattle.answers.specs.declared.Answer.the-variants.{Refused}
-use Rattle.answers.specs.Refusal.{firstMet}
-use Rattle.answers.specs.Answer.{numberOf, valueOf, succeeded}
-use Rattle.goodslots.specs.GoodSlot.{goodFields, goodTopBits, inPlaces, names, namedBelow, goodPlace, seenBelow, goodSlot, lowestBad}
-use Rattle.goodslots.specs.Named.{named, heldOf}
-use Rattle.openclose.specs.Open.{openSlot, closeSlot}
-use Rattle.finding.specs.Search.{patternOf, hitFrom}
-use Rattle.measuring.specs.Size.{entryEnd, larger, sizeOf}
-use Rattle.reading.specs.Read.{readBlock, readTests, readBytes}
-use Rattle.sweeping.specs.Sweep.{renamed, attributed, changed}
-use Rattle.deleting.specs.Delete.{deleteTests, freePlace, freeEntry, freeSlot, freeMatches}
-use Rattle.making.specs.Make.{makeTests, freshEntry}
-use Rattle.naming.specs.Rename.{renameTests}
-use Rattle.deciding.specs.Write.{writeSlot, baseEntry, needsBlock, writeBlock, writeTests}
-use Rattle.entries.specs.Grown.{likeEntry, grown, writtenEntry}
-use Rattle.entries.specs.Alloc.{alloc}
+use Rattle.disk_geometry.specs.declared.Geometry.{Geometry}
+use Rattle.disk_geometry.specs.Geometry.{lawful, start, slots, slotStart, recordStart, groupOf, placeOf, inside, places}
+use Rattle.disk_volume.specs.Name.{strip, nameAt, same, like, goodName}
+use Rattle.call_typing.specs.Typing.{typeableByte, blankBefore, typeable}
+use Rattle.disk_volume.specs.Entry.{blockIn, withBlock, countOf, ofFile, ofGroup, matches}
+use Rattle.disk_volume.specs.Directory.{slotAt, putSlot, findSlot, mapSlot}
+use Rattle.disk_volume.specs.Record.{recordSlot, counted, present, recordAt, putRecord, fillRecord, putFilled, slotRecord}
+use Rattle.disk_held.specs.Held.{digit, holds, hold, release, wordOf, wordsOf, lowestFree, freeCount}
+use Rattle.call_fcb.specs.Block.{position, random, setTo, opened, made, withRandom}
+use Rattle.call_answers.specs.declared.Refusal.the-variants.{Closed}
+use Rattle.call_answers.specs.declared.Answer.{Answer}
+use Rattle.call_answers.specs.declared.Answer.the-variants.{Refused}
+use Rattle.call_answers.specs.Refusal.{firstMet}
+use Rattle.call_answers.specs.Answer.{numberOf, valueOf, succeeded}
+use Rattle.disk_rules.specs.GoodSlot.{goodFields, goodTopBits, inPlaces, names, namedBelow, goodPlace, seenBelow, goodSlot, lowestBad}
+use Rattle.disk_rules.specs.Named.{named, heldOf}
+use Rattle.call_open.specs.Open.{openSlot, closeSlot}
+use Rattle.call_search.specs.Search.{patternOf, hitFrom}
+use Rattle.call_size.specs.Size.{entryEnd, larger, sizeOf}
+use Rattle.call_read.specs.Read.{readBlock, readTests, readBytes}
+use Rattle.call_sweep.specs.Sweep.{renamed, attributed, changed}
+use Rattle.call_delete.specs.Delete.{deleteTests, freePlace, freeEntry, freeSlot, freeMatches}
+use Rattle.call_make.specs.Make.{makeTests, freshEntry}
+use Rattle.call_rename.specs.Rename.{renameTests}
+use Rattle.call_decide.specs.Write.{writeSlot, baseEntry, needsBlock, writeBlock, writeTests}
+use Rattle.call_entry.specs.Grown.{likeEntry, grown, writtenEntry}
+use Rattle.call_entry.specs.Alloc.{alloc}
 use Rattle.filecalls.specs.declared.Drive.{Drive}
 use Rattle.filecalls.specs.State.{isOpen, closed}
 use Rattle.filecalls.specs.Outcome.{Outcome, outcome, left, unless, stored, storedAll, changedState}

@@ -6,7 +6,7 @@ use mathlib.Core.Path.{_≡_, refl}
 use mathlib.Core.List.{List, [], _∷_, _++_}
 use Prim.Native.Nat.{ℕ, zero, suc}
 use lib.ListN.{replicate}
-use Rattle.geometry.specs.declared.Geometry.{Geometry}
+use Rattle.disk_geometry.specs.declared.Geometry.{Geometry}
 use Rattle.examples.specs.Script.{logIn, make, rename, read, write, size, done, free, refused, Line, call, slotsAre, volumeAt, blockAt, blockIs, bufferIs, Script, script, seen, told}
 use Rattle.examples.specs.Pieces.{sigla, lemmata, sized, entry, empty, control, fresh, recordOf, renaming, filled, old}
 

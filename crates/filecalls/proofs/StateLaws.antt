@@ -7,11 +7,11 @@ use lib.Dec.{leb, eqb}
 use lib.ListN.{length}
 use borrow.Author.Tests.{not-false, eqb-true, leb-true}
 use Rattle.lists.proofs.BoolLaws.{and-parts}
-use Rattle.geometry.specs.Geometry.{lawful, bytes}
-use Rattle.answers.specs.declared.Refusal.{Refusal}
-use Rattle.answers.specs.declared.Refusal.the-variants.{Closed, VolumeLength, BlockLength, BufferLength}
-use Rattle.answers.specs.Refusal.{Test, isNone, firstMet}
-use Rattle.answers.proofs.Ladder.{ladder-stop, ladder-pass, unmet}
+use Rattle.disk_geometry.specs.Geometry.{lawful, bytes}
+use Rattle.call_answers.specs.declared.Refusal.{Refusal}
+use Rattle.call_answers.specs.declared.Refusal.the-variants.{Closed, VolumeLength, BlockLength, BufferLength}
+use Rattle.call_answers.specs.Refusal.{Test, isNone, firstMet}
+use Rattle.call_answers.proofs.Ladder.{ladder-stop, ladder-pass, unmet}
 use Rattle.filecalls.specs.declared.Drive.{Drive}
 use Rattle.filecalls.specs.State.{isOpen}
 use Rattle.filecalls.specs.Tests.{driveCode, badName}

@@ -3,15 +3,15 @@ use mathlib.Core.Path.{_≡_, refl, sym, ap, _∙_}
 use mathlib.Core.Bool.{Bool, true, false, cond}
 use mathlib.Core.List.{List}
 use Prim.Native.Nat.{ℕ}
-use Rattle.volume.specs.Name.{nameOf}
-use Rattle.blocks.specs.Held.{hold}
-use Rattle.control.specs.Block.{setTo}
-use Rattle.answers.specs.declared.Refusal.{Refusal}
-use Rattle.answers.specs.declared.Refusal.the-variants.{Protected}
-use Rattle.answers.specs.declared.Answer.the-variants.{Done, Refused}
-use Rattle.answers.specs.Refusal.{Test, isNone, firstMet}
-use Rattle.deciding.specs.Write.{needsBlock, writeBlock, writeTests}
-use Rattle.deciding.specs.WritePlan.{entryAfter, volumeAfter, heldAfter}
+use Rattle.disk_volume.specs.Name.{nameOf}
+use Rattle.disk_held.specs.Held.{hold}
+use Rattle.call_fcb.specs.Block.{setTo}
+use Rattle.call_answers.specs.declared.Refusal.{Refusal}
+use Rattle.call_answers.specs.declared.Refusal.the-variants.{Protected}
+use Rattle.call_answers.specs.declared.Answer.the-variants.{Done, Refused}
+use Rattle.call_answers.specs.Refusal.{Test, isNone, firstMet}
+use Rattle.call_decide.specs.Write.{needsBlock, writeBlock, writeTests}
+use Rattle.call_decide.specs.WritePlan.{entryAfter, volumeAfter, heldAfter}
 use Rattle.filecalls.specs.declared.Drive.{Drive}
 use Rattle.filecalls.specs.declared.Reply.{Reply}
 use Rattle.filecalls.specs.Outcome.{keeps, takes, deny, unless, outcome, left, withHeld, changedState, stored, storedAll}

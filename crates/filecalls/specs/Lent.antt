@@ -5,11 +5,11 @@ use Prim.Native.Nat.{ℕ}
 use lib.Dec.{ltb, eqb}
 use lib.ListN.{length}
 use Rattle.lists.specs.Bytes.{byte}
-use Rattle.geometry.specs.Geometry.{bytes}
-use Rattle.volume.specs.Name.{nameOf, goodName}
-use Rattle.control.specs.Block.{position, positionFits}
-use Rattle.answers.specs.declared.Refusal.the-variants.{VolumeLength, BlockLength, BufferLength, DriveCode, Name, Position}
-use Rattle.answers.specs.Refusal.{Test, test}
+use Rattle.disk_geometry.specs.Geometry.{bytes}
+use Rattle.disk_volume.specs.Name.{nameOf, goodName}
+use Rattle.call_fcb.specs.Block.{position, positionFits}
+use Rattle.call_answers.specs.declared.Refusal.the-variants.{VolumeLength, BlockLength, BufferLength, DriveCode, Name, Position}
+use Rattle.call_answers.specs.Refusal.{Test, test}
 use Rattle.filecalls.specs.declared.Drive.{Drive}
 use Rattle.filecalls.specs.Search.{examined}
 use Rattle.filecalls.specs.Tests.{closedState, volumeLength, blockLength, driveCode, badName, tooLarge, beyond}

@@ -5,18 +5,18 @@ use mathlib.Core.List.{List, [], _∷_}
 use Prim.Native.Nat.{ℕ, _%_}
 use lib.Dec.{leb, eqb}
 use Rattle.lists.specs.Bytes.{byte, part}
-use Rattle.volume.specs.declared.Wanted.the-variants.{Empty, File}
-use Rattle.geometry.specs.Geometry.{slots}
-use Rattle.volume.specs.Name.{nameOf}
-use Rattle.volume.specs.Directory.{findSlot}
-use Rattle.control.specs.Block.{newName, made}
-use Rattle.answers.specs.declared.Refusal.the-variants.{NoMatch}
-use Rattle.answers.specs.Refusal.{Test, test}
-use Rattle.sweeping.specs.declared.Edit.the-variants.{Erase, Rename, Attributes}
-use Rattle.sweeping.specs.Sweep.{changed}
-use Rattle.deleting.specs.Delete.{deleteTests}
-use Rattle.making.specs.Make.{makeTests, freshEntry}
-use Rattle.naming.specs.Rename.{renameTests}
+use Rattle.disk_volume.specs.declared.Wanted.the-variants.{Empty, File}
+use Rattle.disk_geometry.specs.Geometry.{slots}
+use Rattle.disk_volume.specs.Name.{nameOf}
+use Rattle.disk_volume.specs.Directory.{findSlot}
+use Rattle.call_fcb.specs.Block.{newName, made}
+use Rattle.call_answers.specs.declared.Refusal.the-variants.{NoMatch}
+use Rattle.call_answers.specs.Refusal.{Test, test}
+use Rattle.call_sweep.specs.declared.Edit.the-variants.{Erase, Rename, Attributes}
+use Rattle.call_sweep.specs.Sweep.{changed}
+use Rattle.call_delete.specs.Delete.{deleteTests}
+use Rattle.call_make.specs.Make.{makeTests, freshEntry}
+use Rattle.call_rename.specs.Rename.{renameTests}
 use Rattle.filecalls.specs.declared.Drive.{Drive}
 use Rattle.filecalls.specs.Tests.{closedState, volumeLength, blockLength, driveCode, badName, untypeable, tooLarge, protectedDrive}
 use Rattle.filecalls.specs.Outcome.{keeps, frees, entryTo, eachEntry, Act, done, unless}

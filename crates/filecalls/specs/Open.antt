@@ -3,15 +3,15 @@ use mathlib.Core.Bool.{true, false}
 use mathlib.Core.List.{List, [], _∷_}
 use Prim.Native.Nat.{ℕ, _%_}
 use lib.Dec.{leb}
-use Rattle.volume.specs.declared.Wanted.the-variants.{File}
-use Rattle.geometry.specs.Geometry.{slots}
-use Rattle.volume.specs.Name.{nameOf}
-use Rattle.volume.specs.Directory.{slotAt, findSlot}
-use Rattle.control.specs.Block.{exFits, extentFits, opened, withRandom}
-use Rattle.answers.specs.declared.Refusal.the-variants.{NoMatch}
-use Rattle.answers.specs.Refusal.{Test, test}
-use Rattle.openclose.specs.Open.{openSlot, closeSlot}
-use Rattle.measuring.specs.Size.{sizeOf}
+use Rattle.disk_volume.specs.declared.Wanted.the-variants.{File}
+use Rattle.disk_geometry.specs.Geometry.{slots}
+use Rattle.disk_volume.specs.Name.{nameOf}
+use Rattle.disk_volume.specs.Directory.{slotAt, findSlot}
+use Rattle.call_fcb.specs.Block.{exFits, extentFits, opened, withRandom}
+use Rattle.call_answers.specs.declared.Refusal.the-variants.{NoMatch}
+use Rattle.call_answers.specs.Refusal.{Test, test}
+use Rattle.call_open.specs.Open.{openSlot, closeSlot}
+use Rattle.call_size.specs.Size.{sizeOf}
 use Rattle.filecalls.specs.declared.Drive.{Drive}
 use Rattle.filecalls.specs.Tests.{closedState, volumeLength, blockLength, driveCode, badName, tooLarge}
 use Rattle.filecalls.specs.Outcome.{keeps, Act, done, unless}

@@ -3,16 +3,16 @@
 use mathlib.Core.Bool.{Bool, true, cond}
 use mathlib.Core.List.{List, [], _∷_}
 use Prim.Native.Nat.{ℕ}
-use Rattle.geometry.specs.declared.Geometry.{Geometry}
-use Rattle.volume.specs.Entry.{Entry}
-use Rattle.volume.specs.Directory.{putSlot, mapSlots}
-use Rattle.volume.specs.Record.{putFilled}
-use Rattle.blocks.specs.Held.{hold}
-use Rattle.answers.specs.declared.Refusal.{Refusal}
-use Rattle.answers.specs.declared.Answer.{Answer}
-use Rattle.answers.specs.declared.Answer.the-variants.{Done, Refused}
-use Rattle.answers.specs.Refusal.{Test, isNone, firstMet}
-use Rattle.deleting.specs.Delete.{freeMatches}
+use Rattle.disk_geometry.specs.declared.Geometry.{Geometry}
+use Rattle.disk_volume.specs.Entry.{Entry}
+use Rattle.disk_volume.specs.Directory.{putSlot, mapSlots}
+use Rattle.disk_volume.specs.Record.{putFilled}
+use Rattle.disk_held.specs.Held.{hold}
+use Rattle.call_answers.specs.declared.Refusal.{Refusal}
+use Rattle.call_answers.specs.declared.Answer.{Answer}
+use Rattle.call_answers.specs.declared.Answer.the-variants.{Done, Refused}
+use Rattle.call_answers.specs.Refusal.{Test, isNone, firstMet}
+use Rattle.call_delete.specs.Delete.{freeMatches}
 use Rattle.filecalls.specs.declared.Search.{Search}
 use Rattle.filecalls.specs.declared.Drive.{Drive}
 use Rattle.filecalls.specs.declared.Reply.{Reply}

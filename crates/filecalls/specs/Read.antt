@@ -4,13 +4,13 @@ use mathlib.Core.List.{List, [], _∷_, _++_}
 use Prim.Native.Nat.{ℕ, _+_, _%_}
 use lib.Dec.{eqb}
 use Rattle.lists.specs.Bytes.{byte}
-use Rattle.volume.specs.Name.{nameOf}
-use Rattle.volume.specs.Directory.{slotAt}
-use Rattle.volume.specs.Record.{recordSlot}
-use Rattle.control.specs.Block.{position, random, positionFits, setTo}
-use Rattle.answers.specs.declared.Refusal.the-variants.{NoGroup, Absent}
-use Rattle.answers.specs.Refusal.{Test}
-use Rattle.reading.specs.Read.{readTests, readBytes}
+use Rattle.disk_volume.specs.Name.{nameOf}
+use Rattle.disk_volume.specs.Directory.{slotAt}
+use Rattle.disk_volume.specs.Record.{recordSlot}
+use Rattle.call_fcb.specs.Block.{position, random, positionFits, setTo}
+use Rattle.call_answers.specs.declared.Refusal.the-variants.{NoGroup, Absent}
+use Rattle.call_answers.specs.Refusal.{Test}
+use Rattle.call_read.specs.Read.{readTests, readBytes}
 use Rattle.filecalls.specs.declared.Drive.{Drive}
 use Rattle.filecalls.specs.Tests.{closedState, volumeLength, blockLength, bufferLength, driveCode, badName, tooLarge, beyond}
 use Rattle.filecalls.specs.Outcome.{keeps, Act, done, unless}

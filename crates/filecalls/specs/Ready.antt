@@ -2,7 +2,7 @@
 use mathlib.Core.Path.{_≡_}
 use mathlib.Core.Bool.{true}
 use Prim.Native.Nat.{ℕ, _≤_}
-use Rattle.geometry.specs.Geometry.{lawful, bytes, slots}
+use Rattle.disk_geometry.specs.Geometry.{lawful, bytes, slots}
 use Rattle.filecalls.specs.declared.Drive.{Drive}
 use Rattle.filecalls.specs.State.{goodKept}
 

@@ -5,15 +5,15 @@ use mathlib.Core.List.{List, [], _∷_}
 use Prim.Native.Nat.{ℕ, _+_, _%_}
 use lib.Dec.{leb, ltb, eqb}
 use Rattle.lists.specs.Bytes.{byte}
-use Rattle.geometry.specs.declared.Geometry.{Geometry}
-use Rattle.geometry.specs.Geometry.{slots}
-use Rattle.volume.specs.Name.{nameOf, goodName}
-use Rattle.volume.specs.Record.{slotRecord}
-use Rattle.answers.specs.declared.Refusal.the-variants.{DriveCode, Name, Position, NoMatch}
-use Rattle.answers.specs.Refusal.{Test, test}
-use Rattle.finding.specs.declared.Kept.{Kept}
-use Rattle.finding.specs.declared.Kept.the-variants.{Nothing, Pattern, Everything}
-use Rattle.finding.specs.Search.{kindOf, patternOf, hitFrom}
+use Rattle.disk_geometry.specs.declared.Geometry.{Geometry}
+use Rattle.disk_geometry.specs.Geometry.{slots}
+use Rattle.disk_volume.specs.Name.{nameOf, goodName}
+use Rattle.disk_volume.specs.Record.{slotRecord}
+use Rattle.call_answers.specs.declared.Refusal.the-variants.{DriveCode, Name, Position, NoMatch}
+use Rattle.call_answers.specs.Refusal.{Test, test}
+use Rattle.call_search.specs.declared.Kept.{Kept}
+use Rattle.call_search.specs.declared.Kept.the-variants.{Nothing, Pattern, Everything}
+use Rattle.call_search.specs.Search.{kindOf, patternOf, hitFrom}
 use Rattle.filecalls.specs.declared.Search.{Search}
 use Rattle.filecalls.specs.declared.Drive.{Drive}
 use Rattle.filecalls.specs.Tests.{closedState, volumeLength, blockLength, bufferLength}

@@ -3,9 +3,9 @@ use mathlib.Core.Bool.{cond, _&&_}
 use mathlib.Core.List.{List, [], _∷_}
 use Prim.Native.Nat.{ℕ}
 use lib.Dec.{ltb, eqb}
-use Rattle.control.specs.Block.{position, positionFits, withRandom}
-use Rattle.answers.specs.declared.Refusal.the-variants.{UserCode}
-use Rattle.answers.specs.Refusal.{Test, test}
+use Rattle.call_fcb.specs.Block.{position, positionFits, withRandom}
+use Rattle.call_answers.specs.declared.Refusal.the-variants.{UserCode}
+use Rattle.call_answers.specs.Refusal.{Test, test}
 use Rattle.filecalls.specs.declared.Drive.{Drive}
 use Rattle.filecalls.specs.Tests.{closedState, blockLength, driveCode, tooLarge}
 use Rattle.filecalls.specs.Outcome.{keeps, protects, becomes, Act, done, unless}

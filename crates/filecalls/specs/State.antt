@@ -5,12 +5,12 @@ use Prim.Native.Nat.{ℕ}
 use lib.Dec.{leb, ltb, eqb}
 use lib.ListN.{replicate}
 use Rattle.lists.specs.Bytes.{byte}
-use Rattle.geometry.specs.declared.Geometry.{Geometry}
-use Rattle.geometry.specs.Geometry.{lawful, slots}
-use Rattle.volume.specs.Name.{nameAt, goodName}
-use Rattle.blocks.specs.Held.{noneHeld}
-use Rattle.finding.specs.declared.Kept.{Kept}
-use Rattle.finding.specs.declared.Kept.the-variants.{Nothing, Pattern, Everything}
+use Rattle.disk_geometry.specs.declared.Geometry.{Geometry}
+use Rattle.disk_geometry.specs.Geometry.{lawful, slots}
+use Rattle.disk_volume.specs.Name.{nameAt, goodName}
+use Rattle.disk_held.specs.Held.{noneHeld}
+use Rattle.call_search.specs.declared.Kept.{Kept}
+use Rattle.call_search.specs.declared.Kept.the-variants.{Nothing, Pattern, Everything}
 use Rattle.filecalls.specs.declared.Search.{Search}
 use Rattle.filecalls.specs.declared.Drive.{Drive}
 

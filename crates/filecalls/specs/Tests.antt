@@ -5,11 +5,11 @@ use Prim.Native.Nat.{ℕ}
 use lib.Dec.{ltb, eqb}
 use lib.ListN.{length}
 use Rattle.lists.specs.Bytes.{byte}
-use Rattle.geometry.specs.Geometry.{bytes}
-use Rattle.volume.specs.Name.{nameAt, goodName}
-use Rattle.typing.specs.Typing.{typeable}
-use Rattle.answers.specs.declared.Refusal.the-variants.{Closed, VolumeLength, BlockLength, BufferLength, DriveCode, Name, Untypeable, Position, Beyond, Protected}
-use Rattle.answers.specs.Refusal.{Test, test}
+use Rattle.disk_geometry.specs.Geometry.{bytes}
+use Rattle.disk_volume.specs.Name.{nameAt, goodName}
+use Rattle.call_typing.specs.Typing.{typeable}
+use Rattle.call_answers.specs.declared.Refusal.the-variants.{Closed, VolumeLength, BlockLength, BufferLength, DriveCode, Name, Untypeable, Position, Beyond, Protected}
+use Rattle.call_answers.specs.Refusal.{Test, test}
 use Rattle.filecalls.specs.declared.Drive.{Drive}
 use Rattle.filecalls.specs.State.{isOpen}
 

@@ -2,11 +2,11 @@
 use mathlib.Core.Bool.{Bool, true, false, cond}
 use mathlib.Core.List.{List, [], _∷_, _++_}
 use Prim.Native.Nat.{ℕ, _+_, _%_}
-use Rattle.volume.specs.Name.{nameOf}
-use Rattle.control.specs.Block.{position, random, setTo}
-use Rattle.answers.specs.Refusal.{Test}
-use Rattle.deciding.specs.Write.{writeSlot, baseEntry, needsBlock, fillsBlock, writeBlock, writeTests}
-use Rattle.entries.specs.Grown.{writtenEntry}
+use Rattle.disk_volume.specs.Name.{nameOf}
+use Rattle.call_fcb.specs.Block.{position, random, setTo}
+use Rattle.call_answers.specs.Refusal.{Test}
+use Rattle.call_decide.specs.Write.{writeSlot, baseEntry, needsBlock, fillsBlock, writeBlock, writeTests}
+use Rattle.call_entry.specs.Grown.{writtenEntry}
 use Rattle.filecalls.specs.declared.Drive.{Drive}
 use Rattle.filecalls.specs.Tests.{protectedDrive}
 use Rattle.filecalls.specs.Outcome.{Change, keeps, takes, recordTo, entryTo, Act, done, unless}

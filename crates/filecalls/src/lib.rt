@@ -1,7 +1,7 @@
 // The file calls: every call is a method of the drive state that takes the state and hands it back.
-use answers::Answer;
-use finding::Kept;
-use geometry::Geometry;
+use call_answers::Answer;
+use call_search::Kept;
+use disk_geometry::Geometry;
 
 mod login;
 mod names;

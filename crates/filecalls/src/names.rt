@@ -5,7 +5,7 @@ ghost use Rattle.filecalls.specs.Outcome.{outcome, left};
 ghost use Rattle.filecalls.specs.Names.{deleteAct, makeAct, renameAct, attributesAct};
 use crate::Drive;
 use crate::Reply;
-use answers::Refusal;
+use call_answers::Refusal;
 
 impl Drive {
     // Function 19: every matching entry is gone, and its blocks are free.
@@ -13,13 +13,13 @@ impl Drive {
         ensures { λ r. ⌜ left r (now (volume .exit)) (now (f .entry)) [] ≡ outcome self (now (volume .entry)) (now (f .entry)) [] (deleteAct self (now (volume .entry)) (now (f .entry))) ⌝ }
     {
         let why = self.named_why(volume, f, 128, true);
-        if !answers::is_none(why) {
+        if !call_answers::is_none(why) {
             return self.refused(why);
         }
-        let before = answers::refuse(Refusal::Protected, self.protected);
+        let before = call_answers::refuse(Refusal::Protected, self.protected);
         let g = self.geometry;
         let held = self.held;
-        let gone = deleting::delete_matches(g, volume, self.user, &f[1..12], held, before);
+        let gone = call_delete::delete_matches(g, volume, self.user, &f[1..12], held, before);
         let why = gone.why;
         let rest = gone.held;
         let mut drive = self;
@@ -32,14 +32,14 @@ impl Drive {
         ensures { λ r. ⌜ left r (now (volume .exit)) (now (f .exit)) [] ≡ outcome self (now (volume .entry)) (now (f .entry)) [] (makeAct self (now (volume .entry)) (now (f .entry))) ⌝ }
     {
         let why = self.named_why(volume, f, 128, false);
-        if !answers::is_none(why) {
+        if !call_answers::is_none(why) {
             return self.refused(why);
         }
-        let file = making::new_file_why(f);
-        let protected = answers::refuse(Refusal::Protected, self.protected);
-        let before = answers::first_of(file, protected);
+        let file = call_make::new_file_why(f);
+        let protected = call_answers::refuse(Refusal::Protected, self.protected);
+        let before = call_answers::first_of(file, protected);
         let g = self.geometry;
-        let made = making::make_file(g, volume, f, self.user, before);
+        let made = call_make::make_file(g, volume, f, self.user, before);
         let why = made.why;
         self.answered(why, (made.slot % 4) as u8)
     }
@@ -49,14 +49,21 @@ impl Drive {
         ensures { λ r. ⌜ left r (now (volume .exit)) (now (f .entry)) [] ≡ outcome self (now (volume .entry)) (now (f .entry)) [] (renameAct self (now (volume .entry)) (now (f .entry))) ⌝ }
     {
         let why = self.named_why(volume, f, 128, false);
-        if !answers::is_none(why) {
+        if !call_answers::is_none(why) {
             return self.refused(why);
         }
-        let name = naming::rename::new_name_why(f);
-        let protected = answers::refuse(Refusal::Protected, self.protected);
-        let before = answers::first_of(name, protected);
+        let name = call_rename::rename::new_name_why(f);
+        let protected = call_answers::refuse(Refusal::Protected, self.protected);
+        let before = call_answers::first_of(name, protected);
         let g = self.geometry;
-        let why = naming::rename::rename_file(g, volume, self.user, &f[1..12], &f[17..28], before);
+        let why = call_rename::rename::rename_file(
+            g,
+            volume,
+            self.user,
+            &f[1..12],
+            &f[17..28],
+            before,
+        );
         self.answered(why, 0)
     }
 
@@ -65,12 +72,12 @@ impl Drive {
         ensures { λ r. ⌜ left r (now (volume .exit)) (now (f .entry)) [] ≡ outcome self (now (volume .entry)) (now (f .entry)) [] (attributesAct self (now (volume .entry)) (now (f .entry))) ⌝ }
     {
         let why = self.named_why(volume, f, 128, false);
-        if !answers::is_none(why) {
+        if !call_answers::is_none(why) {
             return self.refused(why);
         }
-        let before = answers::refuse(Refusal::Protected, self.protected);
+        let before = call_answers::refuse(Refusal::Protected, self.protected);
         let g = self.geometry;
-        let why = naming::rename::mark_file(g, volume, self.user, &f[1..12], before);
+        let why = call_rename::rename::mark_file(g, volume, self.user, &f[1..12], before);
         self.answered(why, 0)
     }
 }

@@ -12,11 +12,11 @@ impl Drive {
         ensures { λ r. ⌜ left r (now (volume .entry)) (now (f .exit)) [] ≡ outcome self (now (volume .entry)) (now (f .entry)) [] (openAct self (now (volume .entry)) (now (f .entry))) ⌝ }
     {
         let why = self.named_why(volume, f, 128, true);
-        if !answers::is_none(why) {
+        if !call_answers::is_none(why) {
             return self.refused(why);
         }
         let g = self.geometry;
-        let found = openclose::open_file(g, volume, f, self.user);
+        let found = call_open::open_file(g, volume, f, self.user);
         let why = found.why;
         self.answered(why, (found.slot % 4) as u8)
     }
@@ -26,11 +26,11 @@ impl Drive {
         ensures { λ r. ⌜ left r (now (volume .entry)) (now (f .entry)) [] ≡ outcome self (now (volume .entry)) (now (f .entry)) [] (closeAct self (now (volume .entry)) (now (f .entry))) ⌝ }
     {
         let why = self.named_why(volume, f, 128, false);
-        if !answers::is_none(why) {
+        if !call_answers::is_none(why) {
             return self.refused(why);
         }
         let g = self.geometry;
-        let found = openclose::close_file(g, volume, f, self.user);
+        let found = call_open::close_file(g, volume, f, self.user);
         let why = found.why;
         self.answered(why, (found.slot % 4) as u8)
     }
@@ -40,11 +40,11 @@ impl Drive {
         ensures { λ r. ⌜ left r (now (volume .entry)) (now (f .exit)) [] ≡ outcome self (now (volume .entry)) (now (f .entry)) [] (sizeAct self (now (volume .entry)) (now (f .entry))) ⌝ }
     {
         let why = self.named_why(volume, f, 128, false);
-        if !answers::is_none(why) {
+        if !call_answers::is_none(why) {
             return self.refused(why);
         }
         let g = self.geometry;
-        let why = measuring::measure(g, volume, f, self.user);
+        let why = call_size::measure(g, volume, f, self.user);
         self.answered(why, 0)
     }
 }

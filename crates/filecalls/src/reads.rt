@@ -3,15 +3,15 @@ ghost use mathlib.Core.Path.{_≡_};
 ghost use mathlib.Core.Bool.{false};
 ghost use Prim.Native.Nat.{_<_};
 ghost use lib.ListN.{length};
-ghost use Rattle.volume.specs.Name.{nameOf};
-ghost use Rattle.answers.specs.Refusal.{isNone};
-ghost use Rattle.reading.specs.Read.{readTests};
+ghost use Rattle.disk_volume.specs.Name.{nameOf};
+ghost use Rattle.call_answers.specs.Refusal.{isNone};
+ghost use Rattle.call_read.specs.Read.{readTests};
 ghost use Rattle.filecalls.specs.Outcome.{unless, outcome, left};
 ghost use Rattle.filecalls.specs.Read.{readDone, readSequentialAct, readRandomAct};
 ghost use Rattle.filecalls.specs.Ready.{Lent};
 use crate::Drive;
 use crate::Reply;
-use answers::Refusal;
+use call_answers::Refusal;
 
 impl Drive {
     // Reads record n, where the tests of what is lent have passed.
@@ -29,7 +29,7 @@ impl Drive {
         ensures { λ r. ⌜ left r (now (volume .entry)) (now (f .exit)) (now (buffer .exit)) ≡ outcome self (now (volume .entry)) (now (f .entry)) (now (buffer .entry)) (unless (readTests (self .geometry) (now (volume .entry)) (self .user) (nameOf (now (f .entry))) n missing) (readDone self (now (volume .entry)) (now (f .entry)) n cr)) ⌝ }
     {
         let g = self.geometry;
-        let why = reading::read::read_record(g, volume, f, buffer, self.user, n, cr, missing);
+        let why = call_read::read::read_record(g, volume, f, buffer, self.user, n, cr, missing);
         self.answered(why, 0)
     }
 
@@ -38,10 +38,10 @@ impl Drive {
         ensures { λ r. ⌜ left r (now (volume .entry)) (now (f .exit)) (now (buffer .exit)) ≡ outcome self (now (volume .entry)) (now (f .entry)) (now (buffer .entry)) (readSequentialAct self (now (volume .entry)) (now (f .entry)) (now (buffer .entry))) ⌝ }
     {
         let why = self.sequential_why(volume, f, buffer.len());
-        if !answers::is_none(why) {
+        if !call_answers::is_none(why) {
             return self.refused(why);
         }
-        let n = control::position_of(f);
+        let n = call_fcb::position_of(f);
         self.read_at(volume, f, buffer, n, (n % 128 + 1) as u8, Refusal::Absent)
     }
 
@@ -50,10 +50,10 @@ impl Drive {
         ensures { λ r. ⌜ left r (now (volume .entry)) (now (f .exit)) (now (buffer .exit)) ≡ outcome self (now (volume .entry)) (now (f .entry)) (now (buffer .entry)) (readRandomAct self (now (volume .entry)) (now (f .entry)) (now (buffer .entry))) ⌝ }
     {
         let why = self.random_why(volume, f, buffer.len());
-        if !answers::is_none(why) {
+        if !call_answers::is_none(why) {
             return self.refused(why);
         }
-        let n = control::random_of(f);
+        let n = call_fcb::random_of(f);
         self.read_at(volume, f, buffer, n, (n % 128) as u8, Refusal::NoGroup)
     }
 }

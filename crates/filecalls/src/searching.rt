@@ -4,9 +4,9 @@ ghost use mathlib.Core.List.{List, [], _∷_};
 ghost use Prim.Native.Nat.{ℕ, _≤_};
 ghost use lib.Dec.{leb};
 ghost use lib.ListN.{length};
-ghost use Rattle.geometry.specs.Geometry.{slots};
-ghost use Rattle.answers.specs.declared.Refusal.the-variants.{NoMatch};
-ghost use Rattle.answers.specs.Refusal.{test, firstMet};
+ghost use Rattle.disk_geometry.specs.Geometry.{slots};
+ghost use Rattle.call_answers.specs.declared.Refusal.the-variants.{NoMatch};
+ghost use Rattle.call_answers.specs.Refusal.{test, firstMet};
 ghost use Rattle.filecalls.specs.Lent.{firstLent};
 ghost use Rattle.filecalls.specs.Outcome.{unless, outcome, left};
 ghost use Rattle.filecalls.specs.Search.{hit, shown, keptAt, isKept, searchFirstAct, searchNextAct};
@@ -14,8 +14,8 @@ ghost use Rattle.filecalls.specs.Ready.{Lent};
 use crate::Drive;
 use crate::Reply;
 use crate::Search;
-use answers::Refusal;
-use finding::Kept;
+use call_answers::Refusal;
+use call_search::Kept;
 
 // Is a search open?
 fn is_open_search(kind: Kept) -> bool
@@ -43,15 +43,15 @@ impl Drive {
         ensures { λ r. ⌜ r ≡ firstMet (firstLent self (now (volume .entry)) (now (f .entry)) (now (buffer .entry))) ⌝ }
     {
         let why = self.lent_why(volume.len(), f.len(), buffer.len());
-        if !answers::is_none(why) {
+        if !call_answers::is_none(why) {
             return why;
         }
         let examined = f[0] != 63;
-        let good = volume::names::good_name(true, &f[1..12]);
-        let a = answers::refuse(Refusal::DriveCode, (1 < f[0]) & examined);
-        let b = answers::refuse(Refusal::Name, examined & !good);
-        let c = answers::refuse(Refusal::Position, examined & (31 < f[12]) & (f[12] != 63));
-        answers::first_of(a, answers::first_of(b, c))
+        let good = disk_volume::names::good_name(true, &f[1..12]);
+        let a = call_answers::refuse(Refusal::DriveCode, (1 < f[0]) & examined);
+        let b = call_answers::refuse(Refusal::Name, examined & !good);
+        let c = call_answers::refuse(Refusal::Position, examined & (31 < f[12]) & (f[12] != 63));
+        call_answers::first_of(a, call_answers::first_of(b, c))
     }
 
     // The search from slot `from` on, where the tests of what is lent have passed.
@@ -63,7 +63,7 @@ impl Drive {
         let g = self.geometry;
         let kind = search.kind;
         let pattern = search.pattern;
-        let slot = finding::search::search_from(
+        let slot = call_search::search::search_from(
             g,
             volume,
             buffer,
@@ -86,11 +86,11 @@ impl Drive {
         ensures { λ r. ⌜ left r (now (volume .entry)) (now (f .entry)) (now (buffer .exit)) ≡ outcome self (now (volume .entry)) (now (f .entry)) (now (buffer .entry)) (searchFirstAct self (now (volume .entry)) (now (f .entry)) (now (buffer .entry))) ⌝ }
     {
         let why = self.first_why(volume, f, buffer);
-        if !answers::is_none(why) {
+        if !call_answers::is_none(why) {
             return self.refused(why);
         }
-        let kind = finding::search::kind_of(f[0]);
-        let pattern = finding::search::pattern_of(f);
+        let kind = call_search::search::kind_of(f[0]);
+        let pattern = call_search::search::pattern_of(f);
         let search = Search {
             kind,
             user: self.user,
@@ -105,7 +105,7 @@ impl Drive {
         ensures { λ r. ⌜ left r (now (volume .entry)) [] (now (buffer .exit)) ≡ outcome self (now (volume .entry)) [] (now (buffer .entry)) (searchNextAct self (now (volume .entry)) (now (buffer .entry))) ⌝ }
     {
         let why = self.lent_why(volume.len(), 36, buffer.len());
-        if !answers::is_none(why) {
+        if !call_answers::is_none(why) {
             return self.refused(why);
         }
         let search = self.search;

@@ -1,13 +1,13 @@
 // The calls that look at no volume: write protect (28), user (32), set random record (36).
 ghost use mathlib.Core.Path.{_≡_};
 ghost use mathlib.Core.List.{[]};
-ghost use Rattle.answers.specs.Refusal.{firstMet};
+ghost use Rattle.call_answers.specs.Refusal.{firstMet};
 ghost use Rattle.filecalls.specs.Outcome.{outcome, left};
 ghost use Rattle.filecalls.specs.Small.{setRandomTests, protectAct, userAct, setRandomAct};
 use crate::Drive;
 use crate::Reply;
-use answers::Answer;
-use answers::Refusal;
+use call_answers::Answer;
+use call_answers::Refusal;
 
 impl Drive {
     // 32, 34, 42 and 40 of function 36, which is lent no volume.
@@ -22,9 +22,9 @@ impl Drive {
             return Refusal::BlockLength;
         }
         let fits = (f[12] <= 31) & (f[14] <= 15) & (f[32] <= 128);
-        let a = answers::refuse(Refusal::DriveCode, 1 < f[0]);
-        let b = answers::refuse(Refusal::Position, !fits);
-        answers::first_of(a, b)
+        let a = call_answers::refuse(Refusal::DriveCode, 1 < f[0]);
+        let b = call_answers::refuse(Refusal::Position, !fits);
+        call_answers::first_of(a, b)
     }
 
     // Function 28: protects the drive until the next log-in.
@@ -62,11 +62,11 @@ impl Drive {
         ensures { λ r. ⌜ left r [] (now (f .exit)) [] ≡ outcome self [] (now (f .entry)) [] (setRandomAct self (now (f .entry))) ⌝ }
     {
         let why = self.position_why(f);
-        if !answers::is_none(why) {
+        if !call_answers::is_none(why) {
             return self.refused(why);
         }
-        let n = control::position_of(f);
-        control::set_random(f, n);
+        let n = call_fcb::position_of(f);
+        call_fcb::set_random(f, n);
         self.done(0)
     }
 }

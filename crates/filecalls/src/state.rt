@@ -2,17 +2,17 @@
 ghost use mathlib.Core.Path.{_≡_};
 ghost use mathlib.Core.Bool.{true, false, cond};
 ghost use lib.ListN.{length};
-ghost use Rattle.answers.specs.Refusal.{isNone};
-ghost use Rattle.answers.specs.declared.Answer.the-variants.{Done, Refused};
+ghost use Rattle.call_answers.specs.Refusal.{isNone};
+ghost use Rattle.call_answers.specs.declared.Answer.the-variants.{Done, Refused};
 ghost use Rattle.filecalls.specs.declared.Reply.{Reply};
 ghost use Rattle.filecalls.specs.State.{goodPattern, goodKept, isOpen, closed};
 use crate::Drive;
 use crate::Reply;
 use crate::Search;
-use answers::Answer;
-use answers::Refusal;
-use finding::Kept;
-use geometry::Geometry;
+use call_answers::Answer;
+use call_answers::Refusal;
+use call_search::Kept;
+use disk_geometry::Geometry;
 
 // Did the pattern pass 39 and 40?
 fn is_pattern(pattern: &[u8]) -> bool
@@ -20,7 +20,7 @@ fn is_pattern(pattern: &[u8]) -> bool
     ensures { λ r. ⌜ r ≡ goodPattern (now (pattern .entry)) ⌝ }
 {
     let ex = pattern[11];
-    volume::names::good_name(true, &pattern[0..11]) & ((ex <= 31) | (ex == 63))
+    disk_volume::names::good_name(true, &pattern[0..11]) & ((ex <= 31) | (ex == 63))
 }
 
 // Is a kept search of this kind within the rules, n being the number of slots?
@@ -101,7 +101,7 @@ impl Drive {
     pub(crate) fn answered(self, why: Refusal, code: u8) -> Reply
         ensures { λ r. ⌜ r ≡ record { answer = cond (isNone why) (Done code) (Refused why); drive = self } ⌝ }
     {
-        if answers::is_none(why) {
+        if call_answers::is_none(why) {
             return self.done(code);
         }
         self.refused(why)

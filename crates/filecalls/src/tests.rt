@@ -1,10 +1,10 @@
 // The tests that look at the state and at what is lent, in the paper's order.
 ghost use mathlib.Core.Path.{_≡_};
 ghost use mathlib.Core.Bool.{false};
-ghost use Rattle.answers.specs.Refusal.{firstMet};
+ghost use Rattle.call_answers.specs.Refusal.{firstMet};
 ghost use Rattle.filecalls.specs.Lent.{lentTests, namedTests, sequentialLent, randomLent};
 use crate::Drive;
-use answers::Refusal;
+use call_answers::Refusal;
 
 impl Drive {
     // 32, 33, 34, 35 by the lengths that are lent; a length that is not lent is given as the right one.
@@ -15,10 +15,10 @@ impl Drive {
             return Refusal::Closed;
         }
         let g = self.geometry;
-        let a = answers::refuse(Refusal::VolumeLength, volume != g.bytes());
-        let b = answers::refuse(Refusal::BlockLength, block != 36);
-        let c = answers::refuse(Refusal::BufferLength, buffer != 128);
-        answers::first_of(a, answers::first_of(b, c))
+        let a = call_answers::refuse(Refusal::VolumeLength, volume != g.bytes());
+        let b = call_answers::refuse(Refusal::BlockLength, block != 36);
+        let c = call_answers::refuse(Refusal::BufferLength, buffer != 128);
+        call_answers::first_of(a, call_answers::first_of(b, c))
     }
 
     // The same, then 42 and 39.
@@ -26,12 +26,15 @@ impl Drive {
         ensures { λ r. ⌜ r ≡ firstMet (namedTests self (now (volume .entry)) (now (f .entry)) buffer pattern) ⌝ }
     {
         let why = self.lent_why(volume.len(), f.len(), buffer);
-        if !answers::is_none(why) {
+        if !call_answers::is_none(why) {
             return why;
         }
-        let a = answers::refuse(Refusal::DriveCode, 1 < f[0]);
-        let b = answers::refuse(Refusal::Name, !volume::names::good_name(pattern, &f[1..12]));
-        answers::first_of(a, b)
+        let a = call_answers::refuse(Refusal::DriveCode, 1 < f[0]);
+        let b = call_answers::refuse(
+            Refusal::Name,
+            !disk_volume::names::good_name(pattern, &f[1..12]),
+        );
+        call_answers::first_of(a, b)
     }
 
     // The same, then 40 and 6 of a sequential call.
@@ -39,14 +42,14 @@ impl Drive {
         ensures { λ r. ⌜ r ≡ firstMet (sequentialLent self (now (volume .entry)) (now (f .entry)) buffer) ⌝ }
     {
         let why = self.named_why(volume, f, buffer, false);
-        if !answers::is_none(why) {
+        if !call_answers::is_none(why) {
             return why;
         }
         let fits = (f[12] <= 31) & (f[14] <= 15) & (f[32] <= 128);
-        let n = control::position_of(f);
-        let a = answers::refuse(Refusal::Position, !fits);
-        let b = answers::refuse(Refusal::Beyond, n == 65536);
-        answers::first_of(a, b)
+        let n = call_fcb::position_of(f);
+        let a = call_answers::refuse(Refusal::Position, !fits);
+        let b = call_answers::refuse(Refusal::Beyond, n == 65536);
+        call_answers::first_of(a, b)
     }
 
     // 32 to 35, 42 and 39, then 6 of a random call.
@@ -54,9 +57,9 @@ impl Drive {
         ensures { λ r. ⌜ r ≡ firstMet (randomLent self (now (volume .entry)) (now (f .entry)) buffer) ⌝ }
     {
         let why = self.named_why(volume, f, buffer, false);
-        if !answers::is_none(why) {
+        if !call_answers::is_none(why) {
             return why;
         }
-        answers::refuse(Refusal::Beyond, f[35] != 0)
+        call_answers::refuse(Refusal::Beyond, f[35] != 0)
     }
 }

@@ -7,7 +7,7 @@ ghost use Rattle.filecalls.specs.Write.{directoryTests, writeDone, write
 ghost use Rattle.filecalls.specs.Ready.{Lent};
 use crate::Drive;
 use crate::Reply;
-use answers::Refusal;
+use call_answers::Refusal;
 
 impl Drive {
     // Writes record n, where the tests of what is lent have passed. If it `fills`, a block that it gives is first filled with
@@ -30,7 +30,7 @@ impl Drive {
         }
         let g = self.geometry;
         let held = self.held;
-        let written = writing::write::write_record(
+        let written = call_write::write::write_record(
             g,
             fills,
             volume,
@@ -53,10 +53,10 @@ impl Drive {
         ensures { λ r. ⌜ left r (now (volume .exit)) (now (f .exit)) (now (buffer .entry)) ≡ outcome self (now (volume .entry)) (now (f .entry)) (now (buffer .entry)) (writeSequentialAct self (now (volume .entry)) (now (f .entry)) (now (buffer .entry))) ⌝ }
     {
         let why = self.sequential_why(volume, f, buffer.len());
-        if !answers::is_none(why) {
+        if !call_answers::is_none(why) {
             return self.refused(why);
         }
-        let n = control::position_of(f);
+        let n = call_fcb::position_of(f);
         self.write_at(volume, f, buffer, n, (n % 128 + 1) as u8, false)
     }
 
@@ -65,10 +65,10 @@ impl Drive {
         ensures { λ r. ⌜ left r (now (volume .exit)) (now (f .exit)) (now (buffer .entry)) ≡ outcome self (now (volume .entry)) (now (f .entry)) (now (buffer .entry)) (writeDirectAct fills self (now (volume .entry)) (now (f .entry)) (now (buffer .entry))) ⌝ }
     {
         let why = self.random_why(volume, f, buffer.len());
-        if !answers::is_none(why) {
+        if !call_answers::is_none(why) {
             return self.refused(why);
         }
-        let n = control::random_of(f);
+        let n = call_fcb::random_of(f);
         self.write_at(volume, f, buffer, n, (n % 128) as u8, fills)
     }
 

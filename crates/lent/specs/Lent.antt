@@ -4,8 +4,8 @@ use mathlib.Core.List.{List, [], _∷_}
 use Prim.Native.Nat.{ℕ, _*_}
 use lib.Dec.{leb, eqb}
 use lib.ListN.{length}
-use Rattle.answers.specs.declared.Refusal.the-variants.{BadCount, BufferLength}
-use Rattle.answers.specs.Refusal.{Test, test}
+use Rattle.call_answers.specs.declared.Refusal.the-variants.{BadCount, BufferLength}
+use Rattle.call_answers.specs.Refusal.{Test, test}
 use Rattle.filecalls.specs.declared.Drive.{Drive}
 use Rattle.filecalls.specs.Tests.{closedState, volumeLength, blockLength}
 

@@ -1,10 +1,10 @@
 // Several records a call: what is tested of the things lent before the first record, and the reply.
 ghost use mathlib.Core.Path.{_≡_};
-ghost use Rattle.answers.specs.Refusal.{firstMet};
-ghost use Rattle.answers.specs.declared.Answer.the-variants.{Several};
+ghost use Rattle.call_answers.specs.Refusal.{firstMet};
+ghost use Rattle.call_answers.specs.declared.Answer.the-variants.{Several};
 ghost use Rattle.lent.specs.Lent.{severalTests};
-use answers::Answer;
-use answers::Refusal;
+use call_answers::Answer;
+use call_answers::Refusal;
 use filecalls::Drive;
 use filecalls::Reply;
 
@@ -17,11 +17,11 @@ pub fn lent_why(drive: Drive, volume: &[u8], f: &[u8], buffer: &[u8], k: u8) -> 
     }
     let g = drive.geometry;
     let n = lists::wide(k);
-    let a = answers::refuse(Refusal::VolumeLength, volume.len() != g.bytes());
-    let b = answers::refuse(Refusal::BlockLength, f.len() != 36);
-    let c = answers::refuse(Refusal::BadCount, !((1 <= n) & (n <= 16)));
-    let d = answers::refuse(Refusal::BufferLength, buffer.len() != 128 * n);
-    answers::first_of(a, answers::first_of(b, answers::first_of(c, d)))
+    let a = call_answers::refuse(Refusal::VolumeLength, volume.len() != g.bytes());
+    let b = call_answers::refuse(Refusal::BlockLength, f.len() != 36);
+    let c = call_answers::refuse(Refusal::BadCount, !((1 <= n) & (n <= 16)));
+    let d = call_answers::refuse(Refusal::BufferLength, buffer.len() != 128 * n);
+    call_answers::first_of(a, call_answers::first_of(b, call_answers::first_of(c, d)))
 }
 
 // n records are done, and why no more.

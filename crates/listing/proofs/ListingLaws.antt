@@ -10,16 +10,16 @@ use lib.ListN.{length, getD, drop, drop-of-length-le}
 use lib.Seq.{drop-cons}
 use borrow.Author.Tests.{eqb-true}
 use Rattle.lists.specs.Search.{countFrom}
-use Rattle.geometry.specs.declared.Geometry.{Geometry}
-use Rattle.geometry.specs.Geometry.{lawful, bytes}
-use Rattle.volume.specs.Name.{strip}
+use Rattle.disk_geometry.specs.declared.Geometry.{Geometry}
+use Rattle.disk_geometry.specs.Geometry.{lawful, bytes}
+use Rattle.disk_volume.specs.Name.{strip}
 use Rattle.text.specs.Text.{Text, text, puts}
 use Rattle.text.specs.Decimal.{decimal}
 use Rattle.text.proofs.TextLaws.{Wrote, wrote, puts-append, puts-within}
-use Rattle.answers.specs.declared.Refusal.the-variants.{VolumeLength}
-use Rattle.answers.specs.declared.Answer.{Answer}
-use Rattle.answers.specs.declared.Answer.the-variants.{Ready, Refused}
-use Rattle.answers.specs.Refusal.{firstMet}
+use Rattle.call_answers.specs.declared.Refusal.the-variants.{VolumeLength}
+use Rattle.call_answers.specs.declared.Answer.{Answer}
+use Rattle.call_answers.specs.declared.Answer.the-variants.{Ready, Refused}
+use Rattle.call_answers.specs.Refusal.{firstMet}
 use Rattle.filecalls.specs.declared.Reply.{Reply}
 use Rattle.filecalls.specs.LogIn.{logIn, logInTests, refusedLogIn}
 use Rattle.listing.specs.Listing.{geometryV, lineAt, linesFrom, listingFor, listing}

@@ -8,17 +8,17 @@ use lib.Dec.{eqb, ltb}
 use lib.ListN.{length, take, drop, length-append}
 use lib.Seq.{take-at}
 use borrow.Author.Tests.{ltb-false}
-use Rattle.blocks.specs.Held.{freeCount, isFree}
-use Rattle.geometry.specs.Geometry.{lawful, bytes, slots}
-use Rattle.goodslots.specs.GoodSlot.{lowestBad}
-use Rattle.goodslots.specs.Named.{heldOf}
-use Rattle.goodslots.proofs.AcceptedLaws.{lowest-bad-le, accepted}
+use Rattle.disk_held.specs.Held.{freeCount, isFree}
+use Rattle.disk_geometry.specs.Geometry.{lawful, bytes, slots}
+use Rattle.disk_rules.specs.GoodSlot.{lowestBad}
+use Rattle.disk_rules.specs.Named.{heldOf}
+use Rattle.disk_rules.proofs.AcceptedLaws.{lowest-bad-le, accepted}
 use Rattle.text.specs.Text.{Text, text, puts}
 use Rattle.text.proofs.TextLaws.{puts-room}
-use Rattle.answers.specs.declared.Refusal.the-variants.{VolumeLength}
-use Rattle.answers.specs.declared.Answer.{Answer}
-use Rattle.answers.specs.declared.Answer.the-variants.{Ready, BadSlot, Refused}
-use Rattle.answers.specs.Refusal.{firstMet}
+use Rattle.call_answers.specs.declared.Refusal.the-variants.{VolumeLength}
+use Rattle.call_answers.specs.declared.Answer.{Answer}
+use Rattle.call_answers.specs.declared.Answer.the-variants.{Ready, BadSlot, Refused}
+use Rattle.call_answers.specs.Refusal.{firstMet}
 use Rattle.filecalls.specs.LogIn.{logIn, logInTests, refusedLogIn}
 use Rattle.listing.specs.Listing.{geometryV, listingFor, listing}
 use Rattle.listing.specs.Listing as the

@@ -6,17 +6,17 @@ use Prim.Native.Nat.{ℕ, zero, suc, _+_}
 use lib.Dec.{eqb}
 use Rattle.lists.specs.Search.{countFrom, fold}
 use Rattle.lists.specs.Bytes.{byte, part}
-use Rattle.geometry.specs.declared.Geometry.{Geometry}
-use Rattle.volume.specs.declared.Wanted.the-variants.{File}
-use Rattle.geometry.specs.Geometry.{slots, places}
-use Rattle.volume.specs.Name.{strip, nameOf}
-use Rattle.volume.specs.Entry.{Entry, isEmpty, blockIn, ofFile}
-use Rattle.volume.specs.Directory.{slotAt, findSlot}
+use Rattle.disk_geometry.specs.declared.Geometry.{Geometry}
+use Rattle.disk_volume.specs.declared.Wanted.the-variants.{File}
+use Rattle.disk_geometry.specs.Geometry.{slots, places}
+use Rattle.disk_volume.specs.Name.{strip, nameOf}
+use Rattle.disk_volume.specs.Entry.{Entry, isEmpty, blockIn, ofFile}
+use Rattle.disk_volume.specs.Directory.{slotAt, findSlot}
 use Rattle.text.specs.Decimal.{decimal}
-use Rattle.answers.specs.declared.Answer.{Answer}
-use Rattle.answers.specs.declared.Answer.the-variants.{Done, Ready, BadSlot, Refused, Several}
-use Rattle.answers.specs.Refusal.{refusalNumber}
-use Rattle.measuring.specs.Size.{sizeOf}
+use Rattle.call_answers.specs.declared.Answer.{Answer}
+use Rattle.call_answers.specs.declared.Answer.the-variants.{Done, Ready, BadSlot, Refused, Several}
+use Rattle.call_answers.specs.Refusal.{refusalNumber}
+use Rattle.call_size.specs.Size.{sizeOf}
 use Rattle.filecalls.specs.LogIn.{logIn}
 
 -- "a volume of V's geometry (40,960 bytes)": B 1,024, T 40, D 1

@@ -3,18 +3,18 @@ ghost use mathlib.Core.Path.{_≡_};
 ghost use mathlib.Core.Bool.{true, cond};
 ghost use Prim.Native.Nat.{_+_, _*_, _≤_, _<_};
 ghost use lib.ListN.{length};
-ghost use Rattle.geometry.specs.Geometry.{lawful, bytes, slots, places};
-ghost use Rattle.volume.specs.Name.{strip};
+ghost use Rattle.disk_geometry.specs.Geometry.{lawful, bytes, slots, places};
+ghost use Rattle.disk_volume.specs.Name.{strip};
 ghost use Rattle.listing.specs.Listing.{isUsed, usedPlaces, moreBlocks, blocksOf};
-use geometry::Geometry;
-use volume::Wanted;
+use disk_geometry::Geometry;
+use disk_volume::Wanted;
 
 // 1 where place p of the entry's map names a block, else 0.
 fn used_at(g: Geometry, e: &[u8], p: usize) -> usize
     requires { ⌜ (p < places g) × (length (now e) ≡ 32) ⌝ }
     ensures { λ r. ⌜ (r ≡ cond (isUsed g (now (e .entry)) p) 1 0) × (r ≤ 1) ⌝ }
 {
-    if volume::entry::block_in(g, e, p) != 0 {
+    if disk_volume::entry::block_in(g, e, p) != 0 {
         1
     } else {
         0
@@ -43,7 +43,7 @@ fn more_blocks(g: Geometry, volume: &[u8], user: u8, name: &[u8], m: usize, i: u
     ensures { λ r. ⌜ (r ≡ moreBlocks g (now (volume .entry)) user (strip (now (name .entry))) m i) × (r ≤ 16 * (i + 1)) ⌝ }
 {
     let at = g.slot_start(i);
-    if !volume::entry::has(g, &volume[at..at + 32], user, name, Wanted::File) {
+    if !disk_volume::entry::has(g, &volume[at..at + 32], user, name, Wanted::File) {
         return m;
     }
     m + used_places(g, &volume[at..at + 32])

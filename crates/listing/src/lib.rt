@@ -6,9 +6,9 @@ ghost use lib.ListN.{length};
 ghost use Rattle.text.specs.Text.{text, puts};
 ghost use Rattle.listing.specs.Listing.{geometryV, refusedWord, listing};
 ghost use Rattle.text.specs.Decimal.{decimal};
-use answers::Answer;
+use call_answers::Answer;
+use disk_geometry::Geometry;
 use filecalls::Drive;
-use geometry::Geometry;
 
 mod blocks_held;
 mod lines;
@@ -53,7 +53,7 @@ pub fn list(volume: &[u8], out: &mut [u8]) -> usize
             text::put_byte(out, c, b'\n')
         }
         Answer::Refused(why) => {
-            let a = put_refused(out, answers::refusal_number(why));
+            let a = put_refused(out, call_answers::refusal_number(why));
             text::put_byte(out, a, b'\n')
         }
         Answer::Done(_) => 0,

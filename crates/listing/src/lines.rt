@@ -3,13 +3,13 @@ ghost use mathlib.Core.Path.{_≡_};
 ghost use mathlib.Core.Bool.{true};
 ghost use Prim.Native.Nat.{_<_};
 ghost use lib.ListN.{length};
-ghost use Rattle.geometry.specs.Geometry.{lawful, bytes, slots};
-ghost use Rattle.volume.specs.Name.{strip};
+ghost use Rattle.disk_geometry.specs.Geometry.{lawful, bytes, slots};
+ghost use Rattle.disk_volume.specs.Name.{strip};
 ghost use Rattle.text.specs.Text.{text, puts};
 ghost use Rattle.listing.specs.Listing.{isListed, nameText, line, lineAt, linesFrom, accepted};
 use crate::blocks_held;
-use geometry::Geometry;
-use volume::Wanted;
+use disk_geometry::Geometry;
+use disk_volume::Wanted;
 
 // The bytes of s without their top bits.
 fn put_stripped(out: &mut [u8], at: usize, s: &[u8]) -> usize
@@ -40,7 +40,7 @@ fn put_line(g: Geometry, volume: &[u8], e: &[u8], out: &mut [u8], at: usize) -> 
     ensures { λ r. ⌜ text (now (out .exit)) r ≡ puts (text (now (out .entry)) at) (line g (now (volume .entry)) (now (e .entry))) ⌝ }
 {
     let user = e[0];
-    let size = measuring::size_of(g, volume, user, &e[1..12]);
+    let size = call_size::size_of(g, volume, user, &e[1..12]);
     let blocks = blocks_held::blocks_of(g, volume, user, &e[1..12]);
     let a = text::put_decimal(out, at, lists::wide(user));
     let b = text::put_byte(out, a, b' ');
@@ -58,10 +58,10 @@ fn is_listed(g: Geometry, volume: &[u8], e: &[u8], i: usize) -> bool
     ensures { λ r. ⌜ r ≡ isListed g (now (volume .entry)) (now (e .entry)) i ⌝ }
 {
     let user = e[0];
-    if user == volume::entry::EMPTY {
+    if user == disk_volume::entry::EMPTY {
         return false;
     }
-    volume::directory::find(g, volume, user, &e[1..12], Wanted::File) == i
+    disk_volume::directory::find(g, volume, user, &e[1..12], Wanted::File) == i
 }
 
 // What slot i adds: the file's line where its entry stands for the file.

@@ -4,15 +4,15 @@ ghost use mathlib.Core.Path.{_≡_};
 ghost use Prim.Native.Nat.{_-_, _≤_, min};
 ghost use lib.ListN.{length};
 ghost use Rattle.lists.specs.Bytes.{part};
+use disk_geometry::Geometry;
 use filecalls::Drive;
-use geometry::Geometry;
 use libc::STDIN_FILENO;
 use libc::STDOUT_FILENO;
-use script::Header;
-use script::Next;
-use script::window;
-use transcript::lines;
-use transcript::records;
+use replay_script::Header;
+use replay_script::Next;
+use replay_script::window;
+use replay_transcript::lines;
+use replay_transcript::records;
 
 // Where `out` is written to standard output before more is appended. What is appended in one go, the longest line of a
 // call (131,597 bytes) or 256 records (68,864 bytes), then has room in its 262,144 bytes, the last two lines too.
@@ -81,7 +81,7 @@ fn refill(window: &mut [u8], run: Run) -> Unread
     ensures { λ r. ⌜ (r .from ≤ r .to) × (r .to ≤ length (now (window .exit))) ⌝ }
     ensures { λ r. ⌜ part (now (window .exit)) (r .from) (run .to - run .from) ≡ part (now (window .entry)) (run .from) (run .to - run .from) ⌝ }
 {
-    let enough = script::LONGEST_CALL <= run.to - run.from;
+    let enough = replay_script::LONGEST_CALL <= run.to - run.from;
     if enough | run.ended {
         return Unread {
             from: run.from,
@@ -102,7 +102,7 @@ fn turn(g: Geometry, run: Run, window: &mut [u8], volume: &mut [u8], out: &mut [
     let to = u.to;
     let at = make_room(out, run.at);
     let before = run.drive;
-    let t = playing::take_turn(g, before, &mut window[from..to], volume, out, at);
+    let t = replay_turn::take_turn(g, before, &mut window[from..to], volume, out, at);
     let next = t.next;
     let drive = t.drive;
     Run {
@@ -245,7 +245,7 @@ fn with_script(window: &mut [u8], given: &mut [u8], volume: &mut [u8], out: &mut
 {
     let mut head = [0u8; 10];
     let got = io::read_full(STDIN_FILENO, &mut head);
-    match script::header_of(&head[..got]) {
+    match replay_script::header_of(&head[..got]) {
         Header::Bad => refuse(out),
         Header::Good(g, n) => with_header(g, n, window, given, volume, out),
     }

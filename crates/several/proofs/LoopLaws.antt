@@ -8,8 +8,8 @@ use native.Mathlib.Omega.{arith}
 use lib.ListN.{length}
 use Rattle.lists.specs.Bytes.{part, put}
 use Rattle.lists.proofs.PartLaws.{put-part}
-use Rattle.answers.specs.declared.Refusal.the-variants.{None}
-use Rattle.answers.specs.Answer.{succeeded, whyOf}
+use Rattle.call_answers.specs.declared.Refusal.the-variants.{None}
+use Rattle.call_answers.specs.Answer.{succeeded, whyOf}
 use Rattle.filecalls.specs.declared.Drive.{Drive}
 use Rattle.filecalls.specs.declared.Reply.{Reply}
 use Rattle.filecalls.specs.Outcome.{Outcome, left}

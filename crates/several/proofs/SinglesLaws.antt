@@ -8,9 +8,9 @@ use lib.ListN.{length}
 use borrow.Author.Tests.{lt-ltb}
 use Rattle.lists.specs.Bytes.{part, put}
 use Rattle.lists.proofs.PartLaws.{put-part}
-use Rattle.answers.specs.declared.Answer.the-variants as answer
-use Rattle.answers.specs.Answer.{numberOf, valueOf, succeeded, whyOf}
-use Rattle.answers.proofs.AnswerLaws.{why-number}
+use Rattle.call_answers.specs.declared.Answer.the-variants as answer
+use Rattle.call_answers.specs.Answer.{numberOf, valueOf, succeeded, whyOf}
+use Rattle.call_answers.proofs.AnswerLaws.{why-number}
 use Rattle.filecalls.specs.declared.Drive.{Drive}
 use Rattle.filecalls.specs.Outcome.{Outcome}
 use Rattle.filecalls.proofs.OutcomeLaws.{sameAll}

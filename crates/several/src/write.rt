@@ -4,7 +4,7 @@ ghost use Prim.Native.Nat.{_+_, _*_, _≤_};
 ghost use lib.ListN.{length};
 ghost use Rattle.filecalls.specs.Outcome.{left};
 ghost use Rattle.several.specs.Several.{writeOne, onPiece, singles, several};
-use answers::Refusal;
+use call_answers::Refusal;
 use filecalls::Drive;
 use filecalls::Reply;
 
@@ -28,8 +28,8 @@ fn write_pieces(drive: Drive, volume: &mut [u8], f: &mut [u8], buffer: &[u8], k:
         let r = write_piece(d, volume, f, buffer, i);
         let answer = r.answer;
         let next = r.drive;
-        if !answers::succeeded(answer) {
-            return lent::ended(next, i, answers::why_of(answer));
+        if !call_answers::succeeded(answer) {
+            return lent::ended(next, i, call_answers::why_of(answer));
         }
         d = next;
         i += 1;
@@ -42,7 +42,7 @@ pub fn write_several(drive: Drive, volume: &mut [u8], f: &mut [u8], buffer: &[u8
     ensures { λ r. ⌜ left r (now (volume .exit)) (now (f .exit)) (now (buffer .entry)) ≡ several writeOne drive (now (volume .entry)) (now (f .entry)) (now (buffer .entry)) k ⌝ }
 {
     let why = lent::lent_why(drive, volume, f, buffer, k);
-    if !answers::is_none(why) {
+    if !call_answers::is_none(why) {
         return lent::ended(drive, 0, why);
     }
     write_pieces(drive, volume, f, buffer, lists::wide(k))

@@ -7,10 +7,10 @@ use lib.Dec.{leb, eqb}
 use lib.ListN.{length}
 use denote.Ref.{now}
 use borrow.Author.Tests.{not-false}
-use Rattle.geometry.specs.Geometry.{bytes}
-use Rattle.answers.specs.declared.Refusal.the-variants.{VolumeLength, BlockLength, BadCount, BufferLength}
-use Rattle.answers.specs.Refusal.{firstMet, test, isNone}
-use Rattle.answers.proofs.Ladder.{ladder-pass, ladder-four}
+use Rattle.disk_geometry.specs.Geometry.{bytes}
+use Rattle.call_answers.specs.declared.Refusal.the-variants.{VolumeLength, BlockLength, BadCount, BufferLength}
+use Rattle.call_answers.specs.Refusal.{firstMet, test, isNone}
+use Rattle.call_answers.proofs.Ladder.{ladder-pass, ladder-four}
 use Rattle.filecalls.specs.Tests.{closedState}
 use Rattle.filecalls.proofs.StateLaws.{is-open}
 use Rattle.lent.specs.Lent.{severalTests}

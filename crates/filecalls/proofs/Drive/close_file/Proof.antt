@@ -1,7 +1,7 @@
 -- What is lent refuses, or the slot that close means decides.
 use Rattle.filecalls.specs.Open.{closeAct, closeTests}
-use Rattle.answers.specs.Refusal.{isNone}
-use Rattle.openclose.specs.Open.{closeSlot}
+use Rattle.call_answers.specs.Refusal.{isNone}
+use Rattle.call_open.specs.Open.{closeSlot}
 use Prim.Native.Nat.{_%_}
 use mathlib.Core.Bool.{false}
 use Rattle.filecalls.proofs.NamingLaws.{named-no, named-decided}

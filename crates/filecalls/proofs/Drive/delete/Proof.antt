@@ -3,17 +3,17 @@ use Rattle.filecalls.proofs.NamingLaws.{held-or, named-no, named-decide
 use Rattle.filecalls.specs.Tests.{protectedDrive}
 use Rattle.filecalls.specs.Names.{deleteAct, deleteLadder}
 use Rattle.filecalls.specs.Outcome.{frees, eachEntry, changedState, stored, storedAll}
-use Rattle.answers.specs.Refusal.{isNone}
-use Rattle.answers.specs.declared.Refusal.the-variants.{Protected}
-use Rattle.answers.proofs.Ladder.{ladder-one}
-use Rattle.sweeping.specs.declared.Edit.the-variants.{Erase}
-use Rattle.sweeping.specs.Sweep.{changed}
-use Rattle.deleting.specs.Delete.{deleteTests, freeMatches}
+use Rattle.call_answers.specs.Refusal.{isNone}
+use Rattle.call_answers.specs.declared.Refusal.the-variants.{Protected}
+use Rattle.call_answers.proofs.Ladder.{ladder-one}
+use Rattle.call_sweep.specs.declared.Edit.the-variants.{Erase}
+use Rattle.call_sweep.specs.Sweep.{changed}
+use Rattle.call_delete.specs.Delete.{deleteTests, freeMatches}
 use Rattle.lists.specs.Bytes.{part}
 use mathlib.Core.Bool.{true}
 use Rattle.filecalls.proofs.OutcomeLaws.{either}
 use Rattle.filecalls.proofs.StateLaws.{Named, named}
-use Rattle.volume.specs.Name.{nameAt, nameOf}
+use Rattle.disk_volume.specs.Name.{nameAt, nameOf}
 use denote.Ref.{now}
 use native.Mathlib.Omega.{arith}
 use mathlib.Core.List.{[], _∷_}

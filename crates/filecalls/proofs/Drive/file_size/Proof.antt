@@ -1,14 +1,14 @@
 -- What is lent refuses, or the measuring of the file decides.
 use Rattle.filecalls.specs.Open.{sizeAct, sizeTests}
-use Rattle.answers.specs.Refusal.{isNone}
-use Rattle.measuring.specs.Size.{sizeOf}
-use Rattle.control.specs.Block.{withRandom}
+use Rattle.call_answers.specs.Refusal.{isNone}
+use Rattle.call_size.specs.Size.{sizeOf}
+use Rattle.call_fcb.specs.Block.{withRandom}
 use mathlib.Core.Bool.{false}
 use Rattle.filecalls.proofs.NamingLaws.{named-no, named-decided}
 use Rattle.filecalls.proofs.OutcomeLaws.{either}
 use Rattle.filecalls.proofs.StateLaws.{Named, named}
 use Rattle.filecalls.specs.Outcome.{keeps, changedState, storedAll}
-use Rattle.volume.specs.Name.{nameOf}
+use Rattle.disk_volume.specs.Name.{nameOf}
 use denote.Ref.{now}
 use mathlib.Core.List.{[]}
 use borrow.Author.Needs.{needs}

@@ -6,11 +6,11 @@ use native.Mathlib.Omega.{arith}
 use denote.Ref.{now}
 use lib.Dec.{ltb, eqb}
 use lib.ListN.{length}
-use Rattle.volume.specs.Name.{goodName, nameAt, nameOf}
+use Rattle.disk_volume.specs.Name.{goodName, nameAt, nameOf}
 use Rattle.lists.specs.Bytes.{byte, part}
-use Rattle.answers.specs.declared.Refusal.the-variants.{DriveCode, Name, Position}
-use Rattle.answers.specs.Refusal.{test}
-use Rattle.answers.proofs.Ladder.{ladder-three, ladder-stop, ladder-pass}
+use Rattle.call_answers.specs.declared.Refusal.the-variants.{DriveCode, Name, Position}
+use Rattle.call_answers.specs.Refusal.{test}
+use Rattle.call_answers.proofs.Ladder.{ladder-three, ladder-stop, ladder-pass}
 use Rattle.filecalls.specs.Lent.{lentTests, firstLent}
 use Rattle.filecalls.specs.Search.{examined}
 use Rattle.filecalls.proofs.LentLaws.{LengthsLent, lengths-passed}

@@ -1,11 +1,11 @@
 -- The state is asked first; then the three lengths.
 use mathlib.Core.Bool.{true, not}
 use lib.Dec.{eqb}
-use Rattle.geometry.specs.Geometry.{bytes}
+use Rattle.disk_geometry.specs.Geometry.{bytes}
 use Rattle.filecalls.specs.Tests.{closedState}
-use Rattle.answers.proofs.Ladder.{ladder-pass, ladder-three}
-use Rattle.answers.specs.Refusal.{firstMet, test, isNone}
-use Rattle.answers.specs.declared.Refusal.the-variants.{VolumeLength, BlockLength, BufferLength}
+use Rattle.call_answers.proofs.Ladder.{ladder-pass, ladder-three}
+use Rattle.call_answers.specs.Refusal.{firstMet, test, isNone}
+use Rattle.call_answers.specs.declared.Refusal.the-variants.{VolumeLength, BlockLength, BufferLength}
 use mathlib.Core.List.{[], _∷_}
 use Rattle.filecalls.proofs.StateLaws.{is-open}
 use Rattle.filecalls.specs.Lent.{lentTests}

@@ -4,20 +4,20 @@ use Rattle.filecalls.proofs.NamingLaws.{after, named-no, named-decided}
 use Rattle.filecalls.specs.Names.{makeAct, makeLadder}
 use Rattle.filecalls.specs.Tests.{untypeable, tooLarge, protectedDrive}
 use Rattle.filecalls.specs.Outcome.{entryTo, keeps, changedState, stored, storedAll}
-use Rattle.answers.specs.Refusal.{isNone, first}
-use Rattle.answers.specs.declared.Refusal.the-variants.{Protected}
-use Rattle.answers.proofs.Ladder.{ladder-one}
-use Rattle.making.specs.Make.{makeTests, freshEntry}
-use Rattle.control.specs.Block.{made}
-use Rattle.volume.specs.Directory.{findSlot}
-use Rattle.volume.specs.declared.Wanted.the-variants.{Empty}
+use Rattle.call_answers.specs.Refusal.{isNone, first}
+use Rattle.call_answers.specs.declared.Refusal.the-variants.{Protected}
+use Rattle.call_answers.proofs.Ladder.{ladder-one}
+use Rattle.call_make.specs.Make.{makeTests, freshEntry}
+use Rattle.call_fcb.specs.Block.{made}
+use Rattle.disk_volume.specs.Directory.{findSlot}
+use Rattle.disk_volume.specs.declared.Wanted.the-variants.{Empty}
 use Rattle.lists.specs.Bytes.{byte, part}
 use lib.Dec.{eqb}
 use Prim.Native.Nat.{_%_}
 use mathlib.Core.Bool.{false}
 use Rattle.filecalls.proofs.OutcomeLaws.{either}
 use Rattle.filecalls.proofs.StateLaws.{Named, named}
-use Rattle.volume.specs.Name.{nameAt, nameOf}
+use Rattle.disk_volume.specs.Name.{nameAt, nameOf}
 use denote.Ref.{now}
 use mathlib.Core.List.{[], _∷_}
 use mathlib.Core.Path.{_≡_, refl, ap, _∙_}

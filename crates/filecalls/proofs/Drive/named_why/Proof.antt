@@ -2,9 +2,9 @@
 use lib.Dec.{ltb}
 use mathlib.Core.Bool.{not}
 use Rattle.lists.specs.Bytes.{byte, part}
-use Rattle.volume.specs.Name.{goodName, nameAt}
-use Rattle.answers.proofs.Ladder.{ladder-two, ladder-stop, ladder-pass}
-use Rattle.answers.specs.declared.Refusal.the-variants.{DriveCode, Name}
+use Rattle.disk_volume.specs.Name.{goodName, nameAt}
+use Rattle.call_answers.proofs.Ladder.{ladder-two, ladder-stop, ladder-pass}
+use Rattle.call_answers.specs.declared.Refusal.the-variants.{DriveCode, Name}
 use Rattle.filecalls.proofs.OutcomeLaws.{refuses, clears}
 use Rattle.filecalls.proofs.StateLaws.{lent-clear}
 use Rattle.filecalls.specs.Ready.{Lent}

@@ -1,9 +1,9 @@
 -- What is lent refuses, or the slot that open means decides.
 use Rattle.filecalls.specs.Open.{openAct, openTests}
-use Rattle.answers.specs.Refusal.{isNone}
-use Rattle.openclose.specs.Open.{openSlot}
-use Rattle.control.specs.Block.{opened}
-use Rattle.volume.specs.Directory.{slotAt}
+use Rattle.call_answers.specs.Refusal.{isNone}
+use Rattle.call_open.specs.Open.{openSlot}
+use Rattle.call_fcb.specs.Block.{opened}
+use Rattle.disk_volume.specs.Directory.{slotAt}
 use Prim.Native.Nat.{_%_}
 use mathlib.Core.Bool.{true}
 use Rattle.filecalls.proofs.NamingLaws.{named-no, named-decided}

@@ -2,10 +2,10 @@
 use Rattle.filecalls.specs.Small.{setRandomTests}
 use borrow.Author.Tests.{not-false, eqb-true}
 use Rattle.filecalls.specs.Tests.{closedState, blockLength}
-use Rattle.answers.proofs.Ladder.{ladder-pass, ladder-two}
-use Rattle.answers.specs.Refusal.{firstMet, test, isNone}
-use Rattle.answers.specs.declared.Refusal.the-variants.{DriveCode, Position}
-use Rattle.control.specs.Block.{positionFits}
+use Rattle.call_answers.proofs.Ladder.{ladder-pass, ladder-two}
+use Rattle.call_answers.specs.Refusal.{firstMet, test, isNone}
+use Rattle.call_answers.specs.declared.Refusal.the-variants.{DriveCode, Position}
+use Rattle.call_fcb.specs.Block.{positionFits}
 use Rattle.lists.specs.Bytes.{byte}
 use lib.ListN.{length}
 use lib.Dec.{ltb, eqb}

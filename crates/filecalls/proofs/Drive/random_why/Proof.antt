@@ -3,9 +3,9 @@ use Rattle.filecalls.proofs.OutcomeLaws.{refuses}
 use Rattle.filecalls.proofs.LentLaws.{NamedLent, named-passed}
 use Rattle.filecalls.specs.Tests.{beyond}
 use Rattle.filecalls.specs.Lent.{namedTests, randomLent}
-use Rattle.answers.proofs.Ladder.{ladder-stop, ladder-pass, ladder-one}
-use Rattle.answers.specs.Refusal.{test}
-use Rattle.answers.specs.declared.Refusal.the-variants.{Beyond}
+use Rattle.call_answers.proofs.Ladder.{ladder-stop, ladder-pass, ladder-one}
+use Rattle.call_answers.specs.Refusal.{test}
+use Rattle.call_answers.specs.declared.Refusal.the-variants.{Beyond}
 use Rattle.lists.specs.Bytes.{byte}
 use lib.Dec.{eqb}
 use denote.Ref.{now}

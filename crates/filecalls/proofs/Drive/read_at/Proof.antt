@@ -1,12 +1,12 @@
 -- The read's own refusal is the ladder's; control block and buffer follow it.
 use mathlib.Core.List.{[]}
 use denote.Ref.{now}
-use Rattle.volume.specs.Name.{nameOf}
-use Rattle.volume.specs.Directory.{slotAt}
-use Rattle.volume.specs.Record.{recordSlot}
-use Rattle.control.specs.Block.{setTo}
-use Rattle.reading.specs.Read.{readTests, readBytes}
-use Rattle.answers.specs.Refusal.{isNone}
+use Rattle.disk_volume.specs.Name.{nameOf}
+use Rattle.disk_volume.specs.Directory.{slotAt}
+use Rattle.disk_volume.specs.Record.{recordSlot}
+use Rattle.call_fcb.specs.Block.{setTo}
+use Rattle.call_read.specs.Read.{readTests, readBytes}
+use Rattle.call_answers.specs.Refusal.{isNone}
 use Rattle.filecalls.specs.Outcome.{keeps, changedState, storedAll}
 use Rattle.filecalls.specs.Read.{readDone}
 use Rattle.filecalls.proofs.OutcomeLaws.{either, decided}

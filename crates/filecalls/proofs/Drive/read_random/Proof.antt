@@ -3,10 +3,10 @@ use mathlib.Core.Path.{refl}
 use denote.Ref.{now}
 use Prim.Native.Nat.{_%_}
 use lib.ListN.{length}
-use Rattle.volume.specs.Name.{nameOf}
-use Rattle.control.specs.Block.{random}
-use Rattle.reading.specs.Read.{readTests}
-use Rattle.answers.specs.declared.Refusal.the-variants.{NoGroup}
+use Rattle.disk_volume.specs.Name.{nameOf}
+use Rattle.call_fcb.specs.Block.{random}
+use Rattle.call_read.specs.Read.{readTests}
+use Rattle.call_answers.specs.declared.Refusal.the-variants.{NoGroup}
 use Rattle.filecalls.specs.Read.{randomTests, readRandomAct, readDone}
 use Rattle.filecalls.specs.Lent.{namedTests, randomLent}
 use Rattle.filecalls.proofs.LentLaws.{Random, random-passed}

@@ -4,10 +4,10 @@ use native.Mathlib.Omega.{arith}
 use denote.Ref.{now}
 use Prim.Native.Nat.{_+_, _%_}
 use lib.ListN.{length}
-use Rattle.volume.specs.Name.{nameOf}
-use Rattle.control.specs.Block.{position}
-use Rattle.reading.specs.Read.{readTests}
-use Rattle.answers.specs.declared.Refusal.the-variants.{Absent}
+use Rattle.disk_volume.specs.Name.{nameOf}
+use Rattle.call_fcb.specs.Block.{position}
+use Rattle.call_read.specs.Read.{readTests}
+use Rattle.call_answers.specs.declared.Refusal.the-variants.{Absent}
 use Rattle.filecalls.specs.Read.{sequentialTests, readSequentialAct, readDone}
 use Rattle.filecalls.specs.Lent.{namedTests, sequentialLent}
 use Rattle.filecalls.proofs.LentLaws.{Sequential, sequential-passed}

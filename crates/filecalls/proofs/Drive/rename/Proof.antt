@@ -1,14 +1,14 @@
 -- What is lent refuses, or the renaming of the file decides, after the new name and the protection.
 use Rattle.filecalls.proofs.NamingLaws.{after, named-no, named-decided}
 use Rattle.filecalls.specs.Names.{renameAct, renameLadder}
-use Rattle.answers.specs.Refusal.{isNone, first}
-use Rattle.answers.specs.declared.Refusal.the-variants.{Protected}
-use Rattle.answers.proofs.Ladder.{ladder-one}
-use Rattle.sweeping.specs.declared.Edit.the-variants.{Rename}
-use Rattle.sweeping.specs.Sweep.{changed}
-use Rattle.naming.specs.Rename.{renameTests}
-use Rattle.control.specs.Block.{newName}
-use Rattle.volume.specs.Name.{nameAt, nameOf}
+use Rattle.call_answers.specs.Refusal.{isNone, first}
+use Rattle.call_answers.specs.declared.Refusal.the-variants.{Protected}
+use Rattle.call_answers.proofs.Ladder.{ladder-one}
+use Rattle.call_sweep.specs.declared.Edit.the-variants.{Rename}
+use Rattle.call_sweep.specs.Sweep.{changed}
+use Rattle.call_rename.specs.Rename.{renameTests}
+use Rattle.call_fcb.specs.Block.{newName}
+use Rattle.disk_volume.specs.Name.{nameAt, nameOf}
 use Rattle.lists.specs.Bytes.{part}
 use mathlib.Core.Bool.{false}
 use Rattle.filecalls.proofs.OutcomeLaws.{either}

@@ -4,9 +4,9 @@ use mathlib.Core.List.{[], _∷_}
 use native.Mathlib.Omega.{arith}
 use denote.Ref.{now}
 use lib.Dec.{leb}
-use Rattle.geometry.specs.Geometry.{slots}
-use Rattle.answers.specs.declared.Refusal.the-variants.{NoMatch}
-use Rattle.answers.specs.Refusal.{test}
+use Rattle.disk_geometry.specs.Geometry.{slots}
+use Rattle.call_answers.specs.declared.Refusal.the-variants.{NoMatch}
+use Rattle.call_answers.specs.Refusal.{test}
 use Rattle.filecalls.specs.Lent.{lentTests, firstLent}
 use Rattle.filecalls.specs.Search.{searchFirstAct, firstTests, newSearch, hit, shown}
 use Rattle.filecalls.proofs.SearchLaws.{First, first-passed}

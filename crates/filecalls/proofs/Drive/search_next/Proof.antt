@@ -7,10 +7,10 @@ use denote.Ref.{now}
 use lib.Dec.{leb}
 use Prim.Native.Nat.{_+_, _<_}
 use borrow.Author.Tests.{not-false}
-use Rattle.geometry.proofs.GeometryLaws.{bounds}
-use Rattle.geometry.specs.Geometry.{slots}
-use Rattle.answers.specs.declared.Refusal.the-variants.{NoMatch}
-use Rattle.answers.specs.Refusal.{test}
+use Rattle.disk_geometry.proofs.GeometryLaws.{bounds}
+use Rattle.disk_geometry.specs.Geometry.{slots}
+use Rattle.call_answers.specs.declared.Refusal.the-variants.{NoMatch}
+use Rattle.call_answers.specs.Refusal.{test}
 use Rattle.filecalls.specs.Search.{searchNextAct, nextTests, isKept, hit, shown}
 use Rattle.filecalls.proofs.SearchLaws.{Next, next-passed, nextLent, no-block, kept-below}
 use Rattle.filecalls.proofs.OutcomeLaws.{passes, refused-at, stops-then, says-no}

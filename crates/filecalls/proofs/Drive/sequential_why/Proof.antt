@@ -3,10 +3,10 @@ use Rattle.filecalls.proofs.OutcomeLaws.{refuses}
 use Rattle.filecalls.proofs.LentLaws.{NamedLent, named-passed}
 use Rattle.filecalls.specs.Tests.{tooLarge, beyond}
 use Rattle.filecalls.specs.Lent.{namedTests, sequentialLent}
-use Rattle.answers.proofs.Ladder.{ladder-stop, ladder-pass, ladder-two}
-use Rattle.answers.specs.Refusal.{test}
-use Rattle.answers.specs.declared.Refusal.the-variants.{Position, Beyond}
-use Rattle.control.specs.Block.{position, positionFits}
+use Rattle.call_answers.proofs.Ladder.{ladder-stop, ladder-pass, ladder-two}
+use Rattle.call_answers.specs.Refusal.{test}
+use Rattle.call_answers.specs.declared.Refusal.the-variants.{Position, Beyond}
+use Rattle.call_fcb.specs.Block.{position, positionFits}
 use lib.Dec.{eqb}
 use denote.Ref.{now}
 use native.Mathlib.Omega.{arith}

@@ -1,14 +1,14 @@
 -- What is lent refuses, or the marking of the file decides, after the protection.
 use Rattle.filecalls.specs.Tests.{protectedDrive}
 use Rattle.filecalls.specs.Names.{attributesAct, attributesLadder}
-use Rattle.answers.specs.Refusal.{test, isNone}
-use Rattle.answers.specs.declared.Refusal.the-variants.{Protected, NoMatch}
-use Rattle.answers.proofs.Ladder.{ladder-one}
-use Rattle.sweeping.specs.declared.Edit.the-variants.{Attributes}
-use Rattle.sweeping.specs.Sweep.{changed}
-use Rattle.volume.specs.Directory.{findSlot}
-use Rattle.geometry.specs.Geometry.{slots}
-use Rattle.volume.specs.declared.Wanted.the-variants.{File}
+use Rattle.call_answers.specs.Refusal.{test, isNone}
+use Rattle.call_answers.specs.declared.Refusal.the-variants.{Protected, NoMatch}
+use Rattle.call_answers.proofs.Ladder.{ladder-one}
+use Rattle.call_sweep.specs.declared.Edit.the-variants.{Attributes}
+use Rattle.call_sweep.specs.Sweep.{changed}
+use Rattle.disk_volume.specs.Directory.{findSlot}
+use Rattle.disk_geometry.specs.Geometry.{slots}
+use Rattle.disk_volume.specs.declared.Wanted.the-variants.{File}
 use Rattle.lists.specs.Bytes.{part}
 use lib.Dec.{leb}
 use mathlib.Core.Bool.{false}
@@ -16,7 +16,7 @@ use Rattle.filecalls.proofs.NamingLaws.{named-no, named-decided, after}
 use Rattle.filecalls.proofs.OutcomeLaws.{either}
 use Rattle.filecalls.proofs.StateLaws.{Named, named}
 use Rattle.filecalls.specs.Outcome.{keeps, eachEntry, changedState, stored, storedAll}
-use Rattle.volume.specs.Name.{nameAt, nameOf}
+use Rattle.disk_volume.specs.Name.{nameAt, nameOf}
 use denote.Ref.{now}
 use native.Mathlib.Omega.{arith}
 use mathlib.Core.List.{[], _∷_}

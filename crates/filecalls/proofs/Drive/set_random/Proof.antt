@@ -2,9 +2,9 @@
 use Rattle.filecalls.proofs.OutcomeLaws.{refused-at, clears}
 use Rattle.filecalls.specs.Small.{setRandomTests, setRandomAct}
 use Rattle.filecalls.specs.Outcome.{unless, outcome, changedState, storedAll}
-use Rattle.answers.proofs.Ladder.{unmet}
-use Rattle.answers.specs.Refusal.{firstMet, isNone}
-use Rattle.answers.specs.declared.Refusal.the-variants.{Closed, BlockLength}
+use Rattle.call_answers.proofs.Ladder.{unmet}
+use Rattle.call_answers.specs.Refusal.{firstMet, isNone}
+use Rattle.call_answers.specs.declared.Refusal.the-variants.{Closed, BlockLength}
 use borrow.Author.Tests.{not-false, eqb-true}
 use lib.ListN.{length}
 use lib.Dec.{eqb}

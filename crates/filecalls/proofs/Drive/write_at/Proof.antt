@@ -1,7 +1,7 @@
 -- Holds since the write of the record hands back just what the act leaves, and a protected drive is refused before it.
 use Rattle.filecalls.proofs.WriteLaws.{write-decided}
 use Rattle.filecalls.proofs.OutcomeLaws.{stops-here, says-no}
-use Rattle.answers.specs.declared.Refusal.the-variants.{Protected}
+use Rattle.call_answers.specs.declared.Refusal.the-variants.{Protected}
 use mathlib.Core.Path.{refl}
 use denote.Ref.{now}
 use borrow.Author.Needs.{needs}

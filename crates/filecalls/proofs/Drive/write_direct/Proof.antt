@@ -2,7 +2,7 @@
 use Rattle.filecalls.proofs.LentLaws.{Random, random-passed, random-lent}
 use Rattle.filecalls.proofs.OutcomeLaws.{passes, refused-at}
 use Rattle.filecalls.specs.Read.{randomTests}
-use Rattle.answers.specs.Refusal.{firstMet, isNone}
+use Rattle.call_answers.specs.Refusal.{firstMet, isNone}
 use mathlib.Core.Path.{_≡_, sym, ap, _∙_}
 use mathlib.Core.Bool.{true}
 use lib.ListN.{length}

@@ -3,7 +3,7 @@ use Rattle.filecalls.proofs.LentLaws.{Sequential, sequential-passed, se
 use Rattle.filecalls.proofs.OutcomeLaws.{passes, refused-at}
 use Rattle.filecalls.specs.Write.{writeSequentialAct}
 use Rattle.filecalls.specs.Read.{sequentialTests}
-use Rattle.answers.specs.Refusal.{firstMet, isNone}
+use Rattle.call_answers.specs.Refusal.{firstMet, isNone}
 use native.Mathlib.Omega.{arith}
 use mathlib.Core.Path.{_≡_, sym, ap, _∙_}
 use mathlib.Core.Bool.{true}

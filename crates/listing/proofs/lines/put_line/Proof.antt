@@ -3,8 +3,8 @@ use denote.Ref.{now}
 use Rattle.listing.proofs.ListingLaws.{wrote-number}
 use Rattle.listing.specs.Listing.{nameText, blocksOf, line}
 use Rattle.text.proofs.TextLaws.{wrote, wrote-byte, then}
-use Rattle.measuring.specs.Size.{sizeOf}
-use Rattle.volume.specs.Name.{nameAt, nameOf}
+use Rattle.call_size.specs.Size.{sizeOf}
+use Rattle.disk_volume.specs.Name.{nameAt, nameOf}
 use Rattle.lists.specs.Bytes.{byte, part}
 use borrow.Author.Needs.{needs}
 use Rattle.listing.proofs.lines.put_line.Statement.{statement}

@@ -1,0 +1,88 @@
+// Make: the tests of the control block and of the directory, the new entry, and the call itself.
+ghost use mathlib.Core.Path.{_≡_};
+ghost use mathlib.Core.Bool.{true, not, cond};
+ghost use mathlib.Core.List.{[], _∷_};
+ghost use Prim.Native.Nat.{_<_};
+ghost use lib.Dec.{eqb};
+ghost use lib.ListN.{length};
+ghost use Rattle.lists.specs.Bytes.{byte};
+ghost use Rattle.disk_volume.specs.declared.Wanted.the-variants.{Empty};
+ghost use Rattle.disk_geometry.specs.Geometry.{lawful, bytes, slots};
+ghost use Rattle.disk_volume.specs.Name.{strip, nameOf};
+ghost use Rattle.disk_volume.specs.Directory.{findSlot, putSlot};
+ghost use Rattle.call_fcb.specs.Block.{made};
+ghost use Rattle.call_typing.specs.Typing.{typeable};
+ghost use Rattle.call_answers.specs.declared.Refusal.the-variants.{Untypeable, Position};
+ghost use Rattle.call_answers.specs.Refusal.{test, isNone, first, firstMet};
+ghost use Rattle.call_make.specs.Make.{makeTests, freshEntry};
+use call_answers::Refusal;
+use disk_geometry::Geometry;
+use disk_volume::Wanted;
+use disk_volume::directory;
+
+// What make hands back: why it is refused, and the lowest empty slot.
+pub struct Made {
+    pub why: Refusal,
+    pub slot: usize,
+}
+
+// Why no file can be made of the control block, whatever the directory holds: 45, then 40.
+pub fn new_file_why(f: &[u8]) -> Refusal
+    requires { ⌜ length (now f) ≡ 36 ⌝ }
+    ensures { λ r. ⌜ r ≡ firstMet (test Untypeable (not (typeable (nameOf (now (f .entry))))) ∷ test Position (not (eqb (byte (now (f .entry)) 12) 0)) ∷ []) ⌝ }
+{
+    let untypeable = call_answers::refuse(
+        Refusal::Untypeable,
+        !call_typing::typeable_name(&f[1..12]),
+    );
+    let position = call_answers::refuse(Refusal::Position, f[12] != 0);
+    call_answers::first_of(untypeable, position)
+}
+
+// Why the file can't be made, by an earlier refusal first, and the slot that it goes to.
+fn make_why(g: Geometry, volume: &[u8], user: u8, name: &[u8], before: Refusal) -> Made
+    requires { ⌜ (lawful g ≡ true) × ((length (now volume) ≡ bytes g) × (length (now name) ≡ 11)) ⌝ }
+    ensures { λ r. ⌜ r .why ≡ first before (firstMet (makeTests g (now (volume .entry)) user (strip (now (name .entry))))) ⌝ }
+    ensures { λ r. ⌜ r .slot ≡ findSlot g (now (volume .entry)) user (strip (now (name .entry))) Empty ⌝ }
+    ensures { λ r. ⌜ (isNone (r .why) ≡ true → r .slot < slots g) ⌝ }
+{
+    let slots = g.slots();
+    let taken = directory::find(g, volume, user, name, Wanted::File);
+    let slot = directory::find(g, volume, user, name, Wanted::Empty);
+    let exists = call_answers::refuse(Refusal::Exists, taken < slots);
+    let no_room = call_answers::refuse(Refusal::NoRoom, slots <= slot);
+    let why = call_answers::first_of(before, call_answers::first_of(exists, no_room));
+    Made { why, slot }
+}
+
+// A new entry of this user and name, with nothing in it.
+pub fn fresh_entry(user: u8, name: &[u8]) -> [u8; 32]
+    requires { ⌜ length (now name) ≡ 11 ⌝ }
+    ensures { λ r. ⌜ r ≡ freshEntry user (strip (now (name .entry))) ⌝ }
+{
+    let mut e = [0u8; 32];
+    e[0] = user;
+    call_sweep::lay_name(&mut e[1..12], name);
+    e
+}
+
+// Makes the file of the control block's name: its entry in the lowest empty slot, and the control block; or refuses, by
+// an earlier refusal first, and alters nothing.
+pub fn make_file(g: Geometry, volume: &mut [u8], f: &mut [u8], user: u8, before: Refusal) -> Made
+    requires { ⌜ (lawful g ≡ true) × ((length (now volume) ≡ bytes g) × (length (now f) ≡ 36)) ⌝ }
+    ensures { λ r. ⌜ r .why ≡ first before (firstMet (makeTests g (now (volume .entry)) user (nameOf (now (f .entry))))) ⌝ }
+    ensures { λ r. ⌜ r .slot ≡ findSlot g (now (volume .entry)) user (nameOf (now (f .entry))) Empty ⌝ }
+    ensures { λ r. ⌜ now (volume .exit) ≡ cond (isNone (r .why)) (putSlot g (now (volume .entry)) (r .slot) (freshEntry user (nameOf (now (f .entry))))) (now (volume .entry)) ⌝ }
+    ensures { λ r. ⌜ now (f .exit) ≡ cond (isNone (r .why)) (made (now (f .entry)) (nameOf (now (f .entry)))) (now (f .entry)) ⌝ }
+{
+    let mut name = [0u8; 11];
+    call_sweep::lay_name(&mut name, &f[1..12]);
+    let plan = make_why(g, volume, user, &name, before);
+    let why = plan.why;
+    if call_answers::is_none(why) {
+        let e = fresh_entry(user, &name);
+        directory::put_slot(g, volume, plan.slot, &e);
+        call_fcb::set_made(f, &name);
+    }
+    plan
+}

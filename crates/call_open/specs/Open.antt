@@ -1,0 +1,18 @@
+-- Open and close: the slot that each means, the number of slots where there is none.
+use mathlib.Core.List.{List}
+use Prim.Native.Nat.{ℕ}
+use Rattle.lists.specs.Bytes.{byte}
+use Rattle.disk_geometry.specs.declared.Geometry.{Geometry}
+use Rattle.disk_volume.specs.declared.Wanted.the-variants.{Group, MatchGroup}
+use Rattle.disk_geometry.specs.Geometry.{groupOf}
+use Rattle.disk_volume.specs.Name.{nameOf}
+use Rattle.disk_volume.specs.Entry.{extent}
+use Rattle.disk_volume.specs.Directory.{findSlot}
+
+-- "lowest slot of the current user whose name matches (3FH matches any byte) in the group of ex, with s2 taken as 0"
+unfoldable pub openSlot : Geometry → List ℕ → ℕ → List ℕ → ℕ
+openSlot g v u f = findSlot g v u (nameOf f) (MatchGroup (groupOf g (byte f 12)))
+
+-- "the group of (s2, ex) has an entry"
+unfoldable pub closeSlot : Geometry → List ℕ → ℕ → List ℕ → ℕ
+closeSlot g v u f = findSlot g v u (nameOf f) (Group (groupOf g (extent f)))

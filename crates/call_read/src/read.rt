@@ -1,0 +1,114 @@
+// The reads: where record n lies, or the first refusal; then the record and the control block.
+ghost use mathlib.Core.Path.{_≡_};
+ghost use mathlib.Core.Bool.{true, false, cond};
+ghost use Prim.Native.Nat.{_<_};
+ghost use lib.ListN.{length};
+ghost use Rattle.disk_geometry.specs.Geometry.{lawful, bytes, slots};
+ghost use Rattle.disk_volume.specs.Name.{strip, nameOf};
+ghost use Rattle.disk_volume.specs.Directory.{slotAt};
+ghost use Rattle.disk_volume.specs.Record.{counted, recordSlot, recordAt};
+ghost use Rattle.call_fcb.specs.Block.{setTo};
+ghost use Rattle.call_answers.specs.Refusal.{isNone, firstMet};
+ghost use Rattle.call_read.specs.Read.{readTests, readBytes};
+ghost use Rattle.call_read.specs.Plan.{planIn, readPlan};
+use call_answers::Refusal;
+use disk_geometry::Geometry;
+use disk_volume::Wanted;
+
+// Where the record lies, or why it can't be read.
+pub enum ReadPlan {
+    Go { slot: usize, block: usize },
+    No(Refusal),
+}
+
+// Does the entry count record n, and is its place used?
+fn is_counted(g: Geometry, e: &[u8], n: usize) -> bool
+    requires { ⌜ (lawful g ≡ true) × (length (now e) ≡ 32) ⌝ }
+    ensures { λ r. ⌜ r ≡ counted g (now (e .entry)) n ⌝ }
+{
+    let count = lists::wide(disk_volume::entry::count_of(e, n / 128));
+    let block = disk_volume::entry::block_in(g, e, g.place(n));
+    (n % 128 < count) & (block != 0)
+}
+
+// Record n by the entry in this slot: 1, 41, or where it lies.
+fn plan_in(g: Geometry, volume: &[u8], slot: usize, n: usize) -> ReadPlan
+    requires { ⌜ (lawful g ≡ true) × ((length (now volume) ≡ bytes g) × (slot < slots g)) ⌝ }
+    ensures { λ r. ⌜ r ≡ planIn g (now (volume .entry)) slot n ⌝ }
+{
+    let at = g.slot_start(slot);
+    if !is_counted(g, &volume[at..at + 32], n) {
+        return ReadPlan::No(Refusal::Absent);
+    }
+    let block = disk_volume::entry::block_in(g, &volume[at..at + 32], g.place(n));
+    if !g.is_inside(block) {
+        return ReadPlan::No(Refusal::Outside);
+    }
+    ReadPlan::Go { slot, block }
+}
+
+// Record n of the file: the first refusal, or where it lies.
+fn plan(g: Geometry, volume: &[u8], user: u8, name: &[u8], n: usize, missing: Refusal) -> ReadPlan
+    requires { ⌜ (lawful g ≡ true) × ((length (now volume) ≡ bytes g) × (length (now name) ≡ 11)) ⌝ }
+    requires { ⌜ isNone missing ≡ false ⌝ }
+    ensures { λ r. ⌜ r ≡ readPlan g (now (volume .entry)) user (strip (now (name .entry))) n missing ⌝ }
+{
+    let count = g.slots();
+    let slot = disk_volume::directory::find(g, volume, user, name, Wanted::Group(g.group(n / 128)));
+    if slot < count {
+        return plan_in(g, volume, slot, n);
+    }
+    let file = disk_volume::directory::find(g, volume, user, name, Wanted::File);
+    if file < count {
+        return ReadPlan::No(missing);
+    }
+    ReadPlan::No(Refusal::NoFile)
+}
+
+// The record goes to the buffer, and the control block is set to it.
+fn act(
+    g: Geometry,
+    volume: &[u8],
+    f: &mut [u8],
+    buffer: &mut [u8],
+    slot: usize,
+    block: usize,
+    n: usize,
+    cr: u8,
+)
+    requires { ⌜ (lawful g ≡ true) × ((length (now volume) ≡ bytes g) × ((length (now f) ≡ 36) × (length (now buffer) ≡ 128))) ⌝ }
+    requires { ⌜ (slot < slots g) × ((block < g .total) × (n < 65536)) ⌝ }
+    ensures { λ _. ⌜ now (f .exit) ≡ setTo (now (f .entry)) (slotAt g (now (volume .entry)) slot) n cr ⌝ }
+    ensures { λ _. ⌜ now (buffer .exit) ≡ recordAt g (now (volume .entry)) block n ⌝ }
+{
+    let at = g.record_start(block, n);
+    lists::copy(buffer, &volume[at..at + 128]);
+    let from = g.slot_start(slot);
+    call_fcb::set_to(f, &volume[from..from + 32], n, cr);
+}
+
+// Reads record n of the file in the control block: answers the first refusal, None where the record was read.
+pub fn read_record(
+    g: Geometry,
+    volume: &[u8],
+    f: &mut [u8],
+    buffer: &mut [u8],
+    user: u8,
+    n: usize,
+    cr: u8,
+    missing: Refusal,
+) -> Refusal
+    requires { ⌜ (lawful g ≡ true) × ((length (now volume) ≡ bytes g) × ((length (now f) ≡ 36) × (length (now buffer) ≡ 128))) ⌝ }
+    requires { ⌜ (n < 65536) × (isNone missing ≡ false) ⌝ }
+    ensures { λ r. ⌜ r ≡ firstMet (readTests g (now (volume .entry)) user (nameOf (now (f .entry))) n missing) ⌝ }
+    ensures { λ r. ⌜ now (f .exit) ≡ cond (isNone r) (setTo (now (f .entry)) (slotAt g (now (volume .entry)) (recordSlot g (now (volume .entry)) user (nameOf (now (f .entry))) n)) n cr) (now (f .entry)) ⌝ }
+    ensures { λ r. ⌜ now (buffer .exit) ≡ cond (isNone r) (readBytes g (now (volume .entry)) user (nameOf (now (f .entry))) n) (now (buffer .entry)) ⌝ }
+{
+    match plan(g, volume, user, &f[1..12], n, missing) {
+        ReadPlan::No(why) => why,
+        ReadPlan::Go { slot, block } => {
+            act(g, volume, f, buffer, slot, block, n, cr);
+            Refusal::None
+        }
+    }
+}

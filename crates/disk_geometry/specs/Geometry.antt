@@ -1,0 +1,57 @@
+-- The geometry: "T blocks of B bytes in logical record order .. the first D blocks are directory".
+-- `block` is B, `total` is T, `directory` is D.
+use mathlib.Core.Bool.{Bool, _&&_, _||_}
+use Prim.Native.Nat.{ℕ, _+_, _*_, _/_, _%_}
+use lib.Dec.{leb, ltb, eqb}
+use Rattle.disk_geometry.specs.declared.Geometry.{Geometry}
+
+-- "B is 1,024, 2,048 or 4,096; T is 2 to 256; .. D from 1 to 16 and below T"
+unfoldable pub lawful : Geometry → Bool
+lawful g =
+    (eqb (g .block) 1024 || eqb (g .block) 2048 || eqb (g .block) 4096)
+    && leb 2 (g .total)
+    && leb (g .total) 256
+    && leb 1 (g .directory)
+    && leb (g .directory) 16
+    && ltb (g .directory) (g .total)
+
+-- "Its length is T times B."
+abbrev pub bytes : Geometry → ℕ
+bytes g = g .total * g .block
+
+-- "R = B/128 records a block, X = B/1,024 extents an entry"
+abbrev pub records : Geometry → ℕ
+records g = g .block / 128
+
+abbrev pub extents : Geometry → ℕ
+extents g = g .block / 1024
+
+-- where logical record q of the volume begins: nothing else knows how records lie
+unfoldable pub start : Geometry → ℕ → ℕ
+start g q = q * 128
+
+-- "Slots are the directory's 32-byte pieces, numbered from 0": four in each of its records
+abbrev pub slots : Geometry → ℕ
+slots g = 4 * (g .directory * records g)
+
+unfoldable pub slotStart : Geometry → ℕ → ℕ
+slotStart g i = start g (i / 4) + i % 4 * 32
+
+-- "Its bytes begin at block times B plus (n mod R) times 128": record n in block b
+unfoldable pub recordStart : Geometry → ℕ → ℕ → ℕ
+recordStart g b n = start g (b * records g + n % records g)
+
+-- the group of extent x
+unfoldable pub groupOf : Geometry → ℕ → ℕ
+groupOf g x = x / extents g
+
+-- how many places an entry's map has, "16..31 sixteen block numbers", and the place of record n in it
+unfoldable pub places : Geometry → ℕ
+places g = 16
+
+unfoldable pub placeOf : Geometry → ℕ → ℕ
+placeOf g n = n % (128 * extents g) / records g
+
+-- "from D to T-1"
+unfoldable pub inside : Geometry → ℕ → Bool
+inside g b = leb (g .directory) b && ltb b (g .total)

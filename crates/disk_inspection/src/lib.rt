@@ -1,0 +1,93 @@
+// Inspection at log-in: the lowest bad slot, and the blocks that entries name.
+ghost use mathlib.Core.Path.{_≡_};
+ghost use mathlib.Core.Bool.{true};
+ghost use Prim.Native.Nat.{_+_, _≤_, _<_};
+ghost use lib.ListN.{length};
+ghost use Rattle.disk_geometry.specs.Geometry.{lawful, bytes, slots};
+ghost use Rattle.disk_held.specs.Held.{wordsOf, freeCount};
+ghost use Rattle.disk_rules.specs.GoodSlot.{goodSlot, lowestBad};
+ghost use Rattle.disk_rules.specs.Named.{heldOf};
+ghost use Rattle.disk_maps.specs.HeldBelow.{heldBelow};
+ghost use Rattle.disk_marks.specs.Marks.{marked};
+use disk_geometry::Geometry;
+use disk_maps::Taken;
+use disk_volume::entry;
+
+// The lowest bad slot, the number of slots where none is bad; then the held blocks and the number of free ones too.
+pub struct Inspected {
+    pub slot: usize,
+    pub held: [u64; 4],
+    pub free: usize,
+}
+
+// The lowest bad slot, and the blocks held below it.
+struct Looked {
+    slot: usize,
+    held: [u64; 4],
+}
+
+// Is slot i good? Then its blocks are held beside those of the lower slots, and its mark is set.
+fn take_slot(g: Geometry, volume: &[u8], i: usize, held: [u64; 4], marks: &mut [u64]) -> Taken
+    requires { ⌜ (lawful g ≡ true) × (length (now volume) ≡ bytes g) ⌝ }
+    requires { ⌜ (i < slots g) × (held ≡ wordsOf (heldBelow g (now volume) i)) ⌝ }
+    requires { ⌜ (length (now marks) ≡ 1024) × (marked g (now volume) (now marks) i ≡ true) ⌝ }
+    ensures { λ r. ⌜ r .good ≡ goodSlot g (now (volume .entry)) i ⌝ }
+    ensures { λ r. ⌜ (r .good ≡ true → r .held ≡ wordsOf (heldBelow g (now (volume .entry)) (i + 1))) ⌝ }
+    ensures { λ r. ⌜ (r .good ≡ true → marked g (now (volume .entry)) (now (marks .exit)) (i + 1) ≡ true) ⌝ }
+{
+    let at = g.slot_start(i);
+    if volume[at] == entry::EMPTY {
+        return Taken { good: true, held };
+    }
+    if !disk_rules::good_entry(&volume[at..at + 32]) {
+        return Taken { good: false, held };
+    }
+    let taken = disk_maps::take_map(g, volume, i, held);
+    if !taken.good {
+        return Taken { good: false, held };
+    }
+    let next = taken.held;
+    let seen = disk_marks::is_seen(g, volume, i, &volume[at..at + 32], marks);
+    Taken {
+        good: !seen,
+        held: next,
+    }
+}
+
+// The lowest bad slot, and the blocks that the entries below it name.
+fn look(g: Geometry, volume: &[u8]) -> Looked
+    requires { ⌜ (lawful g ≡ true) × (length (now volume) ≡ bytes g) ⌝ }
+    ensures { λ r. ⌜ (r .slot ≡ lowestBad g (now (volume .entry))) × (r .slot ≤ slots g) ⌝ }
+    ensures { λ r. ⌜ (r .slot ≡ slots g → r .held ≡ heldOf g (now (volume .entry))) ⌝ }
+{
+    let n = g.slots();
+    let mut held = [0u64; 4];
+    let mut marks = [0u64; disk_marks::WORDS];
+    let mut i = 0;
+    while i < n {
+        let taken = take_slot(g, volume, i, held, &mut marks);
+        if !taken.good {
+            return Looked { slot: i, held };
+        }
+        let next = taken.held;
+        held = next;
+        i += 1;
+    }
+    Looked { slot: i, held }
+}
+
+// The lowest bad slot, the blocks that the entries name, and how many are free.
+pub fn inspect(g: Geometry, volume: &[u8]) -> Inspected
+    requires { ⌜ (lawful g ≡ true) × (length (now volume) ≡ bytes g) ⌝ }
+    ensures { λ r. ⌜ (r .slot ≡ lowestBad g (now (volume .entry))) × (r .slot ≤ slots g) ⌝ }
+    ensures { λ r. ⌜ (r .slot ≡ slots g → (r .held ≡ heldOf g (now (volume .entry))) × (r .free ≡ freeCount (heldOf g (now (volume .entry))) (g .directory) (g .total))) ⌝ }
+{
+    let seen = look(g, volume);
+    let held = seen.held;
+    let free = disk_held::free_count(held, g.directory, g.total);
+    Inspected {
+        slot: seen.slot,
+        held,
+        free,
+    }
+}

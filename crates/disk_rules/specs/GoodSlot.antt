@@ -1,0 +1,61 @@
+-- "A slot is good if empty, or if: user is 0..15; name bytes without top bits are 20H..7EH and not 3FH, the first not
+-- 20H; only bytes 9 and 10 may carry a top bit; ex is at most 31, s1 is 0, s2 at most 15, rc at most 128; each block
+-- number is 0 or from D to T-1; none but 0 occurs twice in it or in a lower slot that is not empty; no lower slot has the
+-- same user, name and group."
+use mathlib.Core.Bool.{Bool, false, not, _&&_, _||_}
+use mathlib.Core.List.{List}
+use Prim.Native.Nat.{ℕ, _+_}
+use lib.Dec.{leb, ltb, eqb}
+use Rattle.lists.specs.Search.{lowest, any, every}
+use Rattle.lists.specs.Bytes.{byte}
+use Rattle.disk_geometry.specs.declared.Geometry.{Geometry}
+use Rattle.disk_geometry.specs.Geometry.{slots, groupOf, inside, places}
+use Rattle.disk_volume.specs.Name.{nameOf, goodName}
+use Rattle.disk_volume.specs.Entry.{Entry, isEmpty, extent, blockIn, ofGroup}
+use Rattle.disk_volume.specs.Directory.{slotAt}
+
+-- the bytes other than name and map
+unfoldable pub goodFields : Entry → Bool
+goodFields e = leb (byte e 0) 15 && leb (byte e 12) 31 && eqb (byte e 13) 0 && leb (byte e 14) 15 && leb (byte e 15) 128
+
+-- "only bytes 9 and 10 may carry a top bit"
+unfoldable pub goodTopBits : Entry → Bool
+goodTopBits e = every 11 (λ k. ltb (byte e (1 + k)) 128 || eqb k 8 || eqb k 9)
+
+-- the entry's map has block b in one of the first k places; the entry has it
+unfoldable pub inPlaces : Geometry → Entry → ℕ → ℕ → Bool
+inPlaces g e k b = any k (λ p. eqb (blockIn g e p) b)
+
+unfoldable pub names : Geometry → Entry → ℕ → Bool
+names g e b = not (isEmpty e) && inPlaces g e (places g) b
+
+-- block b is in a slot below n that is not empty
+unfoldable pub namedBelow : Geometry → List ℕ → ℕ → ℕ → Bool
+namedBelow g v n b = any n (λ j. names g (slotAt g v j) b)
+
+-- place p of the entry in slot i: 0, or a block from D to T-1 that is in no lower place and in no lower slot
+unfoldable pub goodPlace : Geometry → List ℕ → ℕ → ℕ → Bool
+goodPlace g v i p =
+    eqb (blockIn g (slotAt g v i) p) 0
+    || (inside g (blockIn g (slotAt g v i) p)
+    && not (inPlaces g (slotAt g v i) p (blockIn g (slotAt g v i) p))
+    && not (namedBelow g v i (blockIn g (slotAt g v i) p)))
+
+-- the entry in slot i has the same user, name and group as one in a lower slot
+unfoldable pub seenBelow : Geometry → List ℕ → ℕ → Bool
+seenBelow g v i =
+    any i (λ j. ofGroup g (byte (slotAt g v i) 0) (nameOf (slotAt g v i)) (groupOf g (extent (slotAt g v i))) (slotAt g v j))
+
+unfoldable pub goodSlot : Geometry → List ℕ → ℕ → Bool
+goodSlot g v i =
+    isEmpty (slotAt g v i)
+    || (goodFields (slotAt g v i)
+    && goodName false (nameOf (slotAt g v i))
+    && goodTopBits (slotAt g v i)
+    && every (places g) (goodPlace g v i)
+    && not (seenBelow g v i))
+
+-- "Log-in accepts exactly when all slots are good", else it answers "the lowest bad slot": the number of slots where
+-- there is none
+unfoldable pub lowestBad : Geometry → List ℕ → ℕ
+lowestBad g v = lowest (slots g) (λ i. not (goodSlot g v i))

@@ -1,0 +1,72 @@
+-- The drive in 64 bytes: "0..5 B, T, D (16 bits each, low byte first); 6 user; 7 protected (0, 1); 8 search (0 none, 1
+-- pattern, 2 dr 3FH); 9 its user; 10..11 its last slot; 12..23 pattern, 11 name bytes and ex; 24..31 zero; 32..63 the held
+-- words, low byte first; for search 0 the bytes 9..23 are zero; the closed value is 64 zero bytes. Any other length or byte
+-- pattern counts as closed".
+use mathlib.Core.Bool.{Bool, not, cond, _&&_, _||_}
+use mathlib.Core.List.{List, [], _∷_, _++_}
+use Prim.Native.Nat.{ℕ}
+use lib.Dec.{leb, eqb}
+use lib.ListN.{length, replicate}
+use Rattle.lists.specs.Bytes.{byte, part}
+use Rattle.disk_geometry.specs.declared.Geometry.{Geometry}
+use Rattle.call_search.specs.declared.Kept.{Kept}
+use Rattle.call_search.specs.declared.Kept.the-variants.{Nothing, Pattern, Everything}
+use Rattle.filecalls.specs.declared.Drive.{Drive}
+use Rattle.filecalls.specs.State.{closed}
+use Rattle.numbers.specs.Numbers.{bytesOf, number, bytesFrom, zeros}
+
+-- ---- from the state to bytes
+-- 0..7
+unfoldable pub headBytes : Geometry → ℕ → Bool → List ℕ
+headBytes g user protected =
+    bytesOf 2 (g .block) ++ bytesOf 2 (g .total) ++ bytesOf 2 (g .directory) ++ (user ∷ cond protected 1 0 ∷ [])
+
+-- 8..23
+unfoldable pub keptBytes : ℕ → ℕ → ℕ → List ℕ → List ℕ
+keptBytes kind user last pattern = (kind ∷ user ∷ []) ++ bytesOf 2 last ++ bytesFrom pattern 0 12
+
+unfoldable pub searchBytes : Kept → ℕ → ℕ → List ℕ → List ℕ
+searchBytes Nothing user last pattern = replicate 16 0
+searchBytes Pattern user last pattern = keptBytes 1 user last pattern
+searchBytes Everything user last pattern = keptBytes 2 user last pattern
+
+-- 32..63
+unfoldable pub heldBytes : List ℕ → List ℕ
+heldBytes held = bytesOf 8 (byte held 0) ++ bytesOf 8 (byte held 1) ++ bytesOf 8 (byte held 2) ++ bytesOf 8 (byte held 3)
+
+unfoldable pub encoded : Drive → List ℕ
+encoded d =
+    headBytes (d .geometry) (d .user) (d .protected)
+    ++ searchBytes (d .search .kind) (d .search .user) (d .search .last) (d .search .pattern)
+    ++ replicate 8 0
+    ++ heldBytes (d .held)
+
+-- ---- from bytes to the state
+unfoldable pub kindOf : ℕ → Kept
+kindOf n = cond (eqb n 0) Nothing (cond (eqb n 1) Pattern Everything)
+
+unfoldable pub fields : List ℕ → Drive
+fields s =
+    record {
+      geometry = record { block = number (part s 0 2); total = number (part s 2 2); directory = number (part s 4 2) };
+      user = byte s 6;
+      protected = eqb (byte s 7) 1;
+      search = record { kind = kindOf (byte s 8); user = byte s 9; last = number (part s 10 2); pattern = part s 12 12 };
+      held = number (part s 32 8) ∷ number (part s 40 8) ∷ number (part s 48 8) ∷ number (part s 56 8) ∷ [];
+    }
+
+-- the bytes are laid out as a drive's
+unfoldable pub isDrive : List ℕ → Bool
+isDrive s =
+    eqb (length s) 64
+    && leb (byte s 7) 1
+    && leb (byte s 8) 2
+    && zeros (part s 24 8)
+    && (not (eqb (byte s 8) 0) || zeros (part s 9 15))
+
+unfoldable pub decoded : List ℕ → Drive
+decoded s = cond (isDrive s) (fields s) closed
+
+-- 64 lent bytes take a state's; a drive of another length stays as it is
+unfoldable pub encodedIn : Drive → List ℕ → List ℕ
+encodedIn d s = cond (eqb (length s) 64) (encoded d) s

@@ -1,0 +1,78 @@
+// The drive's state laid into 64 lent bytes, each group of fields into its part.
+ghost use mathlib.Core.Path.{_≡_};
+ghost use lib.ListN.{length};
+ghost use Rattle.drive_bytes.specs.Layout.{headBytes, keptBytes, searchBytes, heldBytes, encoded};
+use call_search::Kept;
+use disk_geometry::Geometry;
+use filecalls::Drive;
+use filecalls::Search;
+use numbers::put_eight;
+
+// Lays B, T, D, user and protection into bytes 0 to 7.
+fn put_head(out: &mut [u8], g: Geometry, user: u8, protected: bool)
+    requires { ⌜ length (now out) ≡ 8 ⌝ }
+    ensures { λ _. ⌜ now (out .exit) ≡ headBytes g user protected ⌝ }
+{
+    let bytes = [
+        (g.block % 256) as u8,
+        (g.block / 256 % 256) as u8,
+        (g.total % 256) as u8,
+        (g.total / 256 % 256) as u8,
+        (g.directory % 256) as u8,
+        (g.directory / 256 % 256) as u8,
+        user,
+        protected as u8,
+    ];
+    lists::copy(out, &bytes);
+}
+
+// Lays a search that is kept into bytes 8 to 23.
+fn put_kept(out: &mut [u8], kind: u8, user: u8, last: usize, pattern: &[u8; 12])
+    requires { ⌜ length (now out) ≡ 16 ⌝ }
+    ensures { λ _. ⌜ now (out .exit) ≡ keptBytes kind user last (now (pattern .entry)) ⌝ }
+{
+    out[0] = kind;
+    out[1] = user;
+    out[2] = (last % 256) as u8;
+    out[3] = (last / 256 % 256) as u8;
+    lists::copy(&mut out[4..16], pattern);
+}
+
+// Lays the search into bytes 8 to 23: zeros where none is kept.
+fn put_search(out: &mut [u8], q: Search)
+    requires { ⌜ length (now out) ≡ 16 ⌝ }
+    ensures { λ _. ⌜ now (out .exit) ≡ searchBytes (q .kind) (q .user) (q .last) (q .pattern) ⌝ }
+{
+    let kind = q.kind;
+    let pattern = q.pattern;
+    match kind {
+        Kept::Nothing => lists::fill(out, 0),
+        Kept::Pattern => put_kept(out, 1, q.user, q.last, &pattern),
+        Kept::Everything => put_kept(out, 2, q.user, q.last, &pattern),
+    }
+}
+
+// Lays the held words into bytes 32 to 63.
+fn put_words(out: &mut [u8], held: [u64; 4])
+    requires { ⌜ length (now out) ≡ 32 ⌝ }
+    ensures { λ _. ⌜ now (out .exit) ≡ heldBytes held ⌝ }
+{
+    put_eight(&mut out[0..8], held[0]);
+    put_eight(&mut out[8..16], held[1]);
+    put_eight(&mut out[16..24], held[2]);
+    put_eight(&mut out[24..32], held[3]);
+}
+
+// Lays the state into 64 bytes.
+pub(crate) fn put_drive(out: &mut [u8], d: Drive)
+    requires { ⌜ length (now out) ≡ 64 ⌝ }
+    ensures { λ _. ⌜ now (out .exit) ≡ encoded d ⌝ }
+{
+    let g = d.geometry;
+    let q = d.search;
+    let held = d.held;
+    put_head(&mut out[0..8], g, d.user, d.protected);
+    put_search(&mut out[8..24], q);
+    put_eight(&mut out[24..32], 0);
+    put_words(&mut out[32..64], held);
+}
