@@ -4,7 +4,7 @@ use mathlib.Core.List.{List, [], _∷_}
 use Prim.Native.Nat.{ℕ}
 use lib.Dec.{eqb}
 use Rattle.call_answers.specs.declared.Refusal.{Refusal}
-use Rattle.call_answers.specs.declared.Refusal.the-variants.{None, NotServed, Closed, VolumeLength, BlockLength, BadCount, BufferLength, DriveCode, UserCode, Name, Untypeable, Position, Beyond, BadSlot, Protected, NoMatch, NoFile, ReadOnly, Exists, NoGroup, Absent, Outside, NoSlot, NoRoom, NoBlock}
+use Rattle.call_answers.specs.declared.Refusal.the-variants.{None, NotServed, Closed, VolumeLength, FcbLength, BadCount, BufferLength, DriveCode, UserCode, Name, Untypeable, Position, Beyond, BadSlot, Protected, NoMatch, NoFile, ReadOnly, Exists, NoGroup, Absent, Outside, NoSlot, NoRoom, NoBlock}
 
 abbrev pub refusalNumber : Refusal → ℕ
 refusalNumber None = 0
@@ -14,7 +14,7 @@ refusalNumber NotServed = 31
 refusalNumber Closed = 32
 -- length of volume; control block not 36
 refusalNumber VolumeLength = 33
-refusalNumber BlockLength = 34
+refusalNumber FcbLength = 34
 -- a number of records outside 1..16
 refusalNumber BadCount = 46
 -- transfer buffer not 128, not 128k for k records

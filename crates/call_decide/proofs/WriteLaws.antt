@@ -24,7 +24,7 @@ use Rattle.disk_geometry.proofs.InsideLaws.{inside-is, is-inside}
 use Rattle.call_entry.proofs.AllocLaws.{alloc-given}
 use Rattle.call_entry.proofs.GrowLaws.{length-like, length-written}
 use Rattle.call_decide.specs.Write.{hasGroup, writeSlot, baseEntry, needsBlock, writeBlock, writeTests}
-use Rattle.call_decide.specs.WritePlan.{ownOr, fromSlot, blockFor, fileTests, roomTests, entryAfter}
+use Rattle.call_decide.specs.CodePlan.{ownOr, fromSlot, blockFor, fileTests, roomTests, entryAfter}
 use Rattle.disk_volume.proofs.FindLaws.{group-file}
 
 -- ---- the tests in two groups, as code asks them
@@ -52,9 +52,9 @@ module _ (g : Geometry) (held : List ℕ) (e : Entry) (slot n : ℕ) where
   own-block h = rw h (ap (first (refusing Outside (not (inside g (recordBlock g e n))))) (last NoSlot (leb (slots g) slot) refl))
 
   pub new-block : eqb (recordBlock g e n) 0 ≡ true
-      → firstMet (roomTests g held e slot n) ≡ first (refusing NoSlot (leb (slots g) slot)) (refusing NoBlock (leb (g .total) (alloc g held e (placeOf g n))))
+      → firstMet (roomTests g held e slot n) ≡ first (refusing NoSlot (leb (slots g) slot)) (refusing NoBlock (leb (g .blocks) (alloc g held e (placeOf g n))))
   unfolding firstMet roomTests
-  new-block h = rw h (ap (first (refusing NoSlot (leb (slots g) slot))) (last NoBlock (leb (g .total) (alloc g held e (placeOf g n))) refl))
+  new-block h = rw h (ap (first (refusing NoSlot (leb (slots g) slot))) (last NoBlock (leb (g .blocks) (alloc g held e (placeOf g n))) refl))
 
 -- ---- slot and entry, step by step
 module _ (g : Geometry) (v : List ℕ) (u : ℕ) (name : List ℕ) (n : ℕ) where
@@ -137,20 +137,20 @@ module _ (g : Geometry) (held v : List ℕ) (u : ℕ) (name : List ℕ) (n : ℕ
     pub file : findSlot g v u name File < slots g
     pub writable : slots g ≤ findSlot g v u name ReadOnlyFile
     pub slot-in : writeSlot g v u name n < slots g
-    pub block-low : g .directory ≤ writeBlock g held v u name n
-    pub block-high : writeBlock g held v u name n < g .total
+    pub block-low : g .«directory_blocks» ≤ writeBlock g held v u name n
+    pub block-high : writeBlock g held v u name n < g .blocks
 
   block-chosen : not (needsBlock g v u name n) && not (inside g (recordBlock g (baseEntry g v u name n) n)) ≡ false
-      → needsBlock g v u name n && leb (g .total) (alloc g held (baseEntry g v u name n) (placeOf g n)) ≡ false
+      → needsBlock g v u name n && leb (g .blocks) (alloc g held (baseEntry g v u name n) (placeOf g n)) ≡ false
       → inside g (writeBlock g held v u name n) ≡ true
   unfolding writeBlock
   block-chosen f s = go (needsBlock g v u name n) f s
     where
       go : (t : Bool) → not t && not (inside g (recordBlock g (baseEntry g v u name n) n)) ≡ false
-          → t && leb (g .total) (alloc g held (baseEntry g v u name n) (placeOf g n)) ≡ false
+          → t && leb (g .blocks) (alloc g held (baseEntry g v u name n) (placeOf g n)) ≡ false
           → inside g (cond t (alloc g held (baseEntry g v u name n) (placeOf g n)) (recordBlock g (baseEntry g v u name n) n)) ≡ true
       go true f s =
-          let b = alloc-given g held (baseEntry g v u name n) (placeOf g n) (leb-false (g .total) (alloc g held (baseEntry g v u name n) (placeOf g n)) s) in
+          let b = alloc-given g held (baseEntry g v u name n) (placeOf g n) (leb-false (g .blocks) (alloc g held (baseEntry g v u name n) (placeOf g n)) s) in
           is-inside g (alloc g held (baseEntry g v u name n) (placeOf g n)) (b .low) (b .high)
       go false f s = not-false (inside g (recordBlock g (baseEntry g v u name n) n)) f
 

@@ -1,3 +1,3 @@
 -- The writes.
 pub mod Write
-pub mod WritePlan
+pub mod CodePlan

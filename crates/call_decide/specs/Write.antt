@@ -7,7 +7,7 @@ use Prim.Native.Nat.{ℕ}
 use lib.Dec.{leb, ltb, eqb}
 use Rattle.disk_geometry.specs.declared.Geometry.{Geometry}
 use Rattle.disk_volume.specs.declared.Wanted.the-variants.{Empty, File, ReadOnlyFile}
-use Rattle.disk_geometry.specs.Geometry.{slots, inside, placeOf}
+use Rattle.disk_geometry.specs.Geometry.{slots, inside, placeOf, blocks}
 use Rattle.disk_volume.specs.Entry.{Entry}
 use Rattle.disk_volume.specs.Directory.{slotAt, findSlot}
 use Rattle.disk_volume.specs.Record.{recordSlot, recordBlock}
@@ -48,5 +48,5 @@ writeTests g held v u name n =
     ∷ test ReadOnly (ltb (findSlot g v u name ReadOnlyFile) (slots g))
     ∷ test Outside (not (needsBlock g v u name n) && not (inside g (recordBlock g (baseEntry g v u name n) n)))
     ∷ test NoSlot (not (hasGroup g v u name n) && leb (slots g) (findSlot g v u name Empty))
-    ∷ test NoBlock (needsBlock g v u name n && leb (g .total) (alloc g held (baseEntry g v u name n) (placeOf g n)))
+    ∷ test NoBlock (needsBlock g v u name n && leb (blocks g) (alloc g held (baseEntry g v u name n) (placeOf g n)))
     ∷ []

@@ -9,7 +9,7 @@ ghost use Rattle.disk_volume.specs.Name.{strip};
 ghost use Rattle.disk_volume.specs.Record.{recordBlock};
 ghost use Rattle.call_answers.specs.Refusal.{isNone, firstMet};
 ghost use Rattle.call_decide.specs.Write.{writeTests};
-ghost use Rattle.call_decide.specs.WritePlan.{Decided, ownOr, blockFor, fileTests, roomTests};
+ghost use Rattle.call_decide.specs.CodePlan.{Decided, ownOr, blockFor, fileTests, roomTests};
 use call_answers::Refusal;
 use disk_geometry::Geometry;
 use disk_volume::Wanted;
@@ -17,7 +17,7 @@ use disk_volume::directory;
 use disk_volume::entry;
 
 // What is decided: why the write is refused, or the slot, the block, and whether the block is newly taken.
-pub struct Plan {
+pub struct WritePlan {
     pub why: Refusal,
     pub slot: usize,
     pub block: usize,
@@ -44,12 +44,12 @@ fn file_why(g: Geometry, volume: &[u8], user: u8, name: &[u8], from: usize) -> R
     if slots <= from {
         return Refusal::NoFile;
     }
-    let marked = directory::find(g, volume, user, name, Wanted::ReadOnlyFile);
-    call_answers::refuse(Refusal::ReadOnly, marked < slots)
+    let read_only_slot = directory::find(g, volume, user, name, Wanted::ReadOnlyFile);
+    call_answers::refuse(Refusal::ReadOnly, read_only_slot < slots)
 }
 
 // 41, 5 and 2, for record n of entry e in this slot, with its block.
-fn room(g: Geometry, held: [u64; 4], e: &[u8], slot: usize, n: usize) -> Plan
+fn room(g: Geometry, held: [u64; 4], e: &[u8], slot: usize, n: usize) -> WritePlan
     requires { ⌜ (lawful g ≡ true) × (length (now e) ≡ 32) ⌝ }
     ensures { λ r. ⌜ r .why ≡ firstMet (roomTests g held (now (e .entry)) slot n) ⌝ }
     ensures { λ r. ⌜ r .slot ≡ slot ⌝ }
@@ -62,7 +62,7 @@ fn room(g: Geometry, held: [u64; 4], e: &[u8], slot: usize, n: usize) -> Plan
     if own != 0 {
         let outside = call_answers::refuse(Refusal::Outside, !g.is_inside(own));
         let why = call_answers::first_of(outside, no_slot);
-        return Plan {
+        return WritePlan {
             why,
             slot,
             block: own,
@@ -70,9 +70,9 @@ fn room(g: Geometry, held: [u64; 4], e: &[u8], slot: usize, n: usize) -> Plan
         };
     }
     let block = call_entry::alloc(g, held, e, place);
-    let no_block = call_answers::refuse(Refusal::NoBlock, g.total <= block);
+    let no_block = call_answers::refuse(Refusal::NoBlock, g.blocks <= block);
     let why = call_answers::first_of(no_slot, no_block);
-    Plan {
+    WritePlan {
         why,
         slot,
         block,
@@ -89,7 +89,7 @@ pub fn decide(
     held: [u64; 4],
     n: usize,
     e: &mut [u8],
-) -> Plan
+) -> WritePlan
     requires { ⌜ (lawful g ≡ true) × ((length (now volume) ≡ bytes g) × (length (now name) ≡ 11)) ⌝ }
     requires { ⌜ length (now e) ≡ 32 ⌝ }
     ensures { λ r. ⌜ r .why ≡ firstMet (writeTests g held (now (volume .entry)) user (strip (now (name .entry))) n) ⌝ }
@@ -100,7 +100,7 @@ pub fn decide(
     let from = own_or(g, volume, user, name, own, Wanted::File);
     let why = file_why(g, volume, user, name, from);
     if !call_answers::is_none(why) {
-        return Plan {
+        return WritePlan {
             why,
             slot: 0,
             block: 0,

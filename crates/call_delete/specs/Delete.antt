@@ -3,7 +3,7 @@ use mathlib.Core.Bool.{cond}
 use mathlib.Core.List.{List, [], _∷_}
 use Prim.Native.Nat.{ℕ}
 use lib.Dec.{leb, ltb}
-use Rattle.lists.specs.Search.{fold}
+use Rattle.lists.specs.Bounded.{fold}
 use Rattle.disk_geometry.specs.declared.Geometry.{Geometry}
 use Rattle.disk_volume.specs.declared.Wanted.the-variants.{Match, ReadOnlyMatch}
 use Rattle.disk_geometry.specs.Geometry.{slots, inside, places}

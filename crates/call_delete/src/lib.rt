@@ -31,9 +31,16 @@ fn delete_why(g: Geometry, volume: &[u8], user: u8, pattern: &[u8]) -> Refusal
 {
     let slots = g.slots();
     let first = directory::find(g, volume, user, pattern, Wanted::Match);
-    let marked = directory::find_from(g, volume, first, user, pattern, Wanted::ReadOnlyMatch);
+    let read_only_slot = directory::find_from(
+        g,
+        volume,
+        first,
+        user,
+        pattern,
+        Wanted::ReadOnlyMatch,
+    );
     let no_match = call_answers::refuse(Refusal::NoMatch, slots <= first);
-    let read_only = call_answers::refuse(Refusal::ReadOnly, marked < slots);
+    let read_only = call_answers::refuse(Refusal::ReadOnly, read_only_slot < slots);
     call_answers::first_of(no_match, read_only)
 }
 

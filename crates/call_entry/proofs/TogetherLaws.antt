@@ -38,29 +38,29 @@ module _ (g : Geometry) (e : Entry) where
 
 -- ---- the block above b, which stands in the nearest lower used place
 module _ (g : Geometry) (held : List ℕ) (e : Entry) (p b : ℕ) (near : b ≡ nearestBelow g e p) where
-  from-next : inside g b ≡ true → above g held e p ≡ lowestFree held (b + 1) (g .total)
+  from-next : inside g b ≡ true → above g held e p ≡ lowestFree held (b + 1) (g .blocks)
   from-next h =
       let i = inside-is g b h in
-      let m : max (g .directory) (nearestBelow g e p + 1) ≡ b + 1 = omega (arith, near, i) in
-      ap (λ (x : ℕ). lowestFree held x (g .total)) m
+      let m : max (g .«directory_blocks») (nearestBelow g e p + 1) ≡ b + 1 = omega (arith, near, i) in
+      ap (λ (x : ℕ). lowestFree held x (g .blocks)) m
 
-  pub given-above : inside g b ≡ true → (a : ℕ) → a ≡ lowestFree held (b + 1) (g .total) → a < g .total → a ≡ alloc g held e p
+  pub given-above : inside g b ≡ true → (a : ℕ) → a ≡ lowestFree held (b + 1) (g .blocks) → a < g .blocks → a ≡ alloc g held e p
   given-above h a q l = q ∙ sym (from-next h) ∙ sym (alloc-above g held e p (omega (arith, from-next h, q, l)))
 
-  pub none-above : inside g b ≡ true → (a : ℕ) → a ≡ lowestFree held (b + 1) (g .total) → g .total ≤ a → alloc g held e p ≡ lowest g held
+  pub none-above : inside g b ≡ true → (a : ℕ) → a ≡ lowestFree held (b + 1) (g .blocks) → g .blocks ≤ a → alloc g held e p ≡ lowest g held
   none-above h a q l = alloc-lowest g held e p (omega (arith, from-next h, q, l))
 
   pub outside-above : inside g b ≡ false → alloc g held e p ≡ lowest g held
-  outside-above h = elim (decLt (above g held e p) (g .total)) [
-    | yes l ↦ alloc-above g held e p l ∙ ap (λ (x : ℕ). lowestFree held x (g .total)) (below l)
+  outside-above h = elim (decLt (above g held e p) (g .blocks)) [
+    | yes l ↦ alloc-above g held e p l ∙ ap (λ (x : ℕ). lowestFree held x (g .blocks)) (below l)
     | no n ↦ alloc-lowest g held e p (omega arith)
   ]
     where
       -- b is below T, since a block above it is, and so it is below D
-      below : above g held e p < g .total → max (g .directory) (nearestBelow g e p + 1) ≡ g .directory
+      below : above g held e p < g .blocks → max (g .«directory_blocks») (nearestBelow g e p + 1) ≡ g .«directory_blocks»
       below l =
-          let i = lowest-free-is held (max (g .directory) (nearestBelow g e p + 1)) (g .total) l .from in
-          elim (decLt b (g .directory)) [
+          let i = lowest-free-is held (max (g .«directory_blocks») (nearestBelow g e p + 1)) (g .blocks) l .from in
+          elim (decLt b (g .«directory_blocks»)) [
             | yes d ↦ omega (arith, near, d)
             | no d ↦ absurd (true≢false (sym (is-inside g b (omega arith) (omega (arith, near, i, l))) ∙ h))
           ]

@@ -4,6 +4,7 @@ use mathlib.Core.Bool.{cond}
 use mathlib.Core.List.{List}
 use Prim.Native.Nat.{ℕ, zero, suc, _+_, max}
 use lib.Dec.{ltb, eqb}
+use Rattle.disk_geometry.specs.Geometry.{blocks, directoryBlocks}
 use Rattle.disk_geometry.specs.declared.Geometry.{Geometry}
 use Rattle.disk_volume.specs.Entry.{Entry, blockIn}
 use Rattle.disk_held.specs.Held.{lowestFree}
@@ -18,5 +19,5 @@ nearestBelow g e (suc p) = let rest = nearestBelow g e p in cond (eqb (blockIn g
 unfoldable pub alloc : Geometry → List ℕ → Entry → ℕ → ℕ
 unfolding nearestBelow
 alloc g held e p =
-    let above = lowestFree held (max (g .directory) (nearestBelow g e p + 1)) (g .total) in
-    cond (ltb above (g .total)) above (lowestFree held (g .directory) (g .total))
+    let above = lowestFree held (max (directoryBlocks g) (nearestBelow g e p + 1)) (blocks g) in
+    cond (ltb above (blocks g)) above (lowestFree held (directoryBlocks g) (blocks g))

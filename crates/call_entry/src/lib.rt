@@ -3,7 +3,7 @@ ghost use mathlib.Core.Path.{_≡_};
 ghost use mathlib.Core.Bool.{true};
 ghost use Prim.Native.Nat.{_+_, _≤_, _<_};
 ghost use lib.ListN.{length};
-ghost use Rattle.disk_geometry.specs.Geometry.{lawful, bytes, slots, places};
+ghost use Rattle.disk_geometry.specs.Geometry.{lawful, bytes, slots, places, blocks};
 ghost use Rattle.disk_volume.specs.Entry.{withBlock};
 ghost use Rattle.call_entry.specs.Alloc.{nearestBelow, alloc};
 ghost use Rattle.call_entry.specs.Grown.{baseOf, grown, writtenEntry};
@@ -79,14 +79,14 @@ fn nearest_below(g: Geometry, e: &[u8], p: usize) -> usize
 // The block that place p of the entry is given, T where none is free; nothing else knows the rule.
 pub fn alloc(g: Geometry, held: [u64; 4], e: &[u8], p: usize) -> usize
     requires { ⌜ (lawful g ≡ true) × ((p < places g) × (length (now e) ≡ 32)) ⌝ }
-    ensures { λ r. ⌜ (r ≡ alloc g held (now (e .entry)) p) × (r ≤ g .total) ⌝ }
+    ensures { λ r. ⌜ (r ≡ alloc g held (now (e .entry)) p) × (r ≤ blocks g) ⌝ }
 {
     let near = nearest_below(g, e, p);
     if g.is_inside(near) {
-        let above = disk_held::lowest_free(held, near + 1, g.total);
-        if above < g.total {
+        let above = disk_held::lowest_free(held, near + 1, g.blocks);
+        if above < g.blocks {
             return above;
         }
     }
-    disk_held::lowest_free(held, g.directory, g.total)
+    disk_held::lowest_free(held, g.directory_blocks, g.blocks)
 }

@@ -1,2 +1,2 @@
 -- "Control block and position."
-pub mod Block
+pub mod Fcb

@@ -10,7 +10,7 @@ ghost use Rattle.disk_volume.specs.declared.Wanted.the-variants.{Empty};
 ghost use Rattle.disk_geometry.specs.Geometry.{lawful, bytes, slots};
 ghost use Rattle.disk_volume.specs.Name.{strip, nameOf};
 ghost use Rattle.disk_volume.specs.Directory.{findSlot, putSlot};
-ghost use Rattle.call_fcb.specs.Block.{made};
+ghost use Rattle.call_fcb.specs.Fcb.{made};
 ghost use Rattle.call_typing.specs.Typing.{typeable};
 ghost use Rattle.call_answers.specs.declared.Refusal.the-variants.{Untypeable, Position};
 ghost use Rattle.call_answers.specs.Refusal.{test, isNone, first, firstMet};
@@ -27,15 +27,15 @@ pub struct Made {
 }
 
 // Why no file can be made of the control block, whatever the directory holds: 45, then 40.
-pub fn new_file_why(f: &[u8]) -> Refusal
-    requires { ⌜ length (now f) ≡ 36 ⌝ }
-    ensures { λ r. ⌜ r ≡ firstMet (test Untypeable (not (typeable (nameOf (now (f .entry))))) ∷ test Position (not (eqb (byte (now (f .entry)) 12) 0)) ∷ []) ⌝ }
+pub fn new_file_why(fcb: &[u8]) -> Refusal
+    requires { ⌜ length (now fcb) ≡ 36 ⌝ }
+    ensures { λ r. ⌜ r ≡ firstMet (test Untypeable (not (typeable (nameOf (now (fcb .entry))))) ∷ test Position (not (eqb (byte (now (fcb .entry)) 12) 0)) ∷ []) ⌝ }
 {
     let untypeable = call_answers::refuse(
         Refusal::Untypeable,
-        !call_typing::typeable_name(&f[1..12]),
+        !call_typing::typeable_name(&fcb[1..12]),
     );
-    let position = call_answers::refuse(Refusal::Position, f[12] != 0);
+    let position = call_answers::refuse(Refusal::Position, fcb[12] != 0);
     call_answers::first_of(untypeable, position)
 }
 
@@ -68,21 +68,21 @@ pub fn fresh_entry(user: u8, name: &[u8]) -> [u8; 32]
 
 // Makes the file of the control block's name: its entry in the lowest empty slot, and the control block; or refuses, by
 // an earlier refusal first, and alters nothing.
-pub fn make_file(g: Geometry, volume: &mut [u8], f: &mut [u8], user: u8, before: Refusal) -> Made
-    requires { ⌜ (lawful g ≡ true) × ((length (now volume) ≡ bytes g) × (length (now f) ≡ 36)) ⌝ }
-    ensures { λ r. ⌜ r .why ≡ first before (firstMet (makeTests g (now (volume .entry)) user (nameOf (now (f .entry))))) ⌝ }
-    ensures { λ r. ⌜ r .slot ≡ findSlot g (now (volume .entry)) user (nameOf (now (f .entry))) Empty ⌝ }
-    ensures { λ r. ⌜ now (volume .exit) ≡ cond (isNone (r .why)) (putSlot g (now (volume .entry)) (r .slot) (freshEntry user (nameOf (now (f .entry))))) (now (volume .entry)) ⌝ }
-    ensures { λ r. ⌜ now (f .exit) ≡ cond (isNone (r .why)) (made (now (f .entry)) (nameOf (now (f .entry)))) (now (f .entry)) ⌝ }
+pub fn make_file(g: Geometry, volume: &mut [u8], fcb: &mut [u8], user: u8, before: Refusal) -> Made
+    requires { ⌜ (lawful g ≡ true) × ((length (now volume) ≡ bytes g) × (length (now fcb) ≡ 36)) ⌝ }
+    ensures { λ r. ⌜ r .why ≡ first before (firstMet (makeTests g (now (volume .entry)) user (nameOf (now (fcb .entry))))) ⌝ }
+    ensures { λ r. ⌜ r .slot ≡ findSlot g (now (volume .entry)) user (nameOf (now (fcb .entry))) Empty ⌝ }
+    ensures { λ r. ⌜ now (volume .exit) ≡ cond (isNone (r .why)) (putSlot g (now (volume .entry)) (r .slot) (freshEntry user (nameOf (now (fcb .entry))))) (now (volume .entry)) ⌝ }
+    ensures { λ r. ⌜ now (fcb .exit) ≡ cond (isNone (r .why)) (made (now (fcb .entry)) (nameOf (now (fcb .entry)))) (now (fcb .entry)) ⌝ }
 {
     let mut name = [0u8; 11];
-    call_sweep::lay_name(&mut name, &f[1..12]);
+    call_sweep::lay_name(&mut name, &fcb[1..12]);
     let plan = make_why(g, volume, user, &name, before);
     let why = plan.why;
     if call_answers::is_none(why) {
         let e = fresh_entry(user, &name);
         directory::put_slot(g, volume, plan.slot, &e);
-        call_fcb::set_made(f, &name);
+        call_fcb::set_made(fcb, &name);
     }
     plan
 }

@@ -11,8 +11,8 @@ use Rattle.disk_volume.specs.Directory.{findSlot}
 
 -- "lowest slot of the current user whose name matches (3FH matches any byte) in the group of ex, with s2 taken as 0"
 unfoldable pub openSlot : Geometry → List ℕ → ℕ → List ℕ → ℕ
-openSlot g v u f = findSlot g v u (nameOf f) (MatchGroup (groupOf g (byte f 12)))
+openSlot g v u fcb = findSlot g v u (nameOf fcb) (MatchGroup (groupOf g (byte fcb 12)))
 
 -- "the group of (s2, ex) has an entry"
 unfoldable pub closeSlot : Geometry → List ℕ → ℕ → List ℕ → ℕ
-closeSlot g v u f = findSlot g v u (nameOf f) (Group (groupOf g (extent f)))
+closeSlot g v u fcb = findSlot g v u (nameOf fcb) (Group (groupOf g (extent fcb)))

@@ -7,7 +7,7 @@ ghost use lib.Dec.{leb};
 ghost use lib.ListN.{length};
 ghost use Rattle.disk_geometry.specs.Geometry.{lawful, bytes, slots};
 ghost use Rattle.disk_volume.specs.Directory.{slotAt};
-ghost use Rattle.call_fcb.specs.Block.{exFits, extentFits, opened};
+ghost use Rattle.call_fcb.specs.Fcb.{exFits, extentFits, opened};
 ghost use Rattle.call_answers.specs.declared.Refusal.the-variants.{Position, NoMatch};
 ghost use Rattle.call_answers.specs.Refusal.{test, isNone, firstMet};
 ghost use Rattle.call_open.specs.Open.{openSlot, closeSlot};
@@ -22,12 +22,12 @@ pub struct Found {
 }
 
 // The slot that open means, the number of slots where there is none.
-fn slot_to_open(g: Geometry, volume: &[u8], f: &[u8], user: u8) -> usize
-    requires { ⌜ (lawful g ≡ true) × ((length (now volume) ≡ bytes g) × (length (now f) ≡ 36)) ⌝ }
-    ensures { λ r. ⌜ (r ≡ openSlot g (now (volume .entry)) user (now (f .entry))) × (r ≤ slots g) ⌝ }
+fn slot_to_open(g: Geometry, volume: &[u8], fcb: &[u8], user: u8) -> usize
+    requires { ⌜ (lawful g ≡ true) × ((length (now volume) ≡ bytes g) × (length (now fcb) ≡ 36)) ⌝ }
+    ensures { λ r. ⌜ (r ≡ openSlot g (now (volume .entry)) user (now (fcb .entry))) × (r ≤ slots g) ⌝ }
 {
-    let k = g.group(lists::wide(f[12]));
-    disk_volume::directory::find(g, volume, user, &f[1..12], Wanted::MatchGroup(k))
+    let k = g.group(lists::wide(fcb[12]));
+    disk_volume::directory::find(g, volume, user, &fcb[1..12], Wanted::MatchGroup(k))
 }
 
 // Why the slot that is meant is refused: the position does not fit, or the slot is none.
@@ -42,38 +42,38 @@ fn slot_why(g: Geometry, fits: bool, slot: usize) -> Refusal
 }
 
 // Opens: shows the entry in the control block, or refuses.
-pub fn open_file(g: Geometry, volume: &[u8], f: &mut [u8], user: u8) -> Found
-    requires { ⌜ (lawful g ≡ true) × ((length (now volume) ≡ bytes g) × (length (now f) ≡ 36)) ⌝ }
-    ensures { λ r. ⌜ r .why ≡ firstMet (test Position (not (exFits (now (f .entry)))) ∷ test NoMatch (leb (slots g) (openSlot g (now (volume .entry)) user (now (f .entry)))) ∷ []) ⌝ }
-    ensures { λ r. ⌜ r .slot ≡ openSlot g (now (volume .entry)) user (now (f .entry)) ⌝ }
-    ensures { λ r. ⌜ now (f .exit) ≡ cond (isNone (r .why)) (opened (now (f .entry)) (slotAt g (now (volume .entry)) (r .slot))) (now (f .entry)) ⌝ }
+pub fn open_file(g: Geometry, volume: &[u8], fcb: &mut [u8], user: u8) -> Found
+    requires { ⌜ (lawful g ≡ true) × ((length (now volume) ≡ bytes g) × (length (now fcb) ≡ 36)) ⌝ }
+    ensures { λ r. ⌜ r .why ≡ firstMet (test Position (not (exFits (now (fcb .entry)))) ∷ test NoMatch (leb (slots g) (openSlot g (now (volume .entry)) user (now (fcb .entry)))) ∷ []) ⌝ }
+    ensures { λ r. ⌜ r .slot ≡ openSlot g (now (volume .entry)) user (now (fcb .entry)) ⌝ }
+    ensures { λ r. ⌜ now (fcb .exit) ≡ cond (isNone (r .why)) (opened (now (fcb .entry)) (slotAt g (now (volume .entry)) (r .slot))) (now (fcb .entry)) ⌝ }
 {
-    let slot = slot_to_open(g, volume, f, user);
-    let why = slot_why(g, f[12] <= 31, slot);
+    let slot = slot_to_open(g, volume, fcb, user);
+    let why = slot_why(g, fcb[12] <= 31, slot);
     if call_answers::is_none(why) {
         let at = g.slot_start(slot);
-        call_fcb::set_open(f, &volume[at..at + 32]);
+        call_fcb::set_open(fcb, &volume[at..at + 32]);
     }
     Found { why, slot }
 }
 
 // The slot that close means, the number of slots where there is none.
-fn slot_to_close(g: Geometry, volume: &[u8], f: &[u8], user: u8) -> usize
-    requires { ⌜ (lawful g ≡ true) × ((length (now volume) ≡ bytes g) × (length (now f) ≡ 36)) ⌝ }
-    ensures { λ r. ⌜ (r ≡ closeSlot g (now (volume .entry)) user (now (f .entry))) × (r ≤ slots g) ⌝ }
+fn slot_to_close(g: Geometry, volume: &[u8], fcb: &[u8], user: u8) -> usize
+    requires { ⌜ (lawful g ≡ true) × ((length (now volume) ≡ bytes g) × (length (now fcb) ≡ 36)) ⌝ }
+    ensures { λ r. ⌜ (r ≡ closeSlot g (now (volume .entry)) user (now (fcb .entry))) × (r ≤ slots g) ⌝ }
 {
-    let k = g.group(disk_volume::entry::extent_of(f));
-    disk_volume::directory::find(g, volume, user, &f[1..12], Wanted::Group(k))
+    let k = g.group(disk_volume::entry::extent_of(fcb));
+    disk_volume::directory::find(g, volume, user, &fcb[1..12], Wanted::Group(k))
 }
 
 // Closes: the entry that is meant is there, or the call is refused.
-pub fn close_file(g: Geometry, volume: &[u8], f: &[u8], user: u8) -> Found
-    requires { ⌜ (lawful g ≡ true) × ((length (now volume) ≡ bytes g) × (length (now f) ≡ 36)) ⌝ }
-    ensures { λ r. ⌜ r .why ≡ firstMet (test Position (not (extentFits (now (f .entry)))) ∷ test NoMatch (leb (slots g) (closeSlot g (now (volume .entry)) user (now (f .entry)))) ∷ []) ⌝ }
-    ensures { λ r. ⌜ r .slot ≡ closeSlot g (now (volume .entry)) user (now (f .entry)) ⌝ }
+pub fn close_file(g: Geometry, volume: &[u8], fcb: &[u8], user: u8) -> Found
+    requires { ⌜ (lawful g ≡ true) × ((length (now volume) ≡ bytes g) × (length (now fcb) ≡ 36)) ⌝ }
+    ensures { λ r. ⌜ r .why ≡ firstMet (test Position (not (extentFits (now (fcb .entry)))) ∷ test NoMatch (leb (slots g) (closeSlot g (now (volume .entry)) user (now (fcb .entry)))) ∷ []) ⌝ }
+    ensures { λ r. ⌜ r .slot ≡ closeSlot g (now (volume .entry)) user (now (fcb .entry)) ⌝ }
 {
-    let slot = slot_to_close(g, volume, f, user);
-    let fits = (f[12] <= 31) & (f[14] <= 15);
+    let slot = slot_to_close(g, volume, fcb, user);
+    let fits = (fcb[12] <= 31) & (fcb[14] <= 15);
     let why = slot_why(g, fits, slot);
     Found { why, slot }
 }

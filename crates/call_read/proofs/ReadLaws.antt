@@ -19,7 +19,7 @@ use Rattle.call_answers.proofs.Ladder.{unmet}
 use Rattle.call_read.specs.declared.read.ReadPlan.{ReadPlan}
 use Rattle.call_read.specs.declared.read.ReadPlan.the-variants.{Go, No}
 use Rattle.call_read.specs.Read.{readTests, readBlock}
-use Rattle.call_read.specs.Plan.{planIn, readPlan}
+use Rattle.call_read.specs.CodePlan.{planIn, readPlan}
 use Rattle.disk_volume.proofs.FindLaws.{group-file}
 
 -- the last two tests, 1 and 41
@@ -54,16 +54,16 @@ module _ (g : Geometry) (v : List ℕ) (u : ℕ) (name : List ℕ) (n : ℕ) whe
     pub block-is : block ≡ readBlock g v u name n
     pub clear : firstMet (readTests g v u name n missing) ≡ None
     pub slot-in : slot < slots g
-    pub block-in : block < g .total
+    pub block-in : block < g .blocks
 
   pub unmet-none : (missing : Refusal) → Unmet → firstMet (readTests g v u name n missing) ≡ None
   unfolding readTests firstMet
   unmet-none missing t = rw (t .file, t .group, t .absent, t .outside)
 
-  pub block-below : Unmet → readBlock g v u name n < g .total
+  pub block-below : Unmet → readBlock g v u name n < g .blocks
   unfolding inside
   block-below t =
-      ltb-true _ _ (and-right (leb (g .directory) (readBlock g v u name n)) (ltb (readBlock g v u name n) (g .total)) (not-false _ (t .outside)))
+      ltb-true _ _ (and-right (leb (g .«directory_blocks») (readBlock g v u name n)) (ltb (readBlock g v u name n) (g .blocks)) (not-false _ (t .outside)))
 
   module _ (missing : Refusal) (some : isNone missing ≡ false) where
     -- a ladder that does not refuse: none of its tests is met

@@ -3,14 +3,14 @@ ghost use mathlib.Core.Path.{_≡_};
 ghost use mathlib.Core.Bool.{true, false, cond};
 ghost use Prim.Native.Nat.{_<_};
 ghost use lib.ListN.{length};
-ghost use Rattle.disk_geometry.specs.Geometry.{lawful, bytes, slots};
+ghost use Rattle.disk_geometry.specs.Geometry.{lawful, bytes, slots, blocks};
 ghost use Rattle.disk_volume.specs.Name.{strip, nameOf};
 ghost use Rattle.disk_volume.specs.Directory.{slotAt};
 ghost use Rattle.disk_volume.specs.Record.{counted, recordSlot, recordAt};
-ghost use Rattle.call_fcb.specs.Block.{setTo};
+ghost use Rattle.call_fcb.specs.Fcb.{setTo};
 ghost use Rattle.call_answers.specs.Refusal.{isNone, firstMet};
 ghost use Rattle.call_read.specs.Read.{readTests, readBytes};
-ghost use Rattle.call_read.specs.Plan.{planIn, readPlan};
+ghost use Rattle.call_read.specs.CodePlan.{planIn, readPlan};
 use call_answers::Refusal;
 use disk_geometry::Geometry;
 use disk_volume::Wanted;
@@ -69,45 +69,45 @@ fn plan(g: Geometry, volume: &[u8], user: u8, name: &[u8], n: usize, missing: Re
 fn act(
     g: Geometry,
     volume: &[u8],
-    f: &mut [u8],
+    fcb: &mut [u8],
     buffer: &mut [u8],
     slot: usize,
     block: usize,
     n: usize,
     cr: u8,
 )
-    requires { ⌜ (lawful g ≡ true) × ((length (now volume) ≡ bytes g) × ((length (now f) ≡ 36) × (length (now buffer) ≡ 128))) ⌝ }
-    requires { ⌜ (slot < slots g) × ((block < g .total) × (n < 65536)) ⌝ }
-    ensures { λ _. ⌜ now (f .exit) ≡ setTo (now (f .entry)) (slotAt g (now (volume .entry)) slot) n cr ⌝ }
+    requires { ⌜ (lawful g ≡ true) × ((length (now volume) ≡ bytes g) × ((length (now fcb) ≡ 36) × (length (now buffer) ≡ 128))) ⌝ }
+    requires { ⌜ (slot < slots g) × ((block < blocks g) × (n < 65536)) ⌝ }
+    ensures { λ _. ⌜ now (fcb .exit) ≡ setTo (now (fcb .entry)) (slotAt g (now (volume .entry)) slot) n cr ⌝ }
     ensures { λ _. ⌜ now (buffer .exit) ≡ recordAt g (now (volume .entry)) block n ⌝ }
 {
     let at = g.record_start(block, n);
     lists::copy(buffer, &volume[at..at + 128]);
     let from = g.slot_start(slot);
-    call_fcb::set_to(f, &volume[from..from + 32], n, cr);
+    call_fcb::set_to(fcb, &volume[from..from + 32], n, cr);
 }
 
 // Reads record n of the file in the control block: answers the first refusal, None where the record was read.
 pub fn read_record(
     g: Geometry,
     volume: &[u8],
-    f: &mut [u8],
+    fcb: &mut [u8],
     buffer: &mut [u8],
     user: u8,
     n: usize,
     cr: u8,
     missing: Refusal,
 ) -> Refusal
-    requires { ⌜ (lawful g ≡ true) × ((length (now volume) ≡ bytes g) × ((length (now f) ≡ 36) × (length (now buffer) ≡ 128))) ⌝ }
+    requires { ⌜ (lawful g ≡ true) × ((length (now volume) ≡ bytes g) × ((length (now fcb) ≡ 36) × (length (now buffer) ≡ 128))) ⌝ }
     requires { ⌜ (n < 65536) × (isNone missing ≡ false) ⌝ }
-    ensures { λ r. ⌜ r ≡ firstMet (readTests g (now (volume .entry)) user (nameOf (now (f .entry))) n missing) ⌝ }
-    ensures { λ r. ⌜ now (f .exit) ≡ cond (isNone r) (setTo (now (f .entry)) (slotAt g (now (volume .entry)) (recordSlot g (now (volume .entry)) user (nameOf (now (f .entry))) n)) n cr) (now (f .entry)) ⌝ }
-    ensures { λ r. ⌜ now (buffer .exit) ≡ cond (isNone r) (readBytes g (now (volume .entry)) user (nameOf (now (f .entry))) n) (now (buffer .entry)) ⌝ }
+    ensures { λ r. ⌜ r ≡ firstMet (readTests g (now (volume .entry)) user (nameOf (now (fcb .entry))) n missing) ⌝ }
+    ensures { λ r. ⌜ now (fcb .exit) ≡ cond (isNone r) (setTo (now (fcb .entry)) (slotAt g (now (volume .entry)) (recordSlot g (now (volume .entry)) user (nameOf (now (fcb .entry))) n)) n cr) (now (fcb .entry)) ⌝ }
+    ensures { λ r. ⌜ now (buffer .exit) ≡ cond (isNone r) (readBytes g (now (volume .entry)) user (nameOf (now (fcb .entry))) n) (now (buffer .entry)) ⌝ }
 {
-    match plan(g, volume, user, &f[1..12], n, missing) {
+    match plan(g, volume, user, &fcb[1..12], n, missing) {
         ReadPlan::No(why) => why,
         ReadPlan::Go { slot, block } => {
-            act(g, volume, f, buffer, slot, block, n, cr);
+            act(g, volume, fcb, buffer, slot, block, n, cr);
             Refusal::None
         }
     }

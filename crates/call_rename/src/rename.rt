@@ -9,7 +9,7 @@ ghost use Rattle.disk_geometry.specs.Geometry.{lawful, bytes, slots};
 ghost use Rattle.disk_volume.specs.Name.{strip, goodName};
 ghost use Rattle.call_typing.specs.Typing.{typeable};
 ghost use Rattle.disk_volume.specs.Directory.{findSlot, mapSlots};
-ghost use Rattle.call_fcb.specs.Block.{newName};
+ghost use Rattle.call_fcb.specs.Fcb.{newName};
 ghost use Rattle.call_answers.specs.declared.Refusal.the-variants.{Name, Untypeable, NoMatch};
 ghost use Rattle.call_answers.specs.Refusal.{test, isNone, first, firstMet};
 ghost use Rattle.call_sweep.specs.declared.Edit.the-variants.{Rename, Attributes};
@@ -23,14 +23,14 @@ use disk_volume::directory;
 use disk_volume::names;
 
 // Why the control block's new name can't be a file's, whatever the directory holds: 39, then 45.
-pub fn new_name_why(f: &[u8]) -> Refusal
-    requires { ⌜ length (now f) ≡ 36 ⌝ }
-    ensures { λ r. ⌜ r ≡ firstMet (test Name (not (goodName false (newName (now (f .entry))))) ∷ test Untypeable (not (typeable (newName (now (f .entry))))) ∷ []) ⌝ }
+pub fn new_name_why(fcb: &[u8]) -> Refusal
+    requires { ⌜ length (now fcb) ≡ 36 ⌝ }
+    ensures { λ r. ⌜ r ≡ firstMet (test Name (not (goodName false (newName (now (fcb .entry))))) ∷ test Untypeable (not (typeable (newName (now (fcb .entry))))) ∷ []) ⌝ }
 {
-    let bad = call_answers::refuse(Refusal::Name, !names::good_name(false, &f[17..28]));
+    let bad = call_answers::refuse(Refusal::Name, !names::good_name(false, &fcb[17..28]));
     let untypeable = call_answers::refuse(
         Refusal::Untypeable,
-        !call_typing::typeable_name(&f[17..28]),
+        !call_typing::typeable_name(&fcb[17..28]),
     );
     call_answers::first_of(bad, untypeable)
 }
@@ -43,10 +43,10 @@ fn rename_why(g: Geometry, volume: &[u8], user: u8, name: &[u8], new: &[u8]) -> 
 {
     let slots = g.slots();
     let first = directory::find(g, volume, user, name, Wanted::File);
-    let marked = directory::find_from(g, volume, first, user, name, Wanted::ReadOnlyFile);
+    let read_only_slot = directory::find_from(g, volume, first, user, name, Wanted::ReadOnlyFile);
     let taken = directory::find(g, volume, user, new, Wanted::File);
     let no_match = call_answers::refuse(Refusal::NoMatch, slots <= first);
-    let read_only = call_answers::refuse(Refusal::ReadOnly, marked < slots);
+    let read_only = call_answers::refuse(Refusal::ReadOnly, read_only_slot < slots);
     let exists = call_answers::refuse(Refusal::Exists, taken < slots);
     call_answers::first_of(no_match, call_answers::first_of(read_only, exists))
 }
@@ -74,7 +74,13 @@ pub fn rename_file(
 
 // Gives all entries of the file the attribute bits of the name's bytes; or refuses, by an earlier refusal first, and
 // alters nothing.
-pub fn mark_file(g: Geometry, volume: &mut [u8], user: u8, name: &[u8], before: Refusal) -> Refusal
+pub fn attribute_file(
+    g: Geometry,
+    volume: &mut [u8],
+    user: u8,
+    name: &[u8],
+    before: Refusal,
+) -> Refusal
     requires { ⌜ (lawful g ≡ true) × ((length (now volume) ≡ bytes g) × (length (now name) ≡ 11)) ⌝ }
     ensures { λ r. ⌜ r ≡ first before (firstMet (test NoMatch (leb (slots g) (findSlot g (now (volume .entry)) user (strip (now (name .entry))) File)) ∷ [])) ⌝ }
     ensures { λ r. ⌜ now (volume .exit) ≡ cond (isNone r) (mapSlots g (changed Attributes user (strip (now (name .entry))) (now (name .entry))) (now (volume .entry))) (now (volume .entry)) ⌝ }

@@ -4,7 +4,7 @@ use mathlib.Core.Bool.{cond}
 use mathlib.Core.List.{List}
 use Prim.Native.Nat.{ℕ, _-_}
 use lib.Dec.{eqb}
-use Rattle.lists.specs.Search.{lowFrom}
+use Rattle.lists.specs.Bounded.{lowFrom}
 use Rattle.lists.specs.Bytes.{byte, part}
 use Rattle.disk_geometry.specs.declared.Geometry.{Geometry}
 use Rattle.disk_volume.specs.declared.Wanted.{Wanted}
@@ -12,24 +12,24 @@ use Rattle.disk_volume.specs.declared.Wanted.the-variants.{Any, Match, MatchGro
 use Rattle.disk_geometry.specs.Geometry.{slots, groupOf}
 use Rattle.disk_volume.specs.Name.{nameAt}
 use Rattle.disk_volume.specs.Directory.{slotFits}
-use Rattle.call_search.specs.declared.Kept.{Kept}
-use Rattle.call_search.specs.declared.Kept.the-variants.{Nothing, Pattern, Everything}
+use Rattle.call_search.specs.declared.SearchKind.{SearchKind}
+use Rattle.call_search.specs.declared.SearchKind.the-variants.{Nothing, Pattern, Everything}
 
 -- the kind of search that dr asks for
-abbrev pub kindOf : ℕ → Kept
-kindOf dr = cond (eqb dr 63) Everything Pattern
+abbrev pub kindAsked : ℕ → SearchKind
+kindAsked dr = cond (eqb dr 63) Everything Pattern
 
 -- what a search of a kind looks for; ex 3FH is any group
-abbrev pub sought : Geometry → Kept → ℕ → Wanted
+abbrev pub sought : Geometry → SearchKind → ℕ → Wanted
 sought g Nothing ex = Any
 sought g Everything ex = Any
 sought g Pattern ex = cond (eqb ex 63) Match (MatchGroup (groupOf g ex))
 
 -- the pattern that is kept: the name's eleven bytes and ex
 unfoldable pub patternOf : List ℕ → List ℕ
-patternOf f = part f 1 12
+patternOf fcb = part fcb 1 12
 
 -- the lowest slot from `from` on that the search hits, the number of slots where there is none
-unfoldable pub hitFrom : Geometry → List ℕ → Kept → ℕ → List ℕ → ℕ → ℕ
+unfoldable pub hitFrom : Geometry → List ℕ → SearchKind → ℕ → List ℕ → ℕ → ℕ
 hitFrom g v kind u pattern from =
     lowFrom (slotFits g v u (nameAt pattern 0) (sought g kind (byte pattern 11))) from (slots g - from)

@@ -2,7 +2,7 @@
 pub mod search;
 
 // What kind of search is open.
-pub enum Kept {
+pub enum SearchKind {
     Nothing,
     Pattern,
     Everything,

@@ -6,41 +6,41 @@ ghost use lib.Dec.{ltb};
 ghost use lib.ListN.{length};
 ghost use Rattle.disk_geometry.specs.Geometry.{lawful, bytes, slots};
 ghost use Rattle.disk_volume.specs.Record.{slotRecord};
-ghost use Rattle.call_search.specs.Search.{kindOf, sought, patternOf, hitFrom};
-use crate::Kept;
+ghost use Rattle.call_search.specs.Search.{kindAsked, sought, patternOf, hitFrom};
+use crate::SearchKind;
 use disk_geometry::Geometry;
 use disk_volume::Wanted;
 
 // The kind of search that dr asks for.
-pub fn kind_of(dr: u8) -> Kept
-    ensures { λ r. ⌜ r ≡ kindOf dr ⌝ }
+pub fn kind_asked(dr: u8) -> SearchKind
+    ensures { λ r. ⌜ r ≡ kindAsked dr ⌝ }
 {
     if dr == 63 {
-        Kept::Everything
+        SearchKind::Everything
     } else {
-        Kept::Pattern
+        SearchKind::Pattern
     }
 }
 
 // The pattern that a search keeps: the name's eleven bytes and ex.
-pub fn pattern_of(f: &[u8]) -> [u8; 12]
-    requires { ⌜ length (now f) ≡ 36 ⌝ }
-    ensures { λ r. ⌜ r ≡ patternOf (now (f .entry)) ⌝ }
+pub fn pattern_of(fcb: &[u8]) -> [u8; 12]
+    requires { ⌜ length (now fcb) ≡ 36 ⌝ }
+    ensures { λ r. ⌜ r ≡ patternOf (now (fcb .entry)) ⌝ }
 {
     let mut pattern = [0u8; 12];
-    lists::copy(&mut pattern, &f[1..13]);
+    lists::copy(&mut pattern, &fcb[1..13]);
     pattern
 }
 
 // What a search of this kind looks for; ex 3FH is any group.
-fn sought_by(g: Geometry, kind: Kept, ex: u8) -> Wanted
+fn sought_by(g: Geometry, kind: SearchKind, ex: u8) -> Wanted
     requires { ⌜ lawful g ≡ true ⌝ }
     ensures { λ r. ⌜ r ≡ sought g kind ex ⌝ }
 {
     match kind {
-        Kept::Nothing => Wanted::Any,
-        Kept::Everything => Wanted::Any,
-        Kept::Pattern => if ex == 63 {
+        SearchKind::Nothing => Wanted::Any,
+        SearchKind::Everything => Wanted::Any,
+        SearchKind::Pattern => if ex == 63 {
             Wanted::Match
         } else {
             Wanted::MatchGroup(g.group(lists::wide(ex)))
@@ -49,7 +49,14 @@ fn sought_by(g: Geometry, kind: Kept, ex: u8) -> Wanted
 }
 
 // The slot that a search hits, from slot `from` on.
-fn hit_from(g: Geometry, volume: &[u8], kind: Kept, user: u8, pattern: &[u8], from: usize) -> usize
+fn hit_from(
+    g: Geometry,
+    volume: &[u8],
+    kind: SearchKind,
+    user: u8,
+    pattern: &[u8],
+    from: usize,
+) -> usize
     requires { ⌜ (lawful g ≡ true) × ((length (now volume) ≡ bytes g) × ((length (now pattern) ≡ 12) × (from ≤ slots g))) ⌝ }
     ensures { λ r. ⌜ (r ≡ hitFrom g (now (volume .entry)) kind user (now (pattern .entry)) from) × (r ≤ slots g) ⌝ }
 {
@@ -62,7 +69,7 @@ pub fn search_from(
     g: Geometry,
     volume: &[u8],
     buffer: &mut [u8],
-    kind: Kept,
+    kind: SearchKind,
     user: u8,
     pattern: &[u8; 12],
     from: usize,

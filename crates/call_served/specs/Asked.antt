@@ -6,8 +6,8 @@ use Prim.Native.Nat.{ℕ}
 pub record Asked : Type 0 where
   pub function : ℕ
   pub parameter : ℕ
-  pub block : List ℕ
+  pub fcb : List ℕ
   pub buffer : List ℕ
 
 abbrev pub asked : ℕ → ℕ → List ℕ → List ℕ → Asked
-asked n p f b = record { function = n; parameter = p; block = f; buffer = b }
+asked n p fcb b = record { function = n; parameter = p; fcb = fcb; buffer = b }

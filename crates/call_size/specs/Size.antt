@@ -2,7 +2,7 @@
 use mathlib.Core.Bool.{cond}
 use mathlib.Core.List.{List}
 use Prim.Native.Nat.{ℕ, _+_, _*_, min, max}
-use Rattle.lists.specs.Search.{fold}
+use Rattle.lists.specs.Bounded.{fold}
 use Rattle.lists.specs.Bytes.{byte}
 use Rattle.disk_geometry.specs.declared.Geometry.{Geometry}
 use Rattle.disk_geometry.specs.Geometry.{slots}

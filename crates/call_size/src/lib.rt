@@ -9,7 +9,7 @@ ghost use Rattle.disk_geometry.specs.Geometry.{lawful, bytes, slots};
 ghost use Rattle.disk_volume.specs.Name.{strip, nameOf};
 ghost use Rattle.disk_volume.specs.declared.Wanted.the-variants.{File};
 ghost use Rattle.disk_volume.specs.Directory.{findSlot};
-ghost use Rattle.call_fcb.specs.Block.{withRandom};
+ghost use Rattle.call_fcb.specs.Fcb.{withRandom};
 ghost use Rattle.call_answers.specs.declared.Refusal.the-variants.{NoMatch};
 ghost use Rattle.call_answers.specs.Refusal.{test, isNone, firstMet};
 ghost use Rattle.call_size.specs.Size.{entryEnd, larger, sizeOf};
@@ -56,16 +56,16 @@ pub fn size_of(g: Geometry, volume: &[u8], user: u8, name: &[u8]) -> usize
 }
 
 // Lays the file's size into the control block, or refuses.
-pub fn measure(g: Geometry, volume: &[u8], f: &mut [u8], user: u8) -> Refusal
-    requires { ⌜ (lawful g ≡ true) × ((length (now volume) ≡ bytes g) × (length (now f) ≡ 36)) ⌝ }
-    ensures { λ r. ⌜ r ≡ firstMet (test NoMatch (leb (slots g) (findSlot g (now (volume .entry)) user (nameOf (now (f .entry))) File)) ∷ []) ⌝ }
-    ensures { λ r. ⌜ now (f .exit) ≡ cond (isNone r) (withRandom (now (f .entry)) (sizeOf g (now (volume .entry)) user (nameOf (now (f .entry))))) (now (f .entry)) ⌝ }
+pub fn measure(g: Geometry, volume: &[u8], fcb: &mut [u8], user: u8) -> Refusal
+    requires { ⌜ (lawful g ≡ true) × ((length (now volume) ≡ bytes g) × (length (now fcb) ≡ 36)) ⌝ }
+    ensures { λ r. ⌜ r ≡ firstMet (test NoMatch (leb (slots g) (findSlot g (now (volume .entry)) user (nameOf (now (fcb .entry))) File)) ∷ []) ⌝ }
+    ensures { λ r. ⌜ now (fcb .exit) ≡ cond (isNone r) (withRandom (now (fcb .entry)) (sizeOf g (now (volume .entry)) user (nameOf (now (fcb .entry))))) (now (fcb .entry)) ⌝ }
 {
-    let slot = disk_volume::directory::find(g, volume, user, &f[1..12], Wanted::File);
+    let slot = disk_volume::directory::find(g, volume, user, &fcb[1..12], Wanted::File);
     let why = call_answers::refuse(Refusal::NoMatch, g.slots() <= slot);
     if call_answers::is_none(why) {
-        let size = size_of(g, volume, user, &f[1..12]);
-        call_fcb::set_random(f, size);
+        let size = size_of(g, volume, user, &fcb[1..12]);
+        call_fcb::set_random(fcb, size);
     }
     why
 }

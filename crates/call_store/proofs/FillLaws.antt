@@ -11,7 +11,7 @@ use native.Mathlib.Omega.{arith}
 use lib.Dec.{eqb}
 use lib.ListN.{length, replicate, length-replicate}
 use borrow.Author.Tests.{eq-eqb, ne-eqb}
-use Rattle.lists.specs.Search.{fold}
+use Rattle.lists.specs.Bounded.{fold}
 use Rattle.lists.specs.Bytes.{byte}
 use Rattle.lists.proofs.PartLaws.{byte-out}
 use Rattle.disk_geometry.specs.declared.Geometry.{Geometry}
@@ -21,7 +21,7 @@ use Rattle.disk_volume.specs.Record.{recordAt, putRecord, fillRecord, putFilled
 use Rattle.disk_geometry.proofs.GeometryLaws.{bounds}
 use Rattle.disk_volume.proofs.DirectoryLaws.{record-inside, putRecord-length, record-putRecord, record-putRecord-other, record-putRecord-within, slot-putRecord}
 
-module _ (g : Geometry) (good : lawful g ≡ true) (b n : ℕ) (b< : b < g .total) (r : List ℕ) (r128 : length r ≡ 128) where
+module _ (g : Geometry) (good : lawful g ≡ true) (b n : ℕ) (b< : b < g .blocks) (r : List ℕ) (r128 : length r ≡ 128) where
   -- what record k of the block is given
   abbrev piece : ℕ → List ℕ
   piece k = cond (eqb k (n % records g)) r (replicate 128 0)
@@ -47,11 +47,11 @@ module _ (g : Geometry) (good : lawful g ≡ true) (b n : ℕ) (b< : b < g .tota
     unfolding fillRecord
     step-within = record-putRecord-within g good v size b k b< (piece k) (piece-length k)
 
-    step-other : (c m : ℕ) → c < g .total → c ≢ b → recordAt g (fillRecord g b n r v k) c m ≡ recordAt g v c m
+    step-other : (c m : ℕ) → c < g .blocks → c ≢ b → recordAt g (fillRecord g b n r v k) c m ≡ recordAt g v c m
     unfolding fillRecord
     step-other = record-putRecord-other g good v size b k b< (piece k) (piece-length k)
 
-    step-slot : g .directory ≤ b → (i : ℕ) → i < slots g → slotAt g (fillRecord g b n r v k) i ≡ slotAt g v i
+    step-slot : g .«directory_blocks» ≤ b → (i : ℕ) → i < slots g → slotAt g (fillRecord g b n r v k) i ≡ slotAt g v i
     unfolding fillRecord
     step-slot = slot-putRecord g good v size b k b< (piece k) (piece-length k)
 
@@ -122,12 +122,12 @@ module _ (g : Geometry) (good : lawful g ≡ true) (b n : ℕ) (b< : b < g .tota
     record-putFilled-within true m ne = whole-record m ∙ rw (ne-eqb (m % records g) (n % records g) ne)
     record-putFilled-within false m ne = record-putRecord-within g good v size b n b< r r128 m ne
 
-    pub record-putFilled-other : (fills : Bool) (c m : ℕ) → c < g .total → c ≢ b → recordAt g (putFilled g fills v b n r) c m ≡ recordAt g v c m
+    pub record-putFilled-other : (fills : Bool) (c m : ℕ) → c < g .blocks → c ≢ b → recordAt g (putFilled g fills v b n r) c m ≡ recordAt g v c m
     unfolding putFilled
     record-putFilled-other true c m c< ne = run-same (λ w. recordAt g w c m) (λ w s k. step-other w s k c m c< ne) (records g) 0 v size
     record-putFilled-other false c m c< ne = record-putRecord-other g good v size b n b< r r128 c m c< ne
 
-    pub slot-putFilled : (fills : Bool) → g .directory ≤ b → (i : ℕ) → i < slots g → slotAt g (putFilled g fills v b n r) i ≡ slotAt g v i
+    pub slot-putFilled : (fills : Bool) → g .«directory_blocks» ≤ b → (i : ℕ) → i < slots g → slotAt g (putFilled g fills v b n r) i ≡ slotAt g v i
     unfolding putFilled
     slot-putFilled true low i i< = run-same (λ w. slotAt g w i) (λ w s k. step-slot w s k low i i<) (records g) 0 v size
     slot-putFilled false low i i< = slot-putRecord g good v size b n b< r r128 low i i<

@@ -3,14 +3,14 @@ ghost use mathlib.Core.Path.{_≡_};
 ghost use mathlib.Core.Bool.{true};
 ghost use Prim.Native.Nat.{_<_};
 ghost use lib.ListN.{length};
-ghost use Rattle.disk_geometry.specs.Geometry.{lawful, bytes};
+ghost use Rattle.disk_geometry.specs.Geometry.{lawful, bytes, blocks};
 ghost use Rattle.disk_volume.specs.Record.{putRecord, fillRecord, putFilled};
 use disk_geometry::Geometry;
 
 // Stores 128 bytes as record n of the block.
 fn put_record(g: Geometry, volume: &mut [u8], block: usize, n: usize, buffer: &[u8])
     requires { ⌜ (lawful g ≡ true) × (length (now volume) ≡ bytes g) ⌝ }
-    requires { ⌜ (block < g .total) × (length (now buffer) ≡ 128) ⌝ }
+    requires { ⌜ (block < blocks g) × (length (now buffer) ≡ 128) ⌝ }
     ensures { λ _. ⌜ now (volume .exit) ≡ putRecord g (now (volume .entry)) block n (now (buffer .entry)) ⌝ }
 {
     let at = g.record_start(block, n);
@@ -20,7 +20,7 @@ fn put_record(g: Geometry, volume: &mut [u8], block: usize, n: usize, buffer: &[
 // Stores record k of a block that is filled: the bytes for record n, zeros for any other.
 fn fill_record(g: Geometry, volume: &mut [u8], block: usize, n: usize, buffer: &[u8], k: usize)
     requires { ⌜ (lawful g ≡ true) × (length (now volume) ≡ bytes g) ⌝ }
-    requires { ⌜ (block < g .total) × (length (now buffer) ≡ 128) ⌝ }
+    requires { ⌜ (block < blocks g) × (length (now buffer) ≡ 128) ⌝ }
     ensures { λ _. ⌜ now (volume .exit) ≡ fillRecord g block n (now (buffer .entry)) (now (volume .entry)) k ⌝ }
 {
     if k == n % g.records() {
@@ -34,7 +34,7 @@ fn fill_record(g: Geometry, volume: &mut [u8], block: usize, n: usize, buffer: &
 // Stores every record of the block, each once: the bytes for record n, zeros for all others.
 fn fill_block(g: Geometry, volume: &mut [u8], block: usize, n: usize, buffer: &[u8])
     requires { ⌜ (lawful g ≡ true) × (length (now volume) ≡ bytes g) ⌝ }
-    requires { ⌜ (block < g .total) × (length (now buffer) ≡ 128) ⌝ }
+    requires { ⌜ (block < blocks g) × (length (now buffer) ≡ 128) ⌝ }
     ensures { λ _. ⌜ now (volume .exit) ≡ putFilled g true (now (volume .entry)) block n (now (buffer .entry)) ⌝ }
 {
     let records = g.records();
@@ -55,7 +55,7 @@ pub(crate) fn put_filled(
     buffer: &[u8],
 )
     requires { ⌜ (lawful g ≡ true) × (length (now volume) ≡ bytes g) ⌝ }
-    requires { ⌜ (block < g .total) × (length (now buffer) ≡ 128) ⌝ }
+    requires { ⌜ (block < blocks g) × (length (now buffer) ≡ 128) ⌝ }
     ensures { λ _. ⌜ now (volume .exit) ≡ putFilled g fills (now (volume .entry)) block n (now (buffer .entry)) ⌝ }
 {
     if fills {

@@ -3,10 +3,10 @@ ghost use mathlib.Core.Path.{_≡_};
 ghost use mathlib.Core.Bool.{true};
 ghost use Prim.Native.Nat.{_<_};
 ghost use lib.ListN.{length};
-ghost use Rattle.disk_geometry.specs.Geometry.{lawful, bytes, slots};
+ghost use Rattle.disk_geometry.specs.Geometry.{lawful, bytes, slots, blocks};
 ghost use Rattle.disk_volume.specs.Directory.{putSlot};
 ghost use Rattle.disk_volume.specs.Record.{putFilled};
-ghost use Rattle.call_fcb.specs.Block.{setTo};
+ghost use Rattle.call_fcb.specs.Fcb.{setTo};
 use disk_geometry::Geometry;
 use disk_volume::directory;
 
@@ -25,7 +25,7 @@ fn store(
 )
     requires { ⌜ (lawful g ≡ true) × (length (now volume) ≡ bytes g) ⌝ }
     requires { ⌜ (length (now buffer) ≡ 128) × (length (now e) ≡ 32) ⌝ }
-    requires { ⌜ (slot < slots g) × (block < g .total) ⌝ }
+    requires { ⌜ (slot < slots g) × (block < blocks g) ⌝ }
     ensures { λ _. ⌜ now (volume .exit) ≡ putSlot g (putFilled g fills (now (volume .entry)) block n (now (buffer .entry))) slot (now (e .entry)) ⌝ }
 {
     data::put_filled(g, fills, volume, block, n, buffer);
@@ -37,7 +37,7 @@ pub fn carry_out(
     g: Geometry,
     fills: bool,
     volume: &mut [u8],
-    f: &mut [u8],
+    fcb: &mut [u8],
     buffer: &[u8],
     e: &[u8],
     slot: usize,
@@ -46,11 +46,11 @@ pub fn carry_out(
     cr: u8,
 )
     requires { ⌜ (lawful g ≡ true) × (length (now volume) ≡ bytes g) ⌝ }
-    requires { ⌜ (length (now f) ≡ 36) × ((length (now buffer) ≡ 128) × (length (now e) ≡ 32)) ⌝ }
-    requires { ⌜ (slot < slots g) × ((block < g .total) × (n < 65536)) ⌝ }
+    requires { ⌜ (length (now fcb) ≡ 36) × ((length (now buffer) ≡ 128) × (length (now e) ≡ 32)) ⌝ }
+    requires { ⌜ (slot < slots g) × ((block < blocks g) × (n < 65536)) ⌝ }
     ensures { λ _. ⌜ now (volume .exit) ≡ putSlot g (putFilled g fills (now (volume .entry)) block n (now (buffer .entry))) slot (now (e .entry)) ⌝ }
-    ensures { λ _. ⌜ now (f .exit) ≡ setTo (now (f .entry)) (now (e .entry)) n cr ⌝ }
+    ensures { λ _. ⌜ now (fcb .exit) ≡ setTo (now (fcb .entry)) (now (e .entry)) n cr ⌝ }
 {
     store(g, fills, volume, buffer, e, slot, block, n);
-    call_fcb::set_to(f, e, n, cr);
+    call_fcb::set_to(fcb, e, n, cr);
 }

@@ -13,12 +13,12 @@ use Rattle.disk_geometry.specs.declared.Geometry.{Geometry}
 use Rattle.disk_volume.specs.Name.{strip}
 use Rattle.disk_volume.specs.Entry.{Entry, ofFile, matches}
 use Rattle.disk_volume.specs.Directory.{fits}
-use Rattle.call_sweep.specs.Pieces.{mapPiece}
+use Rattle.call_sweep.specs.CodeRecords.{mapPiece}
 use Rattle.disk_volume.proofs.NameLaws.{length-strip}
 use Rattle.call_sweep.specs.declared.Edit.{Edit}
 use Rattle.call_sweep.specs.declared.Edit.the-variants.{Erase, Rename, Attributes}
-use Rattle.call_sweep.specs.Sweep.{marked, erased, renamed, attributed, changed}
-use Rattle.call_sweep.specs.Edited.{meant, edited}
+use Rattle.call_sweep.specs.Sweep.{withTopBit, erased, renamed, attributed, changed}
+use Rattle.call_sweep.specs.CodeEdit.{meant, edited}
 
 -- ---- a store behind a list
 set-behind : (xs ys : List ℕ) (n i x : ℕ) → length xs ≡ n → set (xs ++ ys) (n + i) x ≡ xs ++ set ys i x
@@ -82,7 +82,7 @@ unfolding renamed
 renamed-length e new d h =
     let n : length (strip (take 8 new)) ≡ 8 = length-strip (take 8 new) ∙ length-take-le 8 new (omega arith) in
     let f : 1 + 11 ≤ length e = omega arith in
-    length-put e 1 11 f (strip (take 8 new) ++ (marked (byte new 8) (byte e 9) ∷ marked (byte new 9) (byte e 10) ∷ byte new 10 % 128 ∷ [])) (simp length-append (omega arith)) ∙ d
+    length-put e 1 11 f (strip (take 8 new) ++ (withTopBit (byte new 8) (byte e 9) ∷ withTopBit (byte new 9) (byte e 10) ∷ byte new 10 % 128 ∷ [])) (simp length-append (omega arith)) ∙ d
 
 edited-length : (edit : Edit) (new : List ℕ) (e : Entry) → length new ≡ 11 → length e ≡ 32 → length (edited edit new e) ≡ 32
 unfolding attributed

@@ -6,8 +6,8 @@ use Prim.Native.Nat.{ℕ, zero, suc, _-_, _≤_, _<_}
 use native.Mathlib.Decide.{decLt}
 use native.Mathlib.Numerals.{add-one}
 use native.Mathlib.Omega.{arith}
-use Rattle.lists.specs.Search.{lowFrom, lowest}
-use Rattle.lists.proofs.SearchLaws.{Searched, searched-start, searched-next, from-zero, low-hit, low-miss, low-le}
+use Rattle.lists.specs.Bounded.{lowFrom, lowest}
+use Rattle.lists.proofs.BoundedLaws.{Searched, searched-start, searched-next, from-zero, low-hit, low-miss, low-le}
 use Rattle.disk_geometry.specs.declared.Geometry.{Geometry}
 use Rattle.disk_volume.specs.declared.Wanted.the-variants.{File, ReadOnlyFile, Match, ReadOnlyMatch}
 use Rattle.disk_geometry.specs.Geometry.{slots}

@@ -8,7 +8,7 @@ use Prim.Native.Nat.{ℕ, zero, suc, _+_, _-_, _*_, _/_, _%_, _≤_, _<_}
 use native.Mathlib.Decide.{ℕ-discrete}
 use native.Mathlib.Omega.{arith}
 use lib.ListN.{length}
-use Rattle.lists.specs.Search.{fold}
+use Rattle.lists.specs.Bounded.{fold}
 use Rattle.lists.specs.Bytes.{part, put}
 use Rattle.lists.proofs.FoldLaws.{fold-add}
 use Rattle.lists.proofs.PartLaws.{length-part, length-put, part-put, put-part, put-put, part-part, put-put-part}
@@ -17,7 +17,7 @@ use Rattle.disk_geometry.specs.Geometry.{lawful, bytes, records, start, slots, 
 use Rattle.disk_volume.specs.Entry.{Entry}
 use Rattle.disk_volume.specs.Directory.{slotAt, putSlot, mapSlot, mapSlots}
 use Rattle.disk_volume.specs.Record.{recordAt}
-use Rattle.call_sweep.specs.Pieces.{mapPiece, mapPieces, mapRecord}
+use Rattle.call_sweep.specs.CodeRecords.{mapPiece, mapPieces, mapRecord}
 use Rattle.disk_geometry.proofs.GeometryLaws.{bounds, start-in}
 use Rattle.disk_volume.proofs.DirectoryLaws.{slot-length, putSlot-length, slot-putSlot, slot-putSlot-other, record-putSlot}
 
@@ -40,7 +40,7 @@ module _ (g : Geometry) (good : lawful g ≡ true) (f : Entry → Entry) (keeps 
     unfolding mapSlot
     mapSlot-other = slot-putSlot-other g good v size i i< (f (slotAt g v i)) changed
 
-    pub mapSlot-record : (b n : ℕ) → g .directory ≤ b → b < g .total → recordAt g (mapSlot g f v i) b n ≡ recordAt g v b n
+    pub mapSlot-record : (b n : ℕ) → g .«directory_blocks» ≤ b → b < g .blocks → recordAt g (mapSlot g f v i) b n ≡ recordAt g v b n
     unfolding mapSlot
     mapSlot-record = record-putSlot g good v size i i< (f (slotAt g v i)) changed
 
@@ -52,7 +52,7 @@ module _ (g : Geometry) (good : lawful g ≡ true) (f : Entry → Entry) (keeps 
       let l = mapSlot-length v size i (omega arith) in
       sweep-length (suc i) k (mapSlot g f v i) (l ∙ size) (omega arith) ∙ l
 
-  pub sweep-record : (i k : ℕ) (v : List ℕ) → length v ≡ bytes g → i + k ≤ slots g → (b n : ℕ) → g .directory ≤ b → b < g .total
+  pub sweep-record : (i k : ℕ) (v : List ℕ) → length v ≡ bytes g → i + k ≤ slots g → (b n : ℕ) → g .«directory_blocks» ≤ b → b < g .blocks
       → recordAt g (fold (mapSlot g f) v i k) b n ≡ recordAt g v b n
   unfolding fold
   sweep-record i zero v size h b n low high = refl
@@ -95,7 +95,7 @@ module _ (g : Geometry) (good : lawful g ≡ true) (f : Entry → Entry) (keeps 
     pub mapSlots-slot : (j : ℕ) → j < slots g → slotAt g (mapSlots g f v) j ≡ f (slotAt g v j)
     mapSlots-slot j h = sweep-slot 0 (slots g) v size (omega arith) j (omega arith) (omega arith)
 
-    pub mapSlots-record : (b n : ℕ) → g .directory ≤ b → b < g .total → recordAt g (mapSlots g f v) b n ≡ recordAt g v b n
+    pub mapSlots-record : (b n : ℕ) → g .«directory_blocks» ≤ b → b < g .blocks → recordAt g (mapSlots g f v) b n ≡ recordAt g v b n
     mapSlots-record b n low high = sweep-record 0 (slots g) v size (omega arith) b n low high
 
   -- ---- record by record
@@ -118,7 +118,7 @@ module _ (g : Geometry) (good : lawful g ≡ true) (f : Entry → Entry) (keeps 
       let m : (4 * r + k) % 4 ≡ k = omega arith in
       rw (q, m)
 
-  module _ (v : List ℕ) (size : length v ≡ bytes g) (r : ℕ) (r< : r < g .directory * records g) where
+  module _ (v : List ℕ) (size : length v ≡ bytes g) (r : ℕ) (r< : r < g .«directory_blocks» * records g) where
     in-v : start g r + 128 ≤ length v
     in-v = rw size (start-in g good r (omega (arith, bounds g good)))
 
@@ -171,12 +171,12 @@ module _ {g : Geometry} {f : Entry → Entry} {v₀ : List ℕ} where
   swept-start = record { rest = let z : slots g - 4 * 0 ≡ slots g = omega arith in rw z }
 
   pub swept-next : {v new : List ℕ} {r : ℕ} → lawful g ≡ true → ((e : Entry) → length e ≡ 32 → length (f e) ≡ 32) → length v ≡ bytes g
-      → Swept g f v₀ v r → r < g .directory * records g → new ≡ mapRecord g f v r → Swept g f v₀ new (r + 1)
+      → Swept g f v₀ v r → r < g .«directory_blocks» * records g → new ≡ mapRecord g f v r → Swept g f v₀ new (r + 1)
   swept-next {v} {new} {r} good keeps size s h e =
       let z : slots g - 4 * r ≡ 4 + (slots g - 4 * (r + 1)) = omega arith in
       let y : 4 * r + 4 ≡ 4 * (r + 1) = omega arith in
       record { rest = s .rest ∙ rw (z, fold-add (mapSlot g f) v (4 * r) 4 (slots g - 4 * (r + 1)), y, ← record-is g good f keeps v size r h, ← e) }
 
-  pub swept-end : {v : List ℕ} {r : ℕ} → Swept g f v₀ v r → g .directory * records g ≤ r → mapSlots g f v₀ ≡ v
+  pub swept-end : {v : List ℕ} {r : ℕ} → Swept g f v₀ v r → g .«directory_blocks» * records g ≤ r → mapSlots g f v₀ ≡ v
   unfolding fold
   swept-end {v} {r} s h = let z : slots g - 4 * r ≡ 0 = omega arith in s .rest ∙ rw z

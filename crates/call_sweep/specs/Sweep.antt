@@ -14,17 +14,17 @@ abbrev pub erased : Entry → Entry
 erased e = set e 0 229
 
 -- a byte with another's top bit
-abbrev pub marked : ℕ → ℕ → ℕ
-marked x top = x % 128 + topBit top
+abbrev pub withTopBit : ℕ → ℕ → ℕ
+withTopBit x top = x % 128 + topBit top
 
 -- "all entries of the file take the new one without top bits and keep their attribute bits": those of bytes 9 and 10
 unfoldable pub renamed : Entry → List ℕ → Entry
 renamed e name =
-    put e 1 11 (strip (take 8 name) ++ (marked (byte name 8) (byte e 9) ∷ marked (byte name 9) (byte e 10) ∷ byte name 10 % 128 ∷ []))
+    put e 1 11 (strip (take 8 name) ++ (withTopBit (byte name 8) (byte e 9) ∷ withTopBit (byte name 9) (byte e 10) ∷ byte name 10 % 128 ∷ []))
 
 -- "top bits of control block bytes 9 and 10 go to all entries of the file"
 unfoldable pub attributed : Entry → List ℕ → Entry
-attributed e name = set (set e 9 (marked (byte e 9) (byte name 8))) 10 (marked (byte e 10) (byte name 9))
+attributed e name = set (set e 9 (withTopBit (byte e 9) (byte name 8))) 10 (withTopBit (byte e 10) (byte name 9))
 
 -- an entry after the change: by user and name (or pattern) of the file, and by the eleven bytes to go into it
 unfoldable pub changed : Edit → ℕ → List ℕ → List ℕ → Entry → Entry

@@ -3,12 +3,12 @@ ghost use mathlib.Core.Path.{_≡_};
 ghost use mathlib.Core.Bool.{true, false};
 ghost use Prim.Native.Nat.{_*_, _<_};
 ghost use lib.ListN.{length};
-ghost use Rattle.disk_geometry.specs.Geometry.{lawful, bytes, records};
+ghost use Rattle.disk_geometry.specs.Geometry.{lawful, bytes, records, directoryBlocks};
 ghost use Rattle.disk_volume.specs.Name.{strip};
 ghost use Rattle.disk_volume.specs.Directory.{mapSlots};
-ghost use Rattle.call_sweep.specs.Pieces.{mapPieces, mapRecord};
-ghost use Rattle.call_sweep.specs.Sweep.{marked, renamed, attributed, changed};
-ghost use Rattle.call_sweep.specs.Edited.{meant, edited};
+ghost use Rattle.call_sweep.specs.CodeRecords.{mapPieces, mapRecord};
+ghost use Rattle.call_sweep.specs.Sweep.{withTopBit, renamed, attributed, changed};
+ghost use Rattle.call_sweep.specs.CodeEdit.{meant, edited};
 use disk_geometry::Geometry;
 use disk_volume::Wanted;
 use disk_volume::entry;
@@ -33,8 +33,8 @@ pub fn lay_name(dst: &mut [u8], name: &[u8])
 }
 
 // A byte with the top bit of another.
-fn marked(x: u8, top: u8) -> u8
-    ensures { λ r. ⌜ r ≡ marked x top ⌝ }
+fn with_top_bit(x: u8, top: u8) -> u8
+    ensures { λ r. ⌜ r ≡ withTopBit x top ⌝ }
 {
     x % 128 + top / 128 * 128
 }
@@ -44,20 +44,20 @@ fn rename_entry(e: &mut [u8], new: &[u8])
     requires { ⌜ (length (now e) ≡ 32) × (length (now new) ≡ 11) ⌝ }
     ensures { λ _. ⌜ now (e .exit) ≡ renamed (now (e .entry)) (now (new .entry)) ⌝ }
 {
-    let read_only = marked(new[8], e[9]);
-    let system = marked(new[9], e[10]);
+    let read_only = with_top_bit(new[8], e[9]);
+    let system = with_top_bit(new[9], e[10]);
     lay_name(&mut e[1..12], new);
     e[9] = read_only;
     e[10] = system;
 }
 
 // Gives the entry's bytes 9 and 10 the top bits of the name's.
-fn mark_entry(e: &mut [u8], new: &[u8])
+fn attribute_entry(e: &mut [u8], new: &[u8])
     requires { ⌜ (length (now e) ≡ 32) × (length (now new) ≡ 11) ⌝ }
     ensures { λ _. ⌜ now (e .exit) ≡ attributed (now (e .entry)) (now (new .entry)) ⌝ }
 {
-    let read_only = marked(e[9], new[8]);
-    let system = marked(e[10], new[9]);
+    let read_only = with_top_bit(e[9], new[8]);
+    let system = with_top_bit(e[10], new[9]);
     e[9] = read_only;
     e[10] = system;
 }
@@ -83,7 +83,7 @@ fn edit_entry(e: &mut [u8], new: &[u8], edit: Edit)
             e[0] = entry::EMPTY;
         }
         Edit::Rename => rename_entry(e, new),
-        Edit::Attributes => mark_entry(e, new),
+        Edit::Attributes => attribute_entry(e, new),
     }
 }
 
@@ -137,7 +137,7 @@ fn change_record(
     new: &[u8],
     edit: Edit,
 )
-    requires { ⌜ (lawful g ≡ true) × ((length (now volume) ≡ bytes g) × (r < g .directory * records g)) ⌝ }
+    requires { ⌜ (lawful g ≡ true) × ((length (now volume) ≡ bytes g) × (r < directoryBlocks g * records g)) ⌝ }
     requires { ⌜ (length (now name) ≡ 11) × (length (now new) ≡ 11) ⌝ }
     ensures { λ _. ⌜ now (volume .exit) ≡ mapRecord g (changed edit user (strip (now (name .entry))) (now (new .entry))) (now (volume .entry)) r ⌝ }
 {

@@ -6,9 +6,9 @@ use mathlib.Core.List.{List, [], _∷_}
 use Prim.Native.Nat.{ℕ, zero, suc, _-_, _≤_, _%_}
 use native.Mathlib.Omega.{arith}
 use lib.ListN.{length, take, drop}
-use Rattle.lists.specs.Search.{everyFrom}
+use Rattle.lists.specs.Bounded.{everyFrom}
 use Rattle.lists.specs.Bytes.{byte, part, all}
-use Rattle.lists.proofs.SearchLaws.{every-ext}
+use Rattle.lists.proofs.BoundedLaws.{every-ext}
 use Rattle.disk_volume.specs.Name.{strip}
 use Rattle.call_typing.specs.Typing.{blank, blankBefore}
 use Rattle.disk_volume.proofs.NameLaws.{shift}

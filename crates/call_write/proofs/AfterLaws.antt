@@ -12,7 +12,7 @@ use lib.ListN.{length, replicate}
 use borrow.Author.Tests.{lt-ltb, ltb-true, ltb-false, leb-true, leb-false, eq-eqb, ne-eqb, eqb-true}
 use Rattle.lists.specs.Bytes.{byte}
 use Rattle.lists.proofs.PartLaws.{byte-both}
-use Rattle.lists.proofs.SearchLaws.{low-is}
+use Rattle.lists.proofs.BoundedLaws.{low-is}
 use Rattle.disk_volume.specs.Directory.{slotAt, putSlot, slotFits, findSlot}
 use Rattle.disk_volume.specs.Entry.{extent, ofFile, ofGroup, countOf}
 use Rattle.disk_geometry.specs.Geometry.{lawful, bytes, records, slots, slotStart, groupOf}
@@ -27,7 +27,7 @@ use Rattle.call_entry.proofs.GrowLaws.{length-like, head-like, like-extent, gro
 use Rattle.call_entry.proofs.HeadLaws.{head-ofFile}
 use Rattle.call_store.proofs.FillLaws.{putFilled-length, record-putFilled, record-putFilled-within, record-putFilled-other, slot-putFilled, byte-putFilled}
 use Rattle.call_decide.specs.Write.{hasGroup, writeSlot, baseEntry, fillsBlock, writeBlock, writeTests}
-use Rattle.call_decide.specs.WritePlan.{entryAfter, dataAfter, volumeAfter}
+use Rattle.call_decide.specs.CodePlan.{entryAfter, dataAfter, volumeAfter}
 use Rattle.lists.proofs.BoolLaws.{and-left, and-right}
 use Rattle.disk_volume.proofs.FindLaws.{found-fits, found-first}
 use Rattle.call_decide.proofs.WriteLaws.{length-base, write-passed, length-entryAfter}
@@ -137,7 +137,7 @@ module _ (g : Geometry) (held v : List ℕ) (u : ℕ) (name : List ℕ) (n : ℕ
         ∙ slot-putFilled g good (writeBlock g held v u name n) n (p .block-high) r r128 v size (fillsBlock g v u name n fills) (p .block-low) j h
 
     -- the record's bytes, and those of every other
-    entry-apart : (b m : ℕ) → g .directory ≤ b → b < g .total
+    entry-apart : (b m : ℕ) → g .«directory_blocks» ≤ b → b < g .blocks
         → recordAt g (volumeAfter g held v u name n fills r) b m ≡ recordAt g (dataAfter g held v u name n fills r) b m
     entry-apart b m low high =
         record-putSlot g good (dataAfter g held v u name n fills r) stored-size (writeSlot g v u name n) (write-passed g held v u name n passed .slot-in)
@@ -149,7 +149,7 @@ module _ (g : Geometry) (held v : List ℕ) (u : ℕ) (name : List ℕ) (n : ℕ
         entry-apart (writeBlock g held v u name n) n (p .block-low) (p .block-high)
         ∙ record-putFilled g good (writeBlock g held v u name n) n (p .block-high) r r128 v size (fillsBlock g v u name n fills)
 
-    pub after-record-other : (b m : ℕ) → g .directory ≤ b → b < g .total → b ≢ writeBlock g held v u name n
+    pub after-record-other : (b m : ℕ) → g .«directory_blocks» ≤ b → b < g .blocks → b ≢ writeBlock g held v u name n
         → recordAt g (volumeAfter g held v u name n fills r) b m ≡ recordAt g v b m
     after-record-other b m low high ne =
         entry-apart b m low high

@@ -6,10 +6,10 @@ ghost use lib.ListN.{length};
 ghost use Rattle.disk_geometry.specs.Geometry.{lawful, bytes};
 ghost use Rattle.disk_volume.specs.Name.{nameOf};
 ghost use Rattle.disk_held.specs.Held.{hold};
-ghost use Rattle.call_fcb.specs.Block.{setTo};
+ghost use Rattle.call_fcb.specs.Fcb.{setTo};
 ghost use Rattle.call_answers.specs.Refusal.{isNone, firstMet};
 ghost use Rattle.call_decide.specs.Write.{writeTests};
-ghost use Rattle.call_decide.specs.WritePlan.{entryAfter, volumeAfter, heldAfter};
+ghost use Rattle.call_decide.specs.CodePlan.{entryAfter, volumeAfter, heldAfter};
 use call_answers::Refusal;
 use disk_geometry::Geometry;
 
@@ -36,7 +36,7 @@ pub fn write_record(
     g: Geometry,
     fills: bool,
     volume: &mut [u8],
-    f: &mut [u8],
+    fcb: &mut [u8],
     buffer: &[u8],
     user: u8,
     held: [u64; 4],
@@ -44,21 +44,32 @@ pub fn write_record(
     cr: u8,
 ) -> Written
     requires { ⌜ (lawful g ≡ true) × (length (now volume) ≡ bytes g) ⌝ }
-    requires { ⌜ (length (now f) ≡ 36) × ((length (now buffer) ≡ 128) × (n < 65536)) ⌝ }
-    ensures { λ r. ⌜ r .why ≡ firstMet (writeTests g held (now (volume .entry)) user (nameOf (now (f .entry))) n) ⌝ }
-    ensures { λ r. ⌜ now (volume .exit) ≡ cond (isNone (r .why)) (volumeAfter g held (now (volume .entry)) user (nameOf (now (f .entry))) n fills (now (buffer .entry))) (now (volume .entry)) ⌝ }
-    ensures { λ r. ⌜ now (f .exit) ≡ cond (isNone (r .why)) (setTo (now (f .entry)) (entryAfter g held (now (volume .entry)) user (nameOf (now (f .entry))) n) n cr) (now (f .entry)) ⌝ }
-    ensures { λ r. ⌜ r .held ≡ cond (isNone (r .why)) (heldAfter g held (now (volume .entry)) user (nameOf (now (f .entry))) n) held ⌝ }
+    requires { ⌜ (length (now fcb) ≡ 36) × ((length (now buffer) ≡ 128) × (n < 65536)) ⌝ }
+    ensures { λ r. ⌜ r .why ≡ firstMet (writeTests g held (now (volume .entry)) user (nameOf (now (fcb .entry))) n) ⌝ }
+    ensures { λ r. ⌜ now (volume .exit) ≡ cond (isNone (r .why)) (volumeAfter g held (now (volume .entry)) user (nameOf (now (fcb .entry))) n fills (now (buffer .entry))) (now (volume .entry)) ⌝ }
+    ensures { λ r. ⌜ now (fcb .exit) ≡ cond (isNone (r .why)) (setTo (now (fcb .entry)) (entryAfter g held (now (volume .entry)) user (nameOf (now (fcb .entry))) n) n cr) (now (fcb .entry)) ⌝ }
+    ensures { λ r. ⌜ r .held ≡ cond (isNone (r .why)) (heldAfter g held (now (volume .entry)) user (nameOf (now (fcb .entry))) n) held ⌝ }
 {
     let mut e = [0u8; 32];
-    let plan = call_decide::decide(g, volume, user, &f[1..12], held, n, &mut e);
+    let plan = call_decide::decide(g, volume, user, &fcb[1..12], held, n, &mut e);
     let why = plan.why;
     if !call_answers::is_none(why) {
         return Written { why, held };
     }
     call_entry::write_entry(g, &mut e, n, plan.block);
     let fill = fills & plan.fresh;
-    call_store::carry_out(g, fill, volume, f, buffer, &e, plan.slot, plan.block, n, cr);
+    call_store::carry_out(
+        g,
+        fill,
+        volume,
+        fcb,
+        buffer,
+        &e,
+        plan.slot,
+        plan.block,
+        n,
+        cr,
+    );
     let next = hold_if(held, plan.fresh, plan.block);
     Written { why, held: next }
 }

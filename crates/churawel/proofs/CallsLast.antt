@@ -12,28 +12,28 @@ use Rattle.lists.proofs.BoolLaws.{and-parts}
 use Rattle.lists.proofs.PartLaws.{length-part}
 use Rattle.disk_geometry.specs.Geometry.{slots}
 use Rattle.disk_volume.specs.Name.{nameOf, goodName}
-use Rattle.call_fcb.specs.Block.{position, random}
-use Rattle.call_answers.specs.declared.Refusal.the-variants.{Closed, VolumeLength, BlockLength, BufferLength, DriveCode, UserCode, Name, Position, NoMatch, NoGroup, Absent}
+use Rattle.call_fcb.specs.Fcb.{position, random}
+use Rattle.call_answers.specs.declared.Refusal.the-variants.{Closed, VolumeLength, FcbLength, BufferLength, DriveCode, UserCode, Name, Position, NoMatch, NoGroup, Absent}
 use Rattle.call_answers.specs.Refusal.{isNone, firstMet}
 use Rattle.call_answers.proofs.Ladder.{unmet}
 use Rattle.disk_held.proofs.WordsLaws.{words-hold}
-use Rattle.call_search.specs.declared.Kept.{Kept}
-use Rattle.call_search.specs.declared.Kept.the-variants.{Nothing, Pattern, Everything}
-use Rattle.call_search.specs.Search.{kindOf, patternOf}
+use Rattle.call_search.specs.declared.SearchKind.{SearchKind}
+use Rattle.call_search.specs.declared.SearchKind.the-variants.{Nothing, Pattern, Everything}
+use Rattle.call_search.specs.Search.{kindAsked, patternOf}
 use Rattle.call_read.specs.Read.{readTests}
 use Rattle.call_decide.specs.Write.{needsBlock, writeBlock}
 use Rattle.filecalls.specs.declared.Drive.{Drive}
 use Rattle.filecalls.specs.State.{goodPattern, goodKept}
 use Rattle.filecalls.specs.Outcome.{keeps, takes, becomes, protects, frees, searches, done, changedState}
 use Rattle.filecalls.specs.Open.{openTests, openAct, closeTests, closeAct, sizeTests, sizeAct}
-use Rattle.filecalls.specs.Search.{examined, hit, isKept, keptAt, newSearch, shown, firstTests, searchFirstAct, nextTests, searchNextAct}
+use Rattle.filecalls.specs.Search.{examined, hit, isKept, keptAt, newSearch, hitAct, firstTests, searchFirstAct, nextTests, searchNextAct}
 use Rattle.filecalls.specs.Names.{deleteLadder, deleteAct, makeLadder, makeAct, renameLadder, renameAct, attributesLadder, attributesAct}
 use Rattle.filecalls.specs.Read.{sequentialTests, randomTests, readDone, readSequentialAct, readRandomAct}
 use Rattle.filecalls.specs.Write.{directoryTests, writeChange, writeDone, writeSequentialAct, writeDirectAct, writeRandomAct, writeZeroFillAct}
 use Rattle.filecalls.specs.Small.{protectTests, protectAct, userTests, userAct, setRandomTests, setRandomAct}
 use Rattle.filecalls.proofs.StateLaws.{is-open}
-use Rattle.several.specs.Several.{readOne, writeOne, onPiece, several}
-use Rattle.several.proofs.SeveralLaws.{several-keeps}
+use Rattle.filecalls.specs.Several.{readOne, writeOne, onPiece, several}
+use Rattle.filecalls.proofs.SeveralLaws.{several-keeps}
 use Rattle.churawel.proofs.LastingLaws.{Lasts, Lasting, does, lasting-unless, outcome-lasts, held-lasts, protects-lasts, user-lasts, search-lasts, words-free, words-of, or-parts, hit-low, first-pattern}
 
 module _ (d : Drive) (v f b : List ℕ) (l : Lasts d) where
@@ -157,7 +157,7 @@ write-several-lasts =
 
 -- ---- the searches
 -- a search that is within the rules stays so at another slot
-good-at : (kind : Kept) (user last i : ℕ) (pattern : List ℕ) (n : ℕ) → i < n → goodKept kind user last pattern n ≡ true → goodKept kind user i pattern n ≡ true
+good-at : (kind : SearchKind) (user last i : ℕ) (pattern : List ℕ) (n : ℕ) → i < n → goodKept kind user last pattern n ≡ true → goodKept kind user i pattern n ≡ true
 good-at Nothing user last i pattern n h e = refl
 good-at Everything user last i pattern n h e = rw (lt-ltb i n h, and-parts (leb user 15) (ltb last n) e .0)
 good-at Pattern user last i pattern n h e =
@@ -186,12 +186,12 @@ record FirstPassed (d : Drive) (v f : List ℕ) : Type 0 where
 first-passed : (d : Drive) (v f b : List ℕ) → isNone (firstMet (firstTests d v f b)) ≡ true → FirstPassed d v f
 unfolding firstTests
 first-passed d v f b h =
-    let x = unmet BlockLength _ _ refl (unmet VolumeLength _ _ refl (unmet Closed _ _ refl h .1) .1) in
+    let x = unmet FcbLength _ _ refl (unmet VolumeLength _ _ refl (unmet Closed _ _ refl h .1) .1) in
     let n = unmet Name _ _ refl (unmet DriveCode _ _ refl (unmet BufferLength _ _ refl (x .1) .1) .1) in
     let e = unmet Position _ _ refl (n .1) in
     record { size = eqb-true (length f) 36 (not-false (eqb (length f) 36) (x .0)); name = n .0; extent = e .0; hits = unmet NoMatch _ _ refl (e .1) .0 }
 
-first-kind : (dr : ℕ) → isKept (kindOf dr) ≡ true
+first-kind : (dr : ℕ) → isKept (kindAsked dr) ≡ true
 first-kind dr = go (eqb dr 63)
   where
     go : (t : Bool) → isKept (cond t Everything Pattern) ≡ true
@@ -199,7 +199,7 @@ first-kind dr = go (eqb dr 63)
     go false = refl
 
 first-good : (d : Drive) (v f : List ℕ) (i : ℕ) → FirstPassed d v f → leb (d .user) 15 ≡ true → ltb i (slots (d .geometry)) ≡ true
-    → goodKept (kindOf (byte f 0)) (d .user) i (patternOf f) (slots (d .geometry)) ≡ true
+    → goodKept (kindAsked (byte f 0)) (d .user) i (patternOf f) (slots (d .geometry)) ≡ true
 first-good d v f i p u low = go (eqb (byte f 0) 63) refl
   where
     go : (t : Bool) → eqb (byte f 0) 63 ≡ t → goodKept (cond t Everything Pattern) (d .user) i (patternOf f) (slots (d .geometry)) ≡ true
@@ -219,7 +219,7 @@ module _ (d : Drive) (v f b : List ℕ) (l : Lasts d) where
       (good-at (d .search .kind) (d .search .user) (d .search .last) _ (d .search .pattern) (slots (d .geometry)) (low .0) (o .kept))
 
   pub next-lasting : Lasting d v (searchNextAct d v b)
-  unfolding searchNextAct shown
+  unfolding searchNextAct hitAct
   next-lasting = lasting-unless (nextTests d v b) _ (λ h. does (next-kept (next-passed d v b h)))
 
   first-kept : FirstPassed d v f → Lasts (changedState d v (searches (keptAt (newSearch d f) (hit (d .geometry) v (newSearch d f) 0))))
@@ -231,5 +231,5 @@ module _ (d : Drive) (v f b : List ℕ) (l : Lasts d) where
       (first-good d v f _ p (le-leb (d .user) 15 (o .user15)) (lt-ltb _ (slots (d .geometry)) (low .0)))
 
   pub first-lasting : Lasting d v (searchFirstAct d v f b)
-  unfolding searchFirstAct shown
+  unfolding searchFirstAct hitAct
   first-lasting = lasting-unless (firstTests d v f b) _ (λ h. does (first-kept (first-passed d v f b h)))

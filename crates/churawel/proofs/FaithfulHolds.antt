@@ -28,12 +28,12 @@ use Rattle.filecalls.specs.declared.Reply.{Reply}
 use Rattle.filecalls.specs.State.{isOpen, closed, loggedIn}
 use Rattle.filecalls.specs.LogIn.{logInTests, refusedLogIn, logIn}
 use Rattle.filecalls.proofs.OutcomeLaws.{sameAll, outcome-refused}
-use Rattle.several.specs.Several.{readOne, writeOne}
-use Rattle.several.proofs.SeveralLaws.{leaves-all, read-refuses, write-refuses}
+use Rattle.filecalls.specs.Several.{readOne, writeOne}
+use Rattle.filecalls.proofs.SeveralLaws.{leaves-all, read-refuses, write-refuses}
 use Rattle.call_served.specs.declared.Call.{Call}
 use Rattle.call_served.specs.declared.Call.the-variants.{LogIn, Open, Close, SearchFirst, SearchNext, Delete, Make, Rename, Protect, Attributes, User, Size, SetRandom, Moves, Unserved}
 use Rattle.call_served.specs.declared.Transfer.the-variants.{ReadSequential, WriteSequential, ReadRandom, WriteRandom, WriteZeroFill, ReadSeveral, WriteSeveral}
-use Rattle.bdos.specs.Step.{keepsBuffer, keepsBlock, keepsVolume, carries, does, step}
+use Rattle.bdos.specs.Step.{keepsBuffer, keepsFcb, keepsVolume, carries, does, step}
 use Rattle.call_served.specs.Asked.{Asked, asked}
 use Rattle.call_served.specs.Calls.{callOf}
 use Rattle.drive_bytes.specs.Layout.{encoded, decoded}
@@ -48,9 +48,9 @@ use Rattle.churawel.proofs.CallsLast.{open-lasting, close-lasting, size
 closed-carried : Carried closed
 closed-carried =
     record {
-      block = omega arith;
-      total = omega arith;
-      directory = omega arith;
+      block-bytes-16 = omega arith;
+      blocks-16 = omega arith;
+      directory-blocks-16 = omega arith;
       last = omega arith;
       pattern = refl;
       four = refl;
@@ -62,9 +62,9 @@ logged-in-carried : (g : Geometry) (held : List ℕ) → lawful g ≡ true → W
 logged-in-carried g held law w =
     let k = bounds g law in
     record {
-      block = omega (arith, k .block-high);
-      total = omega (arith, k .total-high);
-      directory = omega (arith, k .directory-high);
+      block-bytes-16 = omega (arith, k .block-high);
+      blocks-16 = omega (arith, k .blocks-high);
+      directory-blocks-16 = omega (arith, k .directory-high);
       last = omega arith;
       pattern = refl;
       four = w .four;
@@ -79,7 +79,7 @@ module _ (g : Geometry) (v : List ℕ) where
   accepted h = not-false (lawful g) (unmet Closed _ _ refl h .0)
 
   taken : isNone (firstMet (logInTests g v)) ≡ true
-      → logIn g v ≡ record { answer = answer.Ready (freeCount (heldOf g v) (g .directory) (g .total)); drive = loggedIn g (heldOf g v) }
+      → logIn g v ≡ record { answer = answer.Ready (freeCount (heldOf g v) (g .«directory_blocks») (g .blocks)); drive = loggedIn g (heldOf g v) }
   unfolding logIn
   taken h = rw h
 
@@ -139,7 +139,7 @@ module _ (g : Geometry) (p : ℕ) (small : p < 256) (d : Drive) (l : Lasts d) (v
 step-lasts : (d : Drive) → Carried d → isOpen d ≡ true → (c : Asked) → c .parameter < 256 → (v : List ℕ)
     → (callOf (c .function) ≡ LogIn) ⊎ Lasts (step (d .geometry) c d v .drive)
 unfolding step
-step-lasts d k o c small v = call-lasts (d .geometry) (c .parameter) small d (record { carried = k; opens = o }) v (c .block) (c .buffer) (callOf (c .function))
+step-lasts d k o c small v = call-lasts (d .geometry) (c .parameter) small d (record { carried = k; opens = o }) v (c .fcb) (c .buffer) (callOf (c .function))
 
 step-log-in : (g : Geometry) (c : Asked) (d : Drive) (v : List ℕ) → callOf (c .function) ≡ LogIn → step g c d v .drive ≡ logIn g v .drive
 unfolding step does carries
@@ -171,15 +171,15 @@ module _ (g : Geometry) (p : ℕ) (d : Drive) (v f b : List ℕ) where
   call-refused Open n e = ap (keepsBuffer b) (outcome-refused d v f [] _ e)
   call-refused Close n e = ap (keepsBuffer b) (outcome-refused d v f [] _ e)
   call-refused SearchFirst n e = outcome-refused d v f b _ e
-  call-refused SearchNext n e = ap (keepsBlock f) (outcome-refused d v [] b _ e)
+  call-refused SearchNext n e = ap (keepsFcb f) (outcome-refused d v [] b _ e)
   call-refused Delete n e = ap (keepsBuffer b) (outcome-refused d v f [] _ e)
   call-refused (Moves ReadSequential) n e = outcome-refused d v f b _ e
   call-refused (Moves WriteSequential) n e = outcome-refused d v f b _ e
   call-refused Make n e = ap (keepsBuffer b) (outcome-refused d v f [] _ e)
   call-refused Rename n e = ap (keepsBuffer b) (outcome-refused d v f [] _ e)
-  call-refused Protect n e = ap (keepsVolume v) (ap (keepsBlock f) (ap (keepsBuffer b) (outcome-refused d [] [] [] _ e)))
+  call-refused Protect n e = ap (keepsVolume v) (ap (keepsFcb f) (ap (keepsBuffer b) (outcome-refused d [] [] [] _ e)))
   call-refused Attributes n e = ap (keepsBuffer b) (outcome-refused d v f [] _ e)
-  call-refused User n e = ap (keepsVolume v) (ap (keepsBlock f) (ap (keepsBuffer b) (outcome-refused d [] [] [] _ e)))
+  call-refused User n e = ap (keepsVolume v) (ap (keepsFcb f) (ap (keepsBuffer b) (outcome-refused d [] [] [] _ e)))
   call-refused (Moves ReadRandom) n e = outcome-refused d v f b _ e
   call-refused (Moves WriteRandom) n e = outcome-refused d v f b _ e
   call-refused Size n e = ap (keepsBuffer b) (outcome-refused d v f [] _ e)
@@ -190,9 +190,9 @@ module _ (g : Geometry) (p : ℕ) (d : Drive) (v f b : List ℕ) where
   call-refused Unserved n e = outcome-refused d v f b _ e
 
 step-refused : (g : Geometry) (c : Asked) (d : Drive) (v : List ℕ) → (callOf (c .function) ≡ LogIn → ⊥) → succeeded (step g c d v .answer) ≡ false
-    → step g c d v ≡ sameAll (step g c d v) d v (c .block) (c .buffer)
+    → step g c d v ≡ sameAll (step g c d v) d v (c .fcb) (c .buffer)
 unfolding step
-step-refused g c d v n e = call-refused g (c .parameter) d v (c .block) (c .buffer) (callOf (c .function)) n e
+step-refused g c d v n e = call-refused g (c .parameter) d v (c .fcb) (c .buffer) (callOf (c .function)) n e
 
 pub refused-leaves-all : RefusedLeavesAll
 unfolding atSeam

@@ -7,7 +7,7 @@ use native.Mathlib.Omega.{arith}
 use lib.Dec.{leb, ltb, eqb}
 use lib.ListN.{length}
 use borrow.Author.Tests.{leb-false, le-leb, ltb-false}
-use Rattle.lists.specs.Search.{fold}
+use Rattle.lists.specs.Bounded.{fold}
 use Rattle.lists.specs.Bytes.{byte, part}
 use Rattle.lists.proofs.PartLaws.{part-part, byte-part}
 use Rattle.disk_geometry.specs.declared.Geometry.{Geometry}
@@ -21,7 +21,7 @@ use Rattle.call_answers.specs.Refusal.{Test, isNone, firstMet}
 use Rattle.disk_held.proofs.WordsLaws.{Words, words-release}
 use Rattle.call_delete.specs.Delete.{freePlace, freeEntry, freeSlot, freeMatches}
 use Rattle.call_search.specs.Search.{patternOf}
-use Rattle.filecalls.specs.declared.Search.{Search}
+use Rattle.filecalls.specs.declared.KeptSearch.{KeptSearch}
 use Rattle.filecalls.specs.declared.Drive.{Drive}
 use Rattle.filecalls.specs.State.{goodPattern, goodKept, isOpen}
 use Rattle.filecalls.specs.Outcome.{withHeld, withUser, withProtection, withSearch, Change, Store, Act, deny, done, unless, changedState, outcome}
@@ -68,7 +68,7 @@ module _ (d : Drive) (l : Lasts d) where
   held-lasts held w =
       let c = l .carried in
       record {
-        carried = record { block = c .block; total = c .total; directory = c .directory; last = c .last; pattern = c .pattern; four = w .four; words = w .small; idle = c .idle };
+        carried = record { block-bytes-16 = c .block-bytes-16; blocks-16 = c .blocks-16; directory-blocks-16 = c .directory-blocks-16; last = c .last; pattern = c .pattern; four = w .four; words = w .small; idle = c .idle };
         opens = l .opens;
       }
 
@@ -77,7 +77,7 @@ module _ (d : Drive) (l : Lasts d) where
   protects-lasts =
       let c = l .carried in
       record {
-        carried = record { block = c .block; total = c .total; directory = c .directory; last = c .last; pattern = c .pattern; four = c .four; words = c .words; idle = c .idle };
+        carried = record { block-bytes-16 = c .block-bytes-16; blocks-16 = c .blocks-16; directory-blocks-16 = c .directory-blocks-16; last = c .last; pattern = c .pattern; four = c .four; words = c .words; idle = c .idle };
         opens = l .opens;
       }
 
@@ -86,17 +86,17 @@ module _ (d : Drive) (l : Lasts d) where
       let c = l .carried in
       let o = is-open d (l .opens) in
       record {
-        carried = record { block = c .block; total = c .total; directory = c .directory; last = c .last; pattern = c .pattern; four = c .four; words = c .words; idle = c .idle };
+        carried = record { block-bytes-16 = c .block-bytes-16; blocks-16 = c .blocks-16; directory-blocks-16 = c .directory-blocks-16; last = c .last; pattern = c .pattern; four = c .four; words = c .words; idle = c .idle };
         opens = unfold isOpen in rw (o .law, le-leb u 15 h) (o .kept);
       }
 
-  pub search-lasts : (q : Search) → q .last < 65536 → length (q .pattern) ≡ 12 → isKept (q .kind) ≡ true
+  pub search-lasts : (q : KeptSearch) → q .last < 65536 → length (q .pattern) ≡ 12 → isKept (q .kind) ≡ true
       → goodKept (q .kind) (q .user) (q .last) (q .pattern) (slots (d .geometry)) ≡ true → Lasts (withSearch d q)
   search-lasts q low size kept good =
       let c = l .carried in
       let o = is-open d (l .opens) in
       record {
-        carried = record { block = c .block; total = c .total; directory = c .directory; last = low; pattern = size; four = c .four; words = c .words; idle = λ e. absurd (true≢false (sym kept ∙ ap isKept e)) };
+        carried = record { block-bytes-16 = c .block-bytes-16; blocks-16 = c .blocks-16; directory-blocks-16 = c .directory-blocks-16; last = low; pattern = size; four = c .four; words = c .words; idle = λ e. absurd (true≢false (sym kept ∙ ap isKept e)) };
         opens = unfold isOpen in rw (o .law, le-leb (d .user) 15 (o .user15)) good;
       }
 

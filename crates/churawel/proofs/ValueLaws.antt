@@ -5,7 +5,7 @@ use mathlib.Core.List.{List, []}
 use Prim.Native.Nat.{ℕ, _-_, _≤_, _<_}
 use native.Mathlib.Omega.{arith}
 use lib.Dec.{eqb}
-use Rattle.lists.proofs.SearchLaws.{low-le}
+use Rattle.lists.proofs.BoundedLaws.{low-le}
 use Rattle.disk_geometry.specs.declared.Geometry.{Geometry}
 use Rattle.disk_geometry.specs.Geometry.{lawful, slots}
 use Rattle.disk_geometry.proofs.GeometryLaws.{bounds}
@@ -23,8 +23,8 @@ use Rattle.filecalls.specs.declared.Reply.{Reply}
 use Rattle.filecalls.specs.State.{closed, loggedIn}
 use Rattle.filecalls.specs.Outcome.{Act, deny, done, outcome}
 use Rattle.filecalls.specs.LogIn.{logInTests, refusedLogIn, logIn}
-use Rattle.several.specs.Several.{readOne, writeOne}
-use Rattle.several.proofs.SeveralLaws.{done-most}
+use Rattle.filecalls.specs.Several.{readOne, writeOne}
+use Rattle.filecalls.proofs.SeveralLaws.{done-most}
 use Rattle.call_served.specs.declared.Call.{Call}
 use Rattle.call_served.specs.declared.Call.the-variants.{LogIn, Open, Close, SearchFirst, SearchNext, Delete, Make, Rename, Protect, Attributes, User, Size, SetRandom, Moves, Unserved}
 use Rattle.call_served.specs.declared.Transfer.the-variants.{ReadSequential, WriteSequential, ReadRandom, WriteRandom, WriteZeroFill, ReadSeveral, WriteSeveral}
@@ -59,9 +59,9 @@ module _ (g : Geometry) (v : List ℕ) where
   within e = go (isNone (firstMet (logInTests g v)))
     where
       go : (t : Bool)
-          → valueOf (cond {A = Reply} t (record { answer = answer.Ready (freeCount (heldOf g v) (g .directory) (g .total)); drive = loggedIn g (heldOf g v) })
+          → valueOf (cond {A = Reply} t (record { answer = answer.Ready (freeCount (heldOf g v) (g .«directory_blocks») (g .blocks)); drive = loggedIn g (heldOf g v) })
           (record { answer = refusedLogIn (firstMet (logInTests g v)) (lowestBad g v); drive = closed }) .answer) < 65536
-      go true = omega (arith, free-le (heldOf g v) (g .directory) (g .total), bounds g e .total-high)
+      go true = omega (arith, free-le (heldOf g v) (g .«directory_blocks») (g .blocks), bounds g e .blocks-high)
       go false = refused-value (firstMet (logInTests g v)) (lowestBad g v) (omega (arith, bad-le g v, bounds g e .slots-high))
 
   pub log-in-value : valueOf (logIn g v .answer) < 65536
@@ -103,4 +103,4 @@ call-value g Unserved p d v f b = act-value d v f b _
 
 pub step-value : (g : Geometry) (c : Asked) (d : Drive) (v : List ℕ) → valueOf (step g c d v .answer) < 65536
 unfolding step
-step-value g c d v = call-value g (callOf (c .function)) (c .parameter) d v (c .block) (c .buffer)
+step-value g c d v = call-value g (callOf (c .function)) (c .parameter) d v (c .fcb) (c .buffer)

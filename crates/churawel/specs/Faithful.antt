@@ -43,15 +43,15 @@ LogInFaithful = (g : Geometry) (v s : List ℕ) → length s ≡ 64 → decoded 
 
 abbrev pub CallFaithful : Type 0
 CallFaithful =
-    (n p : ℕ) (s v f b : List ℕ) → p < 256 → Bytes s → isOpen (decoded s) ≡ true
-    → decoded (atSeam n p s v f b .drive) ≡ step (decoded s .geometry) (asked n p f b) (decoded s) v .drive
+    (n p : ℕ) (s v fcb b : List ℕ) → p < 256 → Bytes s → isOpen (decoded s) ≡ true
+    → decoded (atSeam n p s v fcb b .drive) ≡ step (decoded s .geometry) (asked n p fcb b) (decoded s) v .drive
 
 -- "A refusal .. alters no lent byte", at the seam: the drive's bytes too
 abbrev pub RefusedLeavesAll : Type 0
 RefusedLeavesAll =
-    (n p : ℕ) (s v f b : List ℕ) → Bytes s → isOpen (decoded s) ≡ true → (callOf n ≡ LogIn → ⊥)
-    → succeeded (step (decoded s .geometry) (asked n p f b) (decoded s) v .answer) ≡ false
-    → atSeam n p s v f b ≡ sealed (answered (step (decoded s .geometry) (asked n p f b) (decoded s) v .answer)) s v f b
+    (n p : ℕ) (s v fcb b : List ℕ) → Bytes s → isOpen (decoded s) ≡ true → (callOf n ≡ LogIn → ⊥)
+    → succeeded (step (decoded s .geometry) (asked n p fcb b) (decoded s) v .answer) ≡ false
+    → atSeam n p s v fcb b ≡ sealed (answered (step (decoded s .geometry) (asked n p fcb b) (decoded s) v .answer)) s v fcb b
 
 -- a refused log-in leaves "64 zero bytes", and so does function 13 or 37 that is refused
 abbrev pub RefusedLogInCloses : Type 0
@@ -60,5 +60,5 @@ RefusedLogInCloses =
 
 abbrev pub RefusedResetCloses : Type 0
 RefusedResetCloses =
-    (n p : ℕ) (s v f b : List ℕ) → isOpen (decoded s) ≡ true → callOf n ≡ LogIn
-    → succeeded (step (decoded s .geometry) (asked n p f b) (decoded s) v .answer) ≡ false → atSeam n p s v f b .drive ≡ replicate 64 0
+    (n p : ℕ) (s v fcb b : List ℕ) → isOpen (decoded s) ≡ true → callOf n ≡ LogIn
+    → succeeded (step (decoded s .geometry) (asked n p fcb b) (decoded s) v .answer) ≡ false → atSeam n p s v fcb b .drive ≡ replicate 64 0

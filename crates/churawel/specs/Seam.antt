@@ -25,30 +25,27 @@ pub record Sealed : Type 0 where
   pub answer : ℕ
   pub drive : List ℕ
   pub volume : List ℕ
-  pub block : List ℕ
+  pub fcb : List ℕ
   pub buffer : List ℕ
 
 abbrev pub sealed : ℕ → List ℕ → List ℕ → List ℕ → List ℕ → Sealed
-sealed r s v f b = record { answer = r; drive = s; volume = v; block = f; buffer = b }
+sealed r s v fcb b = record { answer = r; drive = s; volume = v; fcb = fcb; buffer = b }
 
 -- all that a call at the door leaves, the state as bytes
 abbrev pub through : Outcome → Sealed
-through o = sealed (answered (o .answer)) (encoded (o .drive)) (o .volume) (o .block) (o .buffer)
+through o = sealed (answered (o .answer)) (encoded (o .drive)) (o .volume) (o .fcb) (o .buffer)
 
 -- "Any other length or byte pattern counts as closed: 32, nothing changed"
 abbrev pub refusedClosed : List ℕ → List ℕ → List ℕ → List ℕ → Sealed
-refusedClosed s v f b = sealed (answered (Refused Closed)) s v f b
+refusedClosed s v fcb b = sealed (answered (Refused Closed)) s v fcb b
 
 -- a call: by function's number, parameter, and the bytes of drive, volume, control block and buffer. The geometry is the
 -- drive's own, so that 13 and 37 log in anew with it.
 unfoldable pub atSeam : ℕ → ℕ → List ℕ → List ℕ → List ℕ → List ℕ → Sealed
-atSeam n p s v f b =
-    cond (isOpen (decoded s)) (through (step (decoded s .geometry) (asked n p f b) (decoded s) v)) (refusedClosed s v f b)
+atSeam n p s v fcb b =
+    cond (isOpen (decoded s)) (through (step (decoded s .geometry) (asked n p fcb b) (decoded s) v)) (refusedClosed s v fcb b)
 
 -- log-in: by geometry, and the bytes of volume and drive; it is lent neither control block nor buffer
-abbrev pub geometryOf : ℕ → ℕ → ℕ → Geometry
-geometryOf b t d = record { block = b; total = t; directory = d }
-
 unfoldable pub logInAtSeam : Geometry → List ℕ → List ℕ → Sealed
 logInAtSeam g v s =
     cond (eqb (length s) 64) (sealed (answered (logIn g v .answer)) (encoded (logIn g v .drive)) v [] []) (refusedClosed s v [] [])

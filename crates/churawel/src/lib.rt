@@ -3,7 +3,8 @@ ghost use mathlib.Core.Path.{_≡_};
 ghost use mathlib.Core.List.{[]};
 ghost use Prim.Native.Nat.{_<_};
 ghost use Rattle.call_answers.specs.Answer.{valueOf};
-ghost use Rattle.churawel.specs.Seam.{answered, sealed, geometryOf, atSeam, logInAtSeam};
+ghost use Rattle.disk_geometry.specs.Geometry.{geometryOf};
+ghost use Rattle.churawel.specs.Seam.{answered, sealed, atSeam, logInAtSeam};
 use call_answers::Answer;
 use call_answers::Refusal;
 use disk_geometry::Geometry;
@@ -49,9 +50,9 @@ pub extern "C" fn churawel_log_in(
         return seal(Answer::Refused(Refusal::Closed));
     }
     let g = Geometry {
-        block: size(block_bytes),
-        total: size(blocks),
-        directory: size(directory_blocks),
+        block_bytes: size(block_bytes),
+        blocks: size(blocks),
+        directory_blocks: size(directory_blocks),
     };
     let reply = Drive::log_in(g, volume);
     let next = reply.drive;

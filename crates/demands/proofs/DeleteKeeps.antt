@@ -10,9 +10,9 @@ use lib.ListN.{length, set, length-set}
 use lib.Seq.{getD-set-same}
 use borrow.Author.Tests.{not-true, not-false, eqb-true, eq-eqb}
 use Rattle.lists.specs.Bytes.{byte}
-use Rattle.lists.specs.Search.{anyFrom}
+use Rattle.lists.specs.Bounded.{anyFrom}
 use Rattle.lists.proofs.BoolLaws.{and-parts}
-use Rattle.lists.proofs.SearchLaws.{any-true, any-intro, any-false, any-none}
+use Rattle.lists.proofs.BoundedLaws.{any-true, any-intro, any-false, any-none}
 use Rattle.disk_geometry.specs.declared.Geometry.{Geometry}
 use Rattle.disk_geometry.specs.Geometry.{lawful, bytes, slots, places}
 use Rattle.disk_volume.specs.Name.{nameOf, like}
@@ -117,10 +117,10 @@ module _ (g : Geometry) (law : lawful g ≡ true) (v : List ℕ) (size : length 
   pub delete-held : Held g h′ (slotAt g v′)
   delete-held = record { four = freed-four g law v u pattern h (held .four); sound = sound-after; whole = whole-after }
     where
-      is : (b : ℕ) → g .directory ≤ b → b < g .total → holds h′ b ≡ (holds h b && not (anyFrom (frees g law v u pattern b) 0 (slots g)))
+      is : (b : ℕ) → g .«directory_blocks» ≤ b → b < g .blocks → holds h′ b ≡ (holds h b && not (anyFrom (frees g law v u pattern b) 0 (slots g)))
       is b low high = freed g law v u pattern b (is-inside g b low high) h (held .four)
 
-      sound-after : (b : ℕ) → g .directory ≤ b → b < g .total → holds h′ b ≡ true → HeldBy g (slotAt g v′) b
+      sound-after : (b : ℕ) → g .«directory_blocks» ≤ b → b < g .blocks → holds h′ b ≡ true → HeldBy g (slotAt g v′) b
       sound-after b low high t =
           let x = and-parts (holds h b) (not (anyFrom (frees g law v u pattern b) 0 (slots g))) (sym (is b low high) ∙ t) in
           let w = held .sound b low high (x .0) in
@@ -133,7 +133,7 @@ module _ (g : Geometry) (law : lawful g ≡ true) (v : List ℕ) (size : length 
           go w none true q =
               absurd (true≢false (sym (frees-intro g law v u pattern b (w .slot) (w .place) (w .place<) q (w .is)) ∙ any-false (frees g law v u pattern b) 0 (slots g) none (w .slot) (omega arith) (omega (arith, w .slot<))))
 
-      whole-after : (b : ℕ) → g .directory ≤ b → b < g .total → HeldBy g (slotAt g v′) b → holds h′ b ≡ true
+      whole-after : (b : ℕ) → g .«directory_blocks» ≤ b → b < g .blocks → HeldBy g (slotAt g v′) b → holds h′ b ≡ true
       whole-after b low high w =
           let m : matches u pattern (slotAt g v (w .slot)) ≡ false = missed (w .slot) (w .slot<) (w .live) in
           let k : slotAt g v′ (w .slot) ≡ slotAt g v (w .slot) = after-miss (w .slot) (w .slot<) m in

@@ -75,4 +75,4 @@ pub same-record : (g : Geometry) → lawful g ≡ true → (m n : ℕ) → group
 unfolding groupOf placeOf
 same-record g good m n x y z =
     let sizes = bounds g good .block-sizes in
-    sym (whole (g .block) sizes m) ∙ rw (x, y, z) (whole (g .block) sizes n)
+    sym (whole (g .«block_bytes») sizes m) ∙ rw (x, y, z) (whole (g .«block_bytes») sizes n)

@@ -13,7 +13,7 @@ use Rattle.disk_volume.specs.Directory.{findSlot}
 use Rattle.disk_volume.specs.Record.{recordSlot, present}
 use Rattle.disk_volume.proofs.FindLaws.{group-file}
 use Rattle.disk_geometry.proofs.GeometryLaws.{place-lt}
-use Rattle.call_fcb.specs.Block.{position, random}
+use Rattle.call_fcb.specs.Fcb.{position, random}
 use Rattle.call_answers.specs.declared.Refusal.{Refusal}
 use Rattle.call_answers.specs.declared.Refusal.the-variants.{Closed, NoFile, NoGroup, Absent}
 use Rattle.call_answers.specs.Refusal.{Test, isNone, firstMet}
@@ -22,7 +22,7 @@ use Rattle.call_read.specs.Read.{readBlock, readTests, readBytes}
 use Rattle.disk_geometry.proofs.InsideLaws.{is-inside}
 use Rattle.filecalls.specs.declared.Drive.{Drive}
 use Rattle.filecalls.specs.Outcome.{unless, Outcome, outcome}
-use Rattle.filecalls.specs.Ready.{Open}
+use Rattle.filecalls.specs.CodeReady.{Open}
 use Rattle.filecalls.specs.State.{isOpen}
 use Rattle.filecalls.specs.Read.{sequentialTests, randomTests, readDone, readSequentialAct, readRandomAct}
 use Rattle.filecalls.proofs.OutcomeLaws as laws

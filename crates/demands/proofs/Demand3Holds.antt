@@ -30,20 +30,20 @@ use Rattle.demands.proofs.Agree.{does-alike}
 use Rattle.demands.proofs.CallsKeep.{log-in-is, logged-in, does-keeps}
 
 -- ---- one call
-pub step-keeps : (g : Geometry) (c : Asked) (d : Drive) (v : List ℕ) → d .geometry ≡ g → Consistent d v → Bytes (c .block)
+pub step-keeps : (g : Geometry) (c : Asked) (d : Drive) (v : List ℕ) → d .geometry ≡ g → Consistent d v → Bytes (c .fcb)
     → StepKeeps (λ u name. touches c d u name) d v (step g c d v)
 unfolding step touches
-step-keeps g c d v same k small = does-keeps g (c .parameter) d v (c .block) (c .buffer) same k small (callOf (c .function))
+step-keeps g c d v same k small = does-keeps g (c .parameter) d v (c .fcb) (c .buffer) same k small (callOf (c .function))
 
 plain-alike : (g : Geometry) (c : Asked) (d : Drive) (k v : List ℕ) → Consistent d v → Alike (step g c d v) (plainStep g c (withHeld d k) v)
 unfolding step plainStep
 plain-alike g c d k v s =
-    does-alike d (heldOf (d .geometry) v) v (c .block) (c .buffer) s
+    does-alike d (heldOf (d .geometry) v) v (c .fcb) (c .buffer) s
     (record { law = s .law; size = s .size; sound = s .sound; held = held-of (d .geometry) v (s .law) })
     g (callOf (c .function)) (c .parameter)
 
 seen-alike : {o p : Outcome} → Alike o p → seen o ≡ seen p
-seen-alike a = λ i. record { answer = a .answer i; block = a .block i; buffer = a .buffer i }
+seen-alike a = λ i. record { answer = a .answer i; fcb = a .fcb i; buffer = a .buffer i }
 
 -- ---- a run from a consistent state; the plain way's state differs at most in what it holds
 runs : (g : Geometry) (cs : List Asked) (d : Drive) (k v : List ℕ) → d .geometry ≡ g → Consistent d v → BytesLent cs → Kept g v cs d (withHeld d k)
@@ -81,10 +81,10 @@ module _ (g : Geometry) (law : lawful g ≡ true) (v : List ℕ) (size : length 
   -- what it leaves, by either way and from any state
   abbrev pub ready : Outcome
   ready = record {
-    answer = Ready (freeCount (heldOf g v) (g .directory) (g .total));
+    answer = Ready (freeCount (heldOf g v) (g .«directory_blocks») (g .blocks));
     drive = loggedIn g (heldOf g v);
     volume = v;
-    block = login .block;
+    fcb = login .fcb;
     buffer = login .buffer;
   }
 

@@ -8,7 +8,7 @@ use native.Mathlib.Omega.{arith}
 use lib.Dec.{ltb, eqb}
 use borrow.Author.Tests.{ltb-true, not-true, eqb-false}
 use Rattle.lists.proofs.BoolLaws.{and-left, and-right, and-parts}
-use Rattle.lists.proofs.SearchLaws.{low-ext}
+use Rattle.lists.proofs.BoundedLaws.{low-ext}
 use Rattle.disk_geometry.specs.declared.Geometry.{Geometry}
 use Rattle.disk_volume.specs.declared.Wanted.the-variants.{Group}
 use Rattle.disk_geometry.specs.Geometry.{lawful, slots, groupOf, placeOf, places}

@@ -8,7 +8,7 @@ use native.Mathlib.Omega.{arith}
 use lib.Dec.{eqb}
 use lib.ListN.{length}
 use borrow.Author.Tests.{eqb-true, eqb-false}
-use Rattle.lists.specs.Search.{anyFrom, fold}
+use Rattle.lists.specs.Bounded.{anyFrom, fold}
 use Rattle.disk_geometry.specs.declared.Geometry.{Geometry}
 use Rattle.disk_geometry.specs.Geometry.{lawful, slots, inside, places}
 use Rattle.disk_volume.specs.Entry.{Entry, blockIn, matches}
@@ -66,10 +66,10 @@ module _ (g : Geometry) (law : lawful g ≡ true) where
         go : (t : Bool) → inside g (blockIn g e p) ≡ t → (s : Bool) → eqb (blockIn g e p) b ≡ s
             → holds (cond t (release h (blockIn g e p)) h) b ≡ (holds h b && not s)
         go true q true z =
-            let low : b < 256 = omega (arith, bounds g law .total-high, inside-is g b in-g) in
+            let low : b < 256 = omega (arith, bounds g law .blocks-high, inside-is g b in-g) in
             rw (eqb-true (blockIn g e p) b z) (holds-release-same h l b low ∙ and-no (holds h b))
         go true q false z =
-            let low : blockIn g e p < 256 = omega (arith, bounds g law .total-high, inside-is g (blockIn g e p) q) in
+            let low : blockIn g e p < 256 = omega (arith, bounds g law .blocks-high, inside-is g (blockIn g e p) q) in
             holds-release-other h l (blockIn g e p) low b (λ y. eqb-false (blockIn g e p) b z (sym y)) ∙ and-yes (holds h b)
         go false q true z = absurd (true≢false (sym in-g ∙ ap (inside g) (sym (eqb-true (blockIn g e p) b z)) ∙ q))
         go false q false z = and-yes (holds h b)

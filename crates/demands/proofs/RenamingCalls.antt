@@ -20,7 +20,7 @@ use Rattle.disk_volume.proofs.NameLaws.{same-refl, byte-strip}
 use Rattle.disk_volume.proofs.FindLaws.{found-fits, not-found, find-low}
 use Rattle.disk_volume.proofs.DirectoryLaws.{slot-length}
 use Rattle.call_sweep.proofs.SweepLaws.{mapSlots-length, mapSlots-slot}
-use Rattle.call_answers.specs.declared.Refusal.the-variants.{Closed, VolumeLength, BlockLength, DriveCode, Name, Untypeable, Protected, NoMatch, ReadOnly, Exists}
+use Rattle.call_answers.specs.declared.Refusal.the-variants.{Closed, VolumeLength, FcbLength, DriveCode, Name, Untypeable, Protected, NoMatch, ReadOnly, Exists}
 use Rattle.call_answers.specs.declared.Answer.the-variants.{Done}
 use Rattle.call_sweep.specs.declared.Edit.the-variants.{Rename}
 use Rattle.call_sweep.specs.Sweep.{renamed, changed}
@@ -82,7 +82,7 @@ module _ {d : Drive} {v f old new : List ℕ} (r : Granted d v f old new) where
       rw (r .asks .old-name, r .asks .new-name)
       (goes-by Closed _ _ _ (ap not (r .state-open))
       ∙ goes-by VolumeLength _ _ _ (ap not (eq-eqb (length v) (bytes (d .geometry)) (r .volume-length)))
-      ∙ goes-by BlockLength _ _ _ (ap not (eq-eqb (length f) 36 (r .asks .length-36)))
+      ∙ goes-by FcbLength _ _ _ (ap not (eq-eqb (length f) 36 (r .asks .length-36)))
       ∙ goes-by DriveCode _ _ _ (le-ltb 1 (byte f 0) (r .asks .drive-code))
       ∙ goes-by Name _ _ _ (ap not (r .old-permitted))
       ∙ goes-by Name _ _ _ (ap not (r .new-permitted))
@@ -94,7 +94,7 @@ module _ {d : Drive} {v f old new : List ℕ} (r : Granted d v f old new) where
       ∙ all-passed _)
 
   -- all that it leaves
-  pub leaves : rename d v f ≡ record { answer = Done 0; drive = d; volume = after d v f old; block = f; buffer = [] }
+  pub leaves : rename d v f ≡ record { answer = Done 0; drive = d; volume = after d v f old; fcb = f; buffer = [] }
   unfolding outcome changedState stored storedAll
   leaves = rw goes
 

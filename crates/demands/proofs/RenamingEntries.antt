@@ -16,7 +16,7 @@ use Rattle.disk_volume.specs.Entry.{Entry}
 use Rattle.disk_volume.proofs.NameLaws.{length-strip, byte-strip}
 use Rattle.disk_rules.specs.GoodSlot.{goodTopBits}
 use Rattle.disk_rules.proofs.GoodLaws.{top-bits-good}
-use Rattle.call_sweep.specs.Sweep.{marked, renamed}
+use Rattle.call_sweep.specs.Sweep.{withTopBit, renamed}
 use Rattle.call_sweep.proofs.EditLaws.{named-and-marked}
 use Rattle.demands.proofs.NamedEntry.{Renames, marks-nine, marks-ten, marks-other, laid-length, laid-byte, rename-renames}
 
@@ -50,8 +50,8 @@ renamed-under e new e32 n11 =
     let s11 : length (strip new) ≡ 11 = length-strip new ∙ n11 in
     let m = put e 1 11 (strip new) in
     let m32 = laid-length e e32 (strip new) s11 in
-    let x = marked (byte new 8) (byte e 9) in
-    let y = marked (byte new 9) (byte e 10) in
+    let x = withTopBit (byte new 8) (byte e 9) in
+    let y = withTopBit (byte new 9) (byte e 10) in
     let q : set (set m 9 x) 10 y ≡ renamed e new = named-and-marked e new x y e32 n11 in
     record {
       length-32 = r .length-32;

@@ -19,7 +19,7 @@ use Rattle.demands.proofs.RenamingCalls.{none-of, Granted, edit, after,
 
 module _ {d : Drive} {v f h first second last : List ℕ} (r : Granted d v f first second) (s : Granted d (after d v f first) h second last) where
   -- all that they leave
-  pub both : thenRename (rename d v f) h ≡ record { answer = Done 0; drive = d; volume = after d (after d v f first) h second; block = h; buffer = [] }
+  pub both : thenRename (rename d v f) h ≡ record { answer = Done 0; drive = d; volume = after d (after d v f first) h second; fcb = h; buffer = [] }
   both = rw (leaves r) (leaves s)
 
   -- both sweeps are one

@@ -12,9 +12,9 @@ use Rattle.call_answers.specs.Answer.{succeeded}
 use Rattle.filecalls.specs.declared.Drive.{Drive}
 use Rattle.filecalls.specs.Outcome.{Outcome}
 use Rattle.filecalls.specs.Write.{writeSequentialAct}
-use Rattle.several.specs.Several.{Single, writeOne, onPiece, several}
-use Rattle.several.proofs.SinglesLaws.{Holds, Refuses}
-use Rattle.several.proofs.SeveralLaws as laws
+use Rattle.filecalls.specs.Several.{Single, writeOne, onPiece, several}
+use Rattle.filecalls.proofs.SinglesLaws.{Holds, Refuses}
+use Rattle.filecalls.proofs.SeveralLaws as laws
 use Rattle.bdos.specs.Step.{carries, does}
 use Rattle.demands.proofs.Acts.{Consistent, Leaves, leaves-all, StepKeeps, outcome-keeps}
 use Rattle.demands.proofs.WritesKeep.{write-sequential-keeps}
@@ -34,7 +34,7 @@ and-false false b e = refl
 module _ (single : Single) (names : ℕ → List ℕ → ℕ → List ℕ → Bool) (refuses : Refuses single)
     (one : (d : Drive) (v f b : List ℕ) → Consistent d v → StepKeeps (λ u name. names (d .user) f u name) d v (single d v f b))
     (same-file : (d : Drive) (v f b : List ℕ) (u : ℕ) (name : List ℕ)
-    → names (single d v f b .drive .user) (single d v f b .block) u name ≡ names (d .user) f u name) where
+    → names (single d v f b .drive .user) (single d v f b .fcb) u name ≡ names (d .user) f u name) where
   -- what holds from the first single call, of d₀, v₀ and f₀, to any later one
   record Along (d₀ : Drive) (v₀ f₀ : List ℕ) (d : Drive) (v f b : List ℕ) : Type 0 where
     consistent : Consistent d v
@@ -77,7 +77,7 @@ module _ (single : Single) (names : ℕ → List ℕ → ℕ → List ℕ → Bo
 module _ (d : Drive) (v f b : List ℕ) where
   record SameFile : Type 0 where
     user-is : writeOne d v f b .drive .user ≡ d .user
-    name-is : nameOf (writeOne d v f b .block) ≡ nameOf f
+    name-is : nameOf (writeOne d v f b .fcb) ≡ nameOf f
 
   done-same : succeeded (writeOne d v f b .answer) ≡ true → SameFile
   unfolding does carries
@@ -86,7 +86,7 @@ module _ (d : Drive) (v f b : List ℕ) where
   refused-same : succeeded (writeOne d v f b .answer) ≡ false → SameFile
   refused-same e =
       let z = laws.write-refuses d v f b e in
-      record { user-is = ap (λ (o : Outcome). o .drive .user) z; name-is = ap (λ (o : Outcome). nameOf (o .block)) z }
+      record { user-is = ap (λ (o : Outcome). o .drive .user) z; name-is = ap (λ (o : Outcome). nameOf (o .fcb)) z }
 
   same-file : SameFile
   same-file = go (succeeded (writeOne d v f b .answer)) refl

@@ -12,7 +12,7 @@ use Rattle.lists.specs.Bytes.{part}
 use Rattle.lists.proofs.PartLaws.{length-part}
 use Rattle.disk_geometry.specs.Geometry.{bytes}
 use Rattle.disk_volume.specs.Name.{nameOf}
-use Rattle.call_fcb.specs.Block.{position}
+use Rattle.call_fcb.specs.Fcb.{position}
 use Rattle.call_answers.specs.declared.Refusal.the-variants.{Absent}
 use Rattle.call_answers.specs.declared.Answer.{Answer}
 use Rattle.call_answers.specs.declared.Answer.the-variants.{Refused, Several}
@@ -22,25 +22,25 @@ use Rattle.call_answers.proofs.Ladder.{ladder-stop, ladder-pass}
 use Rattle.call_read.specs.Read.{readTests}
 use Rattle.call_decide.specs.Write.{writeTests}
 use Rattle.filecalls.specs.declared.Drive.{Drive}
-use Rattle.filecalls.specs.Tests.{closedState, volumeLength, blockLength, bufferLength}
+use Rattle.filecalls.specs.Tests.{closedState, volumeLength, fcbLength, bufferLength}
 use Rattle.filecalls.specs.Outcome.{Outcome, unless, outcome}
 use Rattle.filecalls.specs.Read.{sequentialTests, readDone, readSequentialAct}
 use Rattle.filecalls.specs.Write.{directoryTests, writeDone, writeSequentialAct}
-use Rattle.several.specs.Several.{Single, readOne, writeOne, onPiece, several}
-use Rattle.lent.specs.Lent.{severalTests}
-use Rattle.several.proofs.SinglesLaws.{piece-answer, first-refused, first-done, stop-number}
-use Rattle.several.proofs.SeveralLaws.{several-refused, several-passed}
-use Rattle.lent.proofs.LentLaws.{Lent, lent}
+use Rattle.filecalls.specs.Several.{Single, readOne, writeOne, onPiece, several}
+use Rattle.filecalls.specs.Several.{severalTests}
+use Rattle.filecalls.proofs.SinglesLaws.{piece-answer, first-refused, first-done, stop-number}
+use Rattle.filecalls.proofs.SeveralLaws.{several-refused, several-passed}
+use Rattle.filecalls.proofs.SeveralLent.{LentPieces, lent-pieces}
 use Rattle.call_served.specs.declared.Call.the-variants.{Moves}
 use Rattle.call_served.specs.declared.Transfer.the-variants.{ReadSequential, WriteSequential, ReadSeveral, WriteSeveral}
 use Rattle.demands.specs.Order.{numbersOf, reasons, blockTests, refusalsOf, among, answersOf}
 use Rattle.demands.proofs.Says.{Says, number-among}
 
 -- ---- what is lent is right, so the single call's tests of it pass
-module _ (d : Drive) (v f b : List ℕ) (k : ℕ) (l : Lent d v f b k) where
-  lent-passes : (r : List ℕ) → length r ≡ 128 → isNone (firstMet (closedState d ∷ volumeLength d v ∷ blockLength f ∷ bufferLength r ∷ [])) ≡ true
+module _ (d : Drive) (v f b : List ℕ) (k : ℕ) (l : LentPieces d v f b k) where
+  lent-passes : (r : List ℕ) → length r ≡ 128 → isNone (firstMet (closedState d ∷ volumeLength d v ∷ fcbLength f ∷ bufferLength r ∷ [])) ≡ true
   unfolding firstMet
-  lent-passes r r128 = rw (l .opens, eq-eqb (length v) (bytes (d .geometry)) (l .volume), eq-eqb (length f) 36 (l .block), eq-eqb (length r) 128 r128)
+  lent-passes r r128 = rw (l .opens, eq-eqb (length v) (bytes (d .geometry)) (l .volume), eq-eqb (length f) 36 (l .fcb), eq-eqb (length r) 128 r128)
 
   first-piece : length (part b (128 * 0) 128) ≡ 128
   first-piece = length-part b (128 * 0) 128 (omega (arith, l .buffer, l .least))
@@ -48,7 +48,7 @@ module _ (d : Drive) (v f b : List ℕ) (k : ℕ) (l : Lent d v f b k) where
   tests-left : (ts : List Test) → firstMet (sequentialTests d v f (part b (128 * 0) 128) ++ ts) ≡ firstMet (blockTests f ++ ts)
   unfolding sequentialTests
   tests-left ts =
-      ladder-pass (closedState d ∷ volumeLength d v ∷ blockLength f ∷ bufferLength (part b (128 * 0) 128) ∷ []) (blockTests f ++ ts)
+      ladder-pass (closedState d ∷ volumeLength d v ∷ fcbLength f ∷ bufferLength (part b (128 * 0) 128) ∷ []) (blockTests f ++ ts)
       (lent-passes (part b (128 * 0) 128) first-piece)
 
 -- ---- a single call by its tests
@@ -82,7 +82,7 @@ module _ (single : Single) (tests : Drive → List ℕ → List ℕ → List Tes
 
     -- where the tests of what is lent pass, those of the first record are the single call's
     first-tests : isNone (firstMet (severalTests d v f b k)) ≡ true → firstMet all ≡ firstMet ofFirst
-    first-tests h = ladder-pass (severalTests d v f b k) (blockTests f ++ tests d v f) h ∙ sym (tests-left d v f b k (lent d v f b k h) (tests d v f))
+    first-tests h = ladder-pass (severalTests d v f b k) (blockTests f ++ tests d v f) h ∙ sym (tests-left d v f b k (lent-pieces d v f b k h) (tests d v f))
 
     none-done : isNone (firstMet all) ≡ false → several single d v f b k .answer ≡ Several 0 (firstMet all)
     none-done e = go (isNone (firstMet (severalTests d v f b k))) refl
@@ -95,7 +95,7 @@ module _ (single : Single) (tests : Drive → List ℕ → List ℕ → List Tes
             let a : onPiece single 0 d v f b .answer ≡ Refused (firstMet ofFirst)
             = piece-answer single 0 d v f b ∙ one .refused d v f (part b (128 * 0) 128) (sym (ap isNone (first-tests h)) ∙ e) in
             ap (λ (o : Outcome). o .answer) (several-passed single d v f b k h)
-            ∙ first-refused single k d v f b (lent d v f b k h .least) (ap succeeded a)
+            ∙ first-refused single k d v f b (lent-pieces d v f b k h .least) (ap succeeded a)
             ∙ ap (λ (x : Answer). Several 0 (whyOf x)) a ∙ ap (Several 0) (sym (first-tests h))
 
     passed : isNone (firstMet all) ≡ true → isNone (firstMet (severalTests d v f b k)) ≡ true
@@ -110,7 +110,7 @@ module _ (single : Single) (tests : Drive → List ℕ → List ℕ → List Tes
         let h = passed e in
         let a = one .done d v f (part b (128 * 0) 128) (sym (ap isNone (first-tests h)) ∙ e) in
         ap (λ (o : Outcome). succeeded (o .answer)) (several-passed single d v f b k h)
-        ∙ first-done single k d v f b (lent d v f b k h .least) (ap succeeded (piece-answer single 0 d v f b) ∙ a)
+        ∙ first-done single k d v f b (lent-pieces d v f b k h .least) (ap succeeded (piece-answer single 0 d v f b) ∙ a)
 
   -- ---- the number that stops it
   module _ (ok : ℕ → Bool) (none : ok 0 ≡ true)

@@ -8,14 +8,14 @@ use lib.Dec.{eqb}
 use lib.ListN.{length}
 use Rattle.disk_volume.specs.Name.{nameOf, same}
 use Rattle.disk_held.specs.Held.{hold}
-use Rattle.call_fcb.specs.Block.{position, random}
+use Rattle.call_fcb.specs.Fcb.{position, random}
 use Rattle.call_answers.specs.declared.Refusal.the-variants.{Protected}
 use Rattle.call_answers.specs.Refusal.{isNone, firstMet}
 use Rattle.call_answers.proofs.Ladder.{unmet}
 use Rattle.call_decide.specs.Write.{needsBlock, writeBlock, writeTests}
-use Rattle.call_decide.specs.WritePlan.{volumeAfter}
+use Rattle.call_decide.specs.CodePlan.{volumeAfter}
 use Rattle.filecalls.specs.declared.Drive.{Drive}
-use Rattle.filecalls.specs.Ready.{Open}
+use Rattle.filecalls.specs.CodeReady.{Open}
 use Rattle.filecalls.specs.Outcome.{keeps, takes, stored, storedAll, changedState, withHeld}
 use Rattle.filecalls.specs.Read.{sequentialTests, randomTests}
 use Rattle.filecalls.specs.Write.{writeEntry, writeChange, writeDone, directoryTests, writeSequentialAct, writeDirectAct, writeRandomAct, writeZeroFillAct}

@@ -14,11 +14,11 @@ use Rattle.call_served.specs.Asked.{Asked}
 -- what a program sees of a call: the answer, the control block and the transfer buffer
 pub record Seen : Type 0 where
   pub answer : Answer
-  pub block : List ℕ
+  pub fcb : List ℕ
   pub buffer : List ℕ
 
 abbrev pub seen : Outcome → Seen
-seen o = record { answer = o .answer; block = o .block; buffer = o .buffer }
+seen o = record { answer = o .answer; fcb = o .fcb; buffer = o .buffer }
 
 -- a way to do calls: by the call, the state and the volume
 abbrev pub Way : Type 0

@@ -16,24 +16,24 @@ use Rattle.disk_geometry.specs.Geometry.{lawful, bytes, records, extents
 
 -- ---- the sizes
 pub record Bounds (g : Geometry) : Type 0 where
-  pub block-sizes : (g .block ≡ 1024) ⊎ ((g .block ≡ 2048) ⊎ (g .block ≡ 4096))
-  pub block-low : 1024 ≤ g .block
-  pub block-high : g .block ≤ 4096
-  pub total-low : 2 ≤ g .total
-  pub total-high : g .total ≤ 256
-  pub directory-low : 1 ≤ g .directory
-  pub directory-high : g .directory ≤ 16
-  pub directory-below : g .directory < g .total
-  pub block-records : records g * 128 ≡ g .block
+  pub block-sizes : (g .«block_bytes» ≡ 1024) ⊎ ((g .«block_bytes» ≡ 2048) ⊎ (g .«block_bytes» ≡ 4096))
+  pub block-low : 1024 ≤ g .«block_bytes»
+  pub block-high : g .«block_bytes» ≤ 4096
+  pub blocks-low : 2 ≤ g .blocks
+  pub blocks-high : g .blocks ≤ 256
+  pub directory-low : 1 ≤ g .«directory_blocks»
+  pub directory-high : g .«directory_blocks» ≤ 16
+  pub directory-below : g .«directory_blocks» < g .blocks
+  pub block-records : records g * 128 ≡ g .«block_bytes»
   pub block-extents : records g ≡ 8 * extents g
   pub some-records : 0 < records g
   pub some-extents : 0 < extents g
   pub entry-records : places g * records g ≡ 128 * extents g
-  pub whole : g .total * g .block ≤ 1048576
-  pub part : g .directory * g .block ≤ g .total * g .block
-  pub whole-records : g .total * g .block ≡ g .total * records g * 128
-  pub part-records : g .directory * records g ≤ g .total * records g
-  pub slots-bytes : slots g * 32 ≡ g .directory * g .block
+  pub whole : g .blocks * g .«block_bytes» ≤ 1048576
+  pub part : g .«directory_blocks» * g .«block_bytes» ≤ g .blocks * g .«block_bytes»
+  pub whole-records : g .blocks * g .«block_bytes» ≡ g .blocks * records g * 128
+  pub part-records : g .«directory_blocks» * records g ≤ g .blocks * records g
+  pub slots-bytes : slots g * 32 ≡ g .«directory_blocks» * g .«block_bytes»
   pub slots-high : slots g ≤ 2048
 
 -- each of the three block sizes is a number of extents
@@ -55,21 +55,21 @@ bounds g e =
     let p₃ = and-parts _ _ (p₂ .0) in
     let p₄ = and-parts _ _ (p₃ .0) in
     let p₅ = and-parts _ _ (p₄ .0) in
-    let three = one-of-three _ _ _ (eqb-true (g .block) 1024) (eqb-true (g .block) 2048) (eqb-true (g .block) 4096) (p₅ .0) in
-    let s = in-extents (g .block) three in
-    let r : g .block / 128 * 128 ≡ g .block = omega arith in
-    let lt : g .directory < g .total = ltb-true _ _ (p₁ .1) in
-    let th : g .total ≤ 256 = leb-true _ _ (p₄ .1) in
-    let dh : g .directory ≤ 16 = leb-true _ _ (p₂ .1) in
-    let t : g .total * g .block ≡ g .total * (g .block / 128 * 128) = ap (λ (x : ℕ). g .total * x) (sym r) in
-    let d : g .directory * g .block ≡ g .directory * (g .block / 128 * 128) = ap (λ (x : ℕ). g .directory * x) (sym r) in
-    let m : g .directory * g .block ≤ 16 * 4096 = mul-le-mul dh (s .1 .1) in
+    let three = one-of-three _ _ _ (eqb-true (g .«block_bytes») 1024) (eqb-true (g .«block_bytes») 2048) (eqb-true (g .«block_bytes») 4096) (p₅ .0) in
+    let s = in-extents (g .«block_bytes») three in
+    let r : g .«block_bytes» / 128 * 128 ≡ g .«block_bytes» = omega arith in
+    let lt : g .«directory_blocks» < g .blocks = ltb-true _ _ (p₁ .1) in
+    let th : g .blocks ≤ 256 = leb-true _ _ (p₄ .1) in
+    let dh : g .«directory_blocks» ≤ 16 = leb-true _ _ (p₂ .1) in
+    let t : g .blocks * g .«block_bytes» ≡ g .blocks * (g .«block_bytes» / 128 * 128) = ap (λ (x : ℕ). g .blocks * x) (sym r) in
+    let d : g .«directory_blocks» * g .«block_bytes» ≡ g .«directory_blocks» * (g .«block_bytes» / 128 * 128) = ap (λ (x : ℕ). g .«directory_blocks» * x) (sym r) in
+    let m : g .«directory_blocks» * g .«block_bytes» ≤ 16 * 4096 = mul-le-mul dh (s .1 .1) in
     record {
       block-sizes = three;
       block-low = s .1 .0;
       block-high = s .1 .1;
-      total-low = leb-true _ _ (p₅ .1);
-      total-high = th;
+      blocks-low = leb-true _ _ (p₅ .1);
+      blocks-high = th;
       directory-low = leb-true _ _ (p₃ .1);
       directory-high = dh;
       directory-below = lt;
@@ -81,7 +81,7 @@ bounds g e =
       whole = mul-le-mul th (s .1 .1);
       part = mul-le-mul (omega arith) (omega arith);
       whole-records = omega arith;
-      part-records = mul-le-mul-right (g .block / 128) (omega arith);
+      part-records = mul-le-mul-right (g .«block_bytes» / 128) (omega arith);
       slots-bytes = omega arith;
       slots-high = omega arith;
     }
@@ -95,21 +95,21 @@ less-or-more p q ne = go (ltb p q) refl
     go false e = inr (omega (arith, ltb-false p q e))
 
 module _ (g : Geometry) (good : lawful g ≡ true) where
-  pub start-in : (q : ℕ) → q < g .total * records g → start g q + 128 ≤ bytes g
+  pub start-in : (q : ℕ) → q < g .blocks * records g → start g q + 128 ≤ bytes g
   unfolding start
-  start-in q h = let a : suc q * 128 ≤ g .total * records g * 128 = mul-le-mul-right 128 h in omega (arith, bounds g good)
+  start-in q h = let a : suc q * 128 ≤ g .blocks * records g * 128 = mul-le-mul-right 128 h in omega (arith, bounds g good)
 
-  pub start-apart : (p q : ℕ) → p < g .total * records g → q < g .total * records g → p ≢ q
+  pub start-apart : (p q : ℕ) → p < g .blocks * records g → q < g .blocks * records g → p ≢ q
       → (start g p + 128 ≤ start g q) ⊎ (start g q + 128 ≤ start g p)
   unfolding start
   start-apart p q hp hq ne = ⊎-elim (λ (k : p < q). inl (omega arith)) (λ (k : q < p). inr (omega arith)) (less-or-more p q ne)
 
   -- ---- slots
   -- the record that holds slot i is one of the directory's
-  pub slot-record-below-directory : (i : ℕ) → i < slots g → i / 4 < g .directory * records g
+  pub slot-record-below-directory : (i : ℕ) → i < slots g → i / 4 < g .«directory_blocks» * records g
   slot-record-below-directory i h = omega arith
 
-  pub slot-record-below : (i : ℕ) → i < slots g → i / 4 < g .total * records g
+  pub slot-record-below : (i : ℕ) → i < slots g → i / 4 < g .blocks * records g
   slot-record-below i h = omega (arith, bounds g good)
 
   pub slot-in : (i : ℕ) → i < slots g → slotStart g i + 32 ≤ bytes g
@@ -132,31 +132,31 @@ module _ (g : Geometry) (good : lawful g ≡ true) where
 
   -- ---- records of blocks
   -- the logical record that record n in block b is
-  pub record-below : (b n : ℕ) → b < g .total → b * records g + n % records g < g .total * records g
+  pub record-below : (b n : ℕ) → b < g .blocks → b * records g + n % records g < g .blocks * records g
   record-below b n h = digits-lt h (mod-lt n (bounds g good .some-records))
 
-  pub record-in : (b n : ℕ) → b < g .total → recordStart g b n + 128 ≤ bytes g
+  pub record-in : (b n : ℕ) → b < g .blocks → recordStart g b n + 128 ≤ bytes g
   unfolding recordStart
   record-in b n h = start-in (b * records g + n % records g) (record-below b n h)
 
-  pub records-apart : (b c n m : ℕ) → b < g .total → c < g .total → b ≢ c → (recordStart g b n + 128 ≤ recordStart g c m) ⊎ (recordStart g c m + 128 ≤ recordStart g b n)
+  pub records-apart : (b c n m : ℕ) → b < g .blocks → c < g .blocks → b ≢ c → (recordStart g b n + 128 ≤ recordStart g c m) ⊎ (recordStart g c m + 128 ≤ recordStart g b n)
   unfolding recordStart
   records-apart b c n m hb hc ne =
       start-apart (b * records g + n % records g) (c * records g + m % records g) (record-below b n hb) (record-below c m hc)
       (λ e. ne (sym (digits-div b (mod-lt n (bounds g good .some-records))) ∙ ap (λ (x : ℕ). x / records g) e ∙ digits-div c (mod-lt m (bounds g good .some-records))))
 
-  pub records-apart-within : (b n m : ℕ) → b < g .total → n % records g ≢ m % records g
+  pub records-apart-within : (b n m : ℕ) → b < g .blocks → n % records g ≢ m % records g
       → (recordStart g b n + 128 ≤ recordStart g b m) ⊎ (recordStart g b m + 128 ≤ recordStart g b n)
   unfolding recordStart
   records-apart-within b n m h ne =
       start-apart (b * records g + n % records g) (b * records g + m % records g) (record-below b n h) (record-below b m h) (λ e. ne (omega arith))
 
   -- a slot and a record of a block from D to T-1
-  pub slot-record-apart : (i b n : ℕ) → i < slots g → g .directory ≤ b → b < g .total
+  pub slot-record-apart : (i b n : ℕ) → i < slots g → g .«directory_blocks» ≤ b → b < g .blocks
       → (slotStart g i + 32 ≤ recordStart g b n) ⊎ (recordStart g b n + 128 ≤ slotStart g i)
   unfolding slotStart recordStart
   slot-record-apart i b n hi low high =
-      let a : g .directory * records g ≤ b * records g = mul-le-mul-right (records g) low in
+      let a : g .«directory_blocks» * records g ≤ b * records g = mul-le-mul-right (records g) low in
       ⊎-elim
       (λ (k : start g (i / 4) + 128 ≤ start g (b * records g + n % records g)). inl (omega arith))
       (λ (k : start g (b * records g + n % records g) + 128 ≤ start g (i / 4)). inr (omega arith))

@@ -7,14 +7,14 @@ use borrow.Author.Tests.{lt-ltb, ltb-true, leb-true, le-leb}
 use Rattle.disk_geometry.specs.Geometry.{inside}
 use Rattle.disk_geometry.specs.declared.Geometry.{Geometry}
 
-pub inside-is : (g : Geometry) (b : ℕ) → inside g b ≡ true → (g .directory ≤ b) × (b < g .total)
+pub inside-is : (g : Geometry) (b : ℕ) → inside g b ≡ true → (g .«directory_blocks» ≤ b) × (b < g .blocks)
 unfolding inside
-inside-is g b e = go (leb (g .directory) b) refl e
+inside-is g b e = go (leb (g .«directory_blocks») b) refl e
   where
-    go : (t : Bool) → leb (g .directory) b ≡ t → t && ltb b (g .total) ≡ true → (g .directory ≤ b) × (b < g .total)
-    go true q f = (leb-true (g .directory) b q, ltb-true b (g .total) f)
+    go : (t : Bool) → leb (g .«directory_blocks») b ≡ t → t && ltb b (g .blocks) ≡ true → (g .«directory_blocks» ≤ b) × (b < g .blocks)
+    go true q f = (leb-true (g .«directory_blocks») b q, ltb-true b (g .blocks) f)
     go false q f = absurd (false≢true f)
 
-pub is-inside : (g : Geometry) (b : ℕ) → g .directory ≤ b → b < g .total → inside g b ≡ true
+pub is-inside : (g : Geometry) (b : ℕ) → g .«directory_blocks» ≤ b → b < g .blocks → inside g b ≡ true
 unfolding inside
-is-inside g b low high = rw (le-leb (g .directory) b low, lt-ltb b (g .total) high)
+is-inside g b low high = rw (le-leb (g .«directory_blocks») b low, lt-ltb b (g .blocks) high)

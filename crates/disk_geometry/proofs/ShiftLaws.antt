@@ -29,7 +29,7 @@ by-shift s r m power mask =
 
 -- ---- the block's shift
 -- What the rows say of R: it is 2 ^ BSH, and BLM is "Anzahl der Sätze/Block minus 1".
-table-fits : (g : Geometry) → (g .block ≡ 1024) ⊎ ((g .block ≡ 2048) ⊎ (g .block ≡ 4096)) → (records g ≡ 2 ^ bsh g) × (blm g ≡ records g - 1)
+table-fits : (g : Geometry) → (g .«block_bytes» ≡ 1024) ⊎ ((g .«block_bytes» ≡ 2048) ⊎ (g .«block_bytes» ≡ 4096)) → (records g ≡ 2 ^ bsh g) × (blm g ≡ records g - 1)
 unfolding bsh blm
 table-fits g (inl e) = rw e (refl, refl)
 table-fits g (inr (inl e)) = rw e (refl, refl)
@@ -43,7 +43,7 @@ block-shift g good =
 -- ---- the table, evaluated
 -- the row of a block size: BLS, BSH, BLM
 abbrev row : ℕ → List ℕ
-row b = let g : Geometry = record { block = b; total = 40; directory = 1 } in b ∷ bsh g ∷ blm g ∷ []
+row b = let g : Geometry = record { «block_bytes» = b; blocks = 40; «directory_blocks» = 1 } in b ∷ bsh g ∷ blm g ∷ []
 
 pub tabelle-13 : map row (1024 ∷ 2048 ∷ 4096 ∷ []) ≡ (1024 ∷ 3 ∷ 7 ∷ []) ∷ (2048 ∷ 4 ∷ 15 ∷ []) ∷ (4096 ∷ 5 ∷ 31 ∷ []) ∷ []
 unfolding bsh blm

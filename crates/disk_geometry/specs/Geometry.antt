@@ -1,30 +1,55 @@
 -- The geometry: "T blocks of B bytes in logical record order .. the first D blocks are directory".
--- `block` is B, `total` is T, `directory` is D.
 use mathlib.Core.Bool.{Bool, _&&_, _||_}
 use Prim.Native.Nat.{ℕ, _+_, _*_, _/_, _%_}
 use lib.Dec.{leb, ltb, eqb}
 use Rattle.disk_geometry.specs.declared.Geometry.{Geometry}
 
+-- bytes of a record and of an entry, records of an extent, slots of a directory record
+abbrev pub recordBytes : ℕ
+recordBytes = 128
+
+abbrev pub entryBytes : ℕ
+entryBytes = 32
+
+abbrev pub extentRecords : ℕ
+extentRecords = 128
+
+abbrev pub recordSlots : ℕ
+recordSlots = 4
+
+-- B, T and D
+abbrev pub blockBytes : Geometry → ℕ
+blockBytes g = g .«block_bytes»
+
+abbrev pub blocks : Geometry → ℕ
+blocks g = g .blocks
+
+abbrev pub directoryBlocks : Geometry → ℕ
+directoryBlocks g = g .«directory_blocks»
+
+abbrev pub geometryOf : ℕ → ℕ → ℕ → Geometry
+geometryOf b t d = record { «block_bytes» = b; blocks = t; «directory_blocks» = d }
+
 -- "B is 1,024, 2,048 or 4,096; T is 2 to 256; .. D from 1 to 16 and below T"
 unfoldable pub lawful : Geometry → Bool
 lawful g =
-    (eqb (g .block) 1024 || eqb (g .block) 2048 || eqb (g .block) 4096)
-    && leb 2 (g .total)
-    && leb (g .total) 256
-    && leb 1 (g .directory)
-    && leb (g .directory) 16
-    && ltb (g .directory) (g .total)
+    (eqb (blockBytes g) 1024 || eqb (blockBytes g) 2048 || eqb (blockBytes g) 4096)
+    && leb 2 (blocks g)
+    && leb (blocks g) 256
+    && leb 1 (directoryBlocks g)
+    && leb (directoryBlocks g) 16
+    && ltb (directoryBlocks g) (blocks g)
 
 -- "Its length is T times B."
 abbrev pub bytes : Geometry → ℕ
-bytes g = g .total * g .block
+bytes g = blocks g * blockBytes g
 
 -- "R = B/128 records a block, X = B/1,024 extents an entry"
 abbrev pub records : Geometry → ℕ
-records g = g .block / 128
+records g = blockBytes g / 128
 
 abbrev pub extents : Geometry → ℕ
-extents g = g .block / 1024
+extents g = blockBytes g / 1024
 
 -- where logical record q of the volume begins: nothing else knows how records lie
 unfoldable pub start : Geometry → ℕ → ℕ
@@ -32,7 +57,7 @@ start g q = q * 128
 
 -- "Slots are the directory's 32-byte pieces, numbered from 0": four in each of its records
 abbrev pub slots : Geometry → ℕ
-slots g = 4 * (g .directory * records g)
+slots g = 4 * (directoryBlocks g * records g)
 
 unfoldable pub slotStart : Geometry → ℕ → ℕ
 slotStart g i = start g (i / 4) + i % 4 * 32
@@ -54,4 +79,4 @@ placeOf g n = n % (128 * extents g) / records g
 
 -- "from D to T-1"
 unfoldable pub inside : Geometry → ℕ → Bool
-inside g b = leb (g .directory) b && ltb b (g .total)
+inside g b = leb (directoryBlocks g) b && ltb b (blocks g)

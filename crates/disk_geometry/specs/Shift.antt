@@ -6,11 +6,12 @@
 use mathlib.Core.Bool.{cond}
 use Prim.Native.Nat.{ℕ}
 use lib.Dec.{eqb}
+use Rattle.disk_geometry.specs.Geometry.{blockBytes}
 use Rattle.disk_geometry.specs.declared.Geometry.{Geometry}
 
 -- what a column of these rows has for the geometry's block size, 0 for another size
 abbrev column : ℕ → ℕ → ℕ → Geometry → ℕ
-column one two four g = cond (eqb (g .block) 1024) one (cond (eqb (g .block) 2048) two (cond (eqb (g .block) 4096) four 0))
+column one two four g = cond (eqb (blockBytes g) 1024) one (cond (eqb (blockBytes g) 2048) two (cond (eqb (blockBytes g) 4096) four 0))
 
 unfoldable pub bsh : Geometry → ℕ
 bsh = column 3 4 5

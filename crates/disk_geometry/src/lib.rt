@@ -2,34 +2,39 @@
 ghost use mathlib.Core.Path.{_≡_};
 ghost use mathlib.Core.Bool.{true};
 ghost use Prim.Native.Nat.{_+_, _*_, _/_, _%_, _≤_, _<_};
-ghost use Rattle.disk_geometry.specs.Geometry.{lawful, bytes, records, extents, start, slots, slotStart, recordStart, groupOf, places, placeOf, inside};
+ghost use Rattle.disk_geometry.specs.Geometry.{lawful, bytes, records, extents, start, slots, slotStart, recordStart, groupOf, places, placeOf, inside, blocks};
 ghost use Rattle.disk_geometry.specs.Shift.{bsh, blm};
 
 // How the volume is cut up: B, T and D of the paper.
 pub struct Geometry {
-    pub block: usize,
-    pub total: usize,
-    pub directory: usize,
+    pub block_bytes: usize,
+    pub blocks: usize,
+    pub directory_blocks: usize,
 }
 
 impl Geometry {
-    // Bytes of a record, of an entry, of an extent.
-    pub const RECORD: usize = 128;
+    // Bytes of a record and of an entry, records of an extent, slots of a directory record.
+    pub const RECORD_BYTES: usize = 128;
 
-    pub const ENTRY: usize = 32;
+    pub const ENTRY_BYTES: usize = 32;
 
-    pub const EXTENT: usize = 1024;
+    pub const EXTENT_RECORDS: usize = 128;
+
+    pub const RECORD_SLOTS: usize = 4;
+
+    // Block bytes for each extent of an entry: X is B/1,024.
+    pub const BYTES_AN_EXTENT: usize = 1024;
 
     // Is the geometry within the rules?
     pub fn is_lawful(self) -> bool
         ensures { λ r. ⌜ r ≡ lawful self ⌝ }
     {
-        ((self.block == 1024) | (self.block == 2048) | (self.block == 4096))
-            & (2 <= self.total)
-            & (self.total <= 256)
-            & (1 <= self.directory)
-            & (self.directory <= 16)
-            & (self.directory < self.total)
+        ((self.block_bytes == 1024) | (self.block_bytes == 2048) | (self.block_bytes == 4096))
+            & (2 <= self.blocks)
+            & (self.blocks <= 256)
+            & (1 <= self.directory_blocks)
+            & (self.directory_blocks <= 16)
+            & (self.directory_blocks < self.blocks)
     }
 
     // T times B: the volume's length.
@@ -37,21 +42,21 @@ impl Geometry {
         requires { ⌜ lawful self ≡ true ⌝ }
         ensures { λ r. ⌜ r ≡ bytes self ⌝ }
     {
-        self.total * self.block
+        self.blocks * self.block_bytes
     }
 
     // R: records a block.
     pub fn records(self) -> usize
         ensures { λ r. ⌜ r ≡ records self ⌝ }
     {
-        self.block / Geometry::RECORD
+        self.block_bytes / Geometry::RECORD_BYTES
     }
 
     // BSH, the block shift of Digital Research's table (000, Tabelle 13): R is 1 << BSH.
     pub fn bsh(self) -> usize
         ensures { λ r. ⌜ (r ≡ bsh self) × (r ≤ 5) ⌝ }
     {
-        let bls = self.block;
+        let bls = self.block_bytes;
         match bls {
             1024 => 3,
             2048 => 4,
@@ -64,7 +69,7 @@ impl Geometry {
     pub fn blm(self) -> usize
         ensures { λ r. ⌜ r ≡ blm self ⌝ }
     {
-        let bls = self.block;
+        let bls = self.block_bytes;
         match bls {
             1024 => 7,
             2048 => 15,
@@ -77,7 +82,7 @@ impl Geometry {
     pub fn extents(self) -> usize
         ensures { λ r. ⌜ r ≡ extents self ⌝ }
     {
-        self.block / Geometry::EXTENT
+        self.block_bytes / Geometry::BYTES_AN_EXTENT
     }
 
     // How many slots the directory has.
@@ -85,15 +90,15 @@ impl Geometry {
         requires { ⌜ lawful self ≡ true ⌝ }
         ensures { λ r. ⌜ (r ≡ slots self) × (r ≤ 2048) ⌝ }
     {
-        4 * (self.directory * self.records())
+        4 * (self.directory_blocks * self.records())
     }
 
     // Where logical record q begins.
     pub fn start(self, q: usize) -> usize
-        requires { ⌜ (lawful self ≡ true) × (q < self .total * records self) ⌝ }
+        requires { ⌜ (lawful self ≡ true) × (q < blocks self * records self) ⌝ }
         ensures { λ r. ⌜ (r ≡ start self q) × (r + 128 ≤ bytes self) ⌝ }
     {
-        q * Geometry::RECORD
+        q * Geometry::RECORD_BYTES
     }
 
     // Where the directory record begins that holds slot i.
@@ -109,12 +114,12 @@ impl Geometry {
         requires { ⌜ (lawful self ≡ true) × (i < slots self) ⌝ }
         ensures { λ r. ⌜ (r ≡ slotStart self i) × (r + 32 ≤ bytes self) ⌝ }
     {
-        self.slot_record(i) + i % 4 * Geometry::ENTRY
+        self.slot_record(i) + i % 4 * Geometry::ENTRY_BYTES
     }
 
     // Where record n begins that lies in block b.
     pub fn record_start(self, b: usize, n: usize) -> usize
-        requires { ⌜ (lawful self ≡ true) × (b < self .total) ⌝ }
+        requires { ⌜ (lawful self ≡ true) × (b < blocks self) ⌝ }
         ensures { λ r. ⌜ (r ≡ recordStart self b n) × (r + 128 ≤ bytes self) ⌝ }
     {
         self.start((b << self.bsh()) + (n & self.blm()))
@@ -147,6 +152,6 @@ impl Geometry {
     pub fn is_inside(self, b: usize) -> bool
         ensures { λ r. ⌜ r ≡ inside self b ⌝ }
     {
-        (self.directory <= b) & (b < self.total)
+        (self.directory_blocks <= b) & (b < self.blocks)
     }
 }

@@ -12,8 +12,8 @@ use lib.Bits.{bitOr, bitXor, or-shr, or-mod, xor-shr, xor-mod, or-zero-r, xor-ze
 use lib.Count.{ones, ones-cat, ones-le}
 use lib.Dec.{lit<, eqb}
 use lib.Pow.{pow-pos, pow-lt, pow-add, mod-pow-add, mod-mod-pow, field, shl-exact, shl-shr}
-use Rattle.lists.specs.Search.{everyFrom}
-use Rattle.lists.proofs.SearchLaws.{every-true}
+use Rattle.lists.specs.Bounded.{everyFrom}
+use Rattle.lists.proofs.BoundedLaws.{every-true}
 
 -- `1 << k` of a word of 64 bits
 pub one-shifted : (k : ℕ) → k < 64 → (1 * 2 ^ k) % 2 ^ 64 ≡ 2 ^ k

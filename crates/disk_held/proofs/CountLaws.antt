@@ -7,7 +7,7 @@ use native.Mathlib.Nat.{zero-add}
 use native.Mathlib.Omega.{arith}
 use lib.Count.{ones}
 use lib.ListN.{getD}
-use Rattle.lists.specs.Search.{lowFrom, countFrom}
+use Rattle.lists.specs.Bounded.{lowFrom, countFrom}
 use Rattle.disk_held.specs.Held.{holds, isFree, freeCount}
 use Rattle.disk_held.proofs.Bits.{ones-none, ones-more}
 use Rattle.disk_held.proofs.HoldLaws.{digit-of, digit-holds}

@@ -4,7 +4,7 @@ use mathlib.Core.List.{List, [], _∷_}
 use Prim.Native.Nat.{ℕ}
 use lib.Dec.{eqb}
 use lib.ListN.{replicate}
-use Rattle.lists.specs.Search.{lowFrom, countFrom}
+use Rattle.lists.specs.Bounded.{lowFrom, countFrom}
 use Rattle.disk_held.specs.Held.{digit, holds, hold, release, wordOf, wordsOf, noneHeld, lowestFree, freeCount}
 
 -- the code's cleared words hold nothing

@@ -7,8 +7,8 @@ use Prim.Native.Nat.{ℕ, zero, suc, _+_, _-_, _/_, _%_, _≤_, _<_}
 use native.Mathlib.Omega.{arith}
 use borrow.Author.Tests.{not-true, not-false}
 use lib.ListN.{getD}
-use Rattle.lists.specs.Search.{lowFrom}
-use Rattle.lists.proofs.SearchLaws.{Searched, low-le, low-hit, low-miss, low-no, low-is, low-ext, count-ext}
+use Rattle.lists.specs.Bounded.{lowFrom}
+use Rattle.lists.proofs.BoundedLaws.{Searched, low-le, low-hit, low-miss, low-no, low-is, low-ext, count-ext}
 use Rattle.disk_held.specs.Held.{digit, holds, isFree, lowestFree, freeCount}
 use Rattle.disk_held.proofs.Bits.{full-bit}
 use Rattle.disk_held.proofs.CountLaws.{count-none, none-count, count-not}

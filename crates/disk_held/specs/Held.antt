@@ -5,7 +5,7 @@ use Prim.Native.Nat.{ℕ, zero, suc, _+_, _-_, _*_, _/_, _%_, _^_}
 use lib.Bits.{bitOr, bitXor}
 use lib.Dec.{eqb}
 use lib.ListN.{getD, set}
-use Rattle.lists.specs.Search.{lowFrom, countFrom}
+use Rattle.lists.specs.Bounded.{lowFrom, countFrom}
 
 -- the state holds block b
 unfoldable pub digit : List ℕ → ℕ → ℕ

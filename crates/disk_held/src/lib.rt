@@ -2,7 +2,7 @@
 ghost use mathlib.Core.Path.{_≡_};
 ghost use Prim.Native.Nat.{_+_, _*_, _/_, _%_, _^_, _≤_, _<_, min};
 ghost use lib.Count.{ones};
-ghost use Rattle.lists.specs.Search.{countFrom};
+ghost use Rattle.lists.specs.Bounded.{countFrom};
 ghost use Rattle.disk_held.specs.Held.{holds, hold, release, lowestFree, freeCount};
 
 // Bits of a word.

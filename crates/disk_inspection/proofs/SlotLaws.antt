@@ -5,7 +5,7 @@ use mathlib.Core.List.{List}
 use Prim.Native.Nat.{ℕ, _+_}
 use native.Mathlib.Omega.{arith}
 use borrow.Author.Tests.{eq-eqb, ne-eqb}
-use Rattle.lists.specs.Search.{every}
+use Rattle.lists.specs.Bounded.{every}
 use Rattle.lists.specs.Bytes.{byte}
 use Rattle.lists.proofs.PartLaws.{byte-part}
 use Rattle.disk_geometry.specs.declared.Geometry.{Geometry}

@@ -3,12 +3,12 @@ ghost use mathlib.Core.Path.{_≡_};
 ghost use mathlib.Core.Bool.{true};
 ghost use Prim.Native.Nat.{_+_, _≤_, _<_};
 ghost use lib.ListN.{length};
-ghost use Rattle.disk_geometry.specs.Geometry.{lawful, bytes, slots};
+ghost use Rattle.disk_geometry.specs.Geometry.{lawful, bytes, slots, blocks, directoryBlocks};
 ghost use Rattle.disk_held.specs.Held.{wordsOf, freeCount};
 ghost use Rattle.disk_rules.specs.GoodSlot.{goodSlot, lowestBad};
 ghost use Rattle.disk_rules.specs.Named.{heldOf};
-ghost use Rattle.disk_maps.specs.HeldBelow.{heldBelow};
-ghost use Rattle.disk_marks.specs.Marks.{marked};
+ghost use Rattle.disk_maps.specs.CodeHeldBelow.{heldBelow};
+ghost use Rattle.disk_marks.specs.CodeMarks.{allMarked};
 use disk_geometry::Geometry;
 use disk_maps::Taken;
 use disk_volume::entry;
@@ -30,10 +30,10 @@ struct Looked {
 fn take_slot(g: Geometry, volume: &[u8], i: usize, held: [u64; 4], marks: &mut [u64]) -> Taken
     requires { ⌜ (lawful g ≡ true) × (length (now volume) ≡ bytes g) ⌝ }
     requires { ⌜ (i < slots g) × (held ≡ wordsOf (heldBelow g (now volume) i)) ⌝ }
-    requires { ⌜ (length (now marks) ≡ 1024) × (marked g (now volume) (now marks) i ≡ true) ⌝ }
+    requires { ⌜ (length (now marks) ≡ 1024) × (allMarked g (now volume) (now marks) i ≡ true) ⌝ }
     ensures { λ r. ⌜ r .good ≡ goodSlot g (now (volume .entry)) i ⌝ }
     ensures { λ r. ⌜ (r .good ≡ true → r .held ≡ wordsOf (heldBelow g (now (volume .entry)) (i + 1))) ⌝ }
-    ensures { λ r. ⌜ (r .good ≡ true → marked g (now (volume .entry)) (now (marks .exit)) (i + 1) ≡ true) ⌝ }
+    ensures { λ r. ⌜ (r .good ≡ true → allMarked g (now (volume .entry)) (now (marks .exit)) (i + 1) ≡ true) ⌝ }
 {
     let at = g.slot_start(i);
     if volume[at] == entry::EMPTY {
@@ -80,11 +80,11 @@ fn look(g: Geometry, volume: &[u8]) -> Looked
 pub fn inspect(g: Geometry, volume: &[u8]) -> Inspected
     requires { ⌜ (lawful g ≡ true) × (length (now volume) ≡ bytes g) ⌝ }
     ensures { λ r. ⌜ (r .slot ≡ lowestBad g (now (volume .entry))) × (r .slot ≤ slots g) ⌝ }
-    ensures { λ r. ⌜ (r .slot ≡ slots g → (r .held ≡ heldOf g (now (volume .entry))) × (r .free ≡ freeCount (heldOf g (now (volume .entry))) (g .directory) (g .total))) ⌝ }
+    ensures { λ r. ⌜ (r .slot ≡ slots g → (r .held ≡ heldOf g (now (volume .entry))) × (r .free ≡ freeCount (heldOf g (now (volume .entry))) (directoryBlocks g) (blocks g))) ⌝ }
 {
     let seen = look(g, volume);
     let held = seen.held;
-    let free = disk_held::free_count(held, g.directory, g.total);
+    let free = disk_held::free_count(held, g.directory_blocks, g.blocks);
     Inspected {
         slot: seen.slot,
         held,

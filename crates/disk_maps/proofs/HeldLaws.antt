@@ -7,7 +7,7 @@ use native.Mathlib.Decide.{ℕ-discrete}
 use native.Mathlib.Omega.{arith}
 use borrow.Author.Tests.{eq-eqb, ne-eqb, lt-leb}
 use lib.Dec.{eqb}
-use Rattle.lists.specs.Search.{anyFrom}
+use Rattle.lists.specs.Bounded.{anyFrom}
 use Rattle.disk_geometry.specs.declared.Geometry.{Geometry}
 use Rattle.disk_geometry.specs.Geometry.{lawful, slots, inside, places}
 use Rattle.disk_volume.specs.Entry.{Entry, isEmpty, blockIn}
@@ -15,9 +15,9 @@ use Rattle.disk_volume.specs.Directory.{slotAt}
 use Rattle.disk_geometry.proofs.GeometryLaws.{bounds}
 use Rattle.disk_held.specs.Held.{holds, hold, wordsOf, noneHeld}
 use Rattle.disk_held.proofs.WordsLaws.{hold-words, words-none, holds-none, holds-words, words-are, words-ext}
-use Rattle.disk_rules.specs.GoodSlot.{inPlaces, names, namedBelow, goodPlace}
+use Rattle.disk_rules.specs.GoodSlot.{inPlaces, namesBlock, namedBelow, goodPlace}
 use Rattle.disk_rules.specs.Named.{named, heldOf}
-use Rattle.disk_maps.specs.HeldBelow.{heldBelow, heldUpTo}
+use Rattle.disk_maps.specs.CodeHeldBelow.{heldBelow, heldUpTo}
 use Rattle.lists.proofs.AnyLaws.{any-more}
 
 -- ---- one place more
@@ -34,7 +34,7 @@ module _ (g : Geometry) (v : List ℕ) (i k : ℕ) where
   -- a place with 0: no block at all is held by it
   zero-outside : lawful g ≡ true → (j : ℕ) → heldUpTo g v i j 0 ≡ false
   unfolding heldUpTo inside
-  zero-outside good j = let d : 0 < g .directory = omega (arith, bounds g good) in rw (lt-leb (g .directory) 0 d)
+  zero-outside good j = let d : 0 < g .«directory_blocks» = omega (arith, bounds g good) in rw (lt-leb (g .«directory_blocks») 0 d)
 
   pub zero-place : lawful g ≡ true → blockIn g (slotAt g v i) k ≡ 0 → wordsOf (heldUpTo g v i k) ≡ wordsOf (heldUpTo g v i (k + 1))
   zero-place good z = words-ext (heldUpTo g v i k) (heldUpTo g v i (k + 1)) (λ b h. each b (ℕ-discrete b 0))
@@ -79,20 +79,20 @@ inside-test false y e = absurd (true≢false e)
 
 -- ---- one slot more
 module _ (g : Geometry) (v : List ℕ) (i : ℕ) where
-  pub slots-more : (b : ℕ) → namedBelow g v (i + 1) b ≡ namedBelow g v i b || names g (slotAt g v i) b
+  pub slots-more : (b : ℕ) → namedBelow g v (i + 1) b ≡ namedBelow g v i b || namesBlock g (slotAt g v i) b
   unfolding namedBelow
-  slots-more b = any-more (λ j. names g (slotAt g v j) b) i
+  slots-more b = any-more (λ j. namesBlock g (slotAt g v j) b) i
 
   pub no-places : wordsOf (heldBelow g v i) ≡ wordsOf (heldUpTo g v i 0)
   unfolding heldBelow heldUpTo inPlaces anyFrom
   no-places = words-ext (heldBelow g v i) (heldUpTo g v i 0) (λ b h. rw or-false)
 
   pub empty-slot : isEmpty (slotAt g v i) ≡ true → wordsOf (heldBelow g v i) ≡ wordsOf (heldBelow g v (i + 1))
-  unfolding heldBelow names
+  unfolding heldBelow namesBlock
   empty-slot e = words-ext (heldBelow g v i) (heldBelow g v (i + 1)) (λ b h. rw (slots-more b, e, or-false))
 
   pub full-slot : isEmpty (slotAt g v i) ≡ false → wordsOf (heldUpTo g v i (places g)) ≡ wordsOf (heldBelow g v (i + 1))
-  unfolding heldBelow heldUpTo names
+  unfolding heldBelow heldUpTo namesBlock
   full-slot e = words-ext (heldUpTo g v i (places g)) (heldBelow g v (i + 1)) (λ b h. rw (slots-more b, e))
 
 -- ---- no slot, and all slots

@@ -1,2 +1,2 @@
 -- The held blocks while inspection goes on.
-pub mod HeldBelow
+pub mod CodeHeldBelow

@@ -3,11 +3,11 @@ ghost use mathlib.Core.Path.{_≡_};
 ghost use mathlib.Core.Bool.{true};
 ghost use Prim.Native.Nat.{_<_};
 ghost use lib.ListN.{length};
-ghost use Rattle.lists.specs.Search.{every};
+ghost use Rattle.lists.specs.Bounded.{every};
 ghost use Rattle.disk_geometry.specs.Geometry.{lawful, bytes, slots, places};
 ghost use Rattle.disk_held.specs.Held.{wordsOf};
 ghost use Rattle.disk_rules.specs.GoodSlot.{goodPlace};
-ghost use Rattle.disk_maps.specs.HeldBelow.{heldBelow, heldUpTo};
+ghost use Rattle.disk_maps.specs.CodeHeldBelow.{heldBelow, heldUpTo};
 use disk_geometry::Geometry;
 use disk_volume::entry;
 

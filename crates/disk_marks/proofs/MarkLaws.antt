@@ -9,14 +9,14 @@ use native.Mathlib.Omega.{arith}
 use lib.Bits.{bitOr}
 use lib.ListN.{length, getD}
 use lib.Seq.{getD-set-same, getD-set-other}
-use Rattle.lists.proofs.SearchLaws.{any-none, every-true, every-intro}
+use Rattle.lists.proofs.BoundedLaws.{any-none, every-true, every-intro}
 use Rattle.disk_geometry.specs.declared.Geometry.{Geometry}
 use Rattle.disk_volume.specs.Entry.{isEmpty}
 use Rattle.disk_volume.specs.Directory.{slotAt}
 use Rattle.disk_held.specs.Held.{digit, holds, hold}
 use Rattle.disk_held.proofs.Bits.{set-bit-same, set-bit-other}
 use Rattle.disk_rules.specs.GoodSlot.{seenBelow}
-use Rattle.disk_marks.specs.Marks.{entryMark, marked}
+use Rattle.disk_marks.specs.CodeMarks.{entryMark, allMarked}
 use Rattle.disk_rules.proofs.TwinLaws.{twin, Twins, twin-true}
 
 -- ---- one mark set, in any number of words
@@ -40,10 +40,10 @@ module _ (g : Geometry) (v : List ℕ) where
   abbrev markedAt : List ℕ → ℕ → Bool
   markedAt marks j = isEmpty (slotAt g v j) || holds marks (entryMark g (slotAt g v j))
 
-  module _ (marks : List ℕ) (i : ℕ) (below : marked g v marks i ≡ true) where
+  module _ (marks : List ℕ) (i : ℕ) (below : allMarked g v marks i ≡ true) where
     -- a lower entry has its mark set
     set-below : (j : ℕ) → j < i → isEmpty (slotAt g v j) ≡ false → holds marks (entryMark g (slotAt g v j)) ≡ true
-    unfolding marked
+    unfolding allMarked
     set-below j h used = rw used at (every-true (markedAt marks) 0 i below j (omega arith) (omega arith))
 
     -- so an entry whose mark is not set has no twin below
@@ -64,15 +64,15 @@ module _ (g : Geometry) (v : List ℕ) where
         at j h false q = q
 
     -- ---- one slot more
-    pub still-marked : isEmpty (slotAt g v i) || holds marks (entryMark g (slotAt g v i)) ≡ true → marked g v marks (i + 1) ≡ true
-    unfolding marked
+    pub still-marked : isEmpty (slotAt g v i) || holds marks (entryMark g (slotAt g v i)) ≡ true → allMarked g v marks (i + 1) ≡ true
+    unfolding allMarked
     still-marked own = every-intro (markedAt marks) 0 (i + 1) (λ j a l. elim (ℕ-discrete j i) [
       | yes z ↦ rw z own
       | no n ↦ every-true (markedAt marks) 0 i below j (omega arith) (omega arith)
     ])
 
-    pub now-marked : entryMark g (slotAt g v i) / 64 < length marks → marked g v (hold marks (entryMark g (slotAt g v i))) (i + 1) ≡ true
-    unfolding marked
+    pub now-marked : entryMark g (slotAt g v i) / 64 < length marks → allMarked g v (hold marks (entryMark g (slotAt g v i))) (i + 1) ≡ true
+    unfolding allMarked
     now-marked fits = every-intro (markedAt (hold marks m)) 0 (i + 1) (λ j a l. at j (omega arith) (ℕ-discrete (entryMark g (slotAt g v j)) m) (isEmpty (slotAt g v j)) refl)
       where
         m : ℕ
@@ -86,6 +86,6 @@ module _ (g : Geometry) (v : List ℕ) where
             rw (set-other marks m fits (entryMark g (slotAt g v j)) n, set-below j k q, or-true)
 
   -- no slot at all
-  pub none-marked : (marks : List ℕ) → marked g v marks 0 ≡ true
-  unfolding marked
+  pub none-marked : (marks : List ℕ) → allMarked g v marks 0 ≡ true
+  unfolding allMarked
   none-marked marks = every-intro (markedAt marks) 0 0 (λ j a l. absurd (omega arith))

@@ -1,2 +1,2 @@
 -- The marks of the slots passed so far.
-pub mod Marks
+pub mod CodeMarks

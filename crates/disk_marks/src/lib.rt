@@ -3,13 +3,13 @@ ghost use mathlib.Core.Path.{_≡_};
 ghost use mathlib.Core.Bool.{true, false};
 ghost use Prim.Native.Nat.{_+_, _≤_, _<_};
 ghost use lib.ListN.{length};
-ghost use Rattle.lists.specs.Search.{any};
+ghost use Rattle.lists.specs.Bounded.{any};
 ghost use Rattle.disk_geometry.specs.Geometry.{lawful, bytes, slots};
 ghost use Rattle.disk_volume.specs.Name.{strip};
 ghost use Rattle.disk_volume.specs.Entry.{isEmpty, ofGroup};
 ghost use Rattle.disk_volume.specs.Directory.{slotAt};
 ghost use Rattle.disk_rules.specs.GoodSlot.{seenBelow};
-ghost use Rattle.disk_marks.specs.Marks.{markOf, marked};
+ghost use Rattle.disk_marks.specs.CodeMarks.{markOf, allMarked};
 use disk_geometry::Geometry;
 use disk_volume::Wanted;
 use disk_volume::entry;
@@ -56,9 +56,9 @@ fn is_below(g: Geometry, volume: &[u8], n: usize, user: u8, name: &[u8], k: usiz
 pub fn is_seen(g: Geometry, volume: &[u8], i: usize, e: &[u8], marks: &mut [u64]) -> bool
     requires { ⌜ (lawful g ≡ true) × (length (now volume) ≡ bytes g) ⌝ }
     requires { ⌜ (i < slots g) × ((length (now e) ≡ 32) × (now e ≡ slotAt g (now volume) i)) ⌝ }
-    requires { ⌜ (isEmpty (now e) ≡ false) × ((length (now marks) ≡ 1024) × (marked g (now volume) (now marks) i ≡ true)) ⌝ }
+    requires { ⌜ (isEmpty (now e) ≡ false) × ((length (now marks) ≡ 1024) × (allMarked g (now volume) (now marks) i ≡ true)) ⌝ }
     ensures { λ r. ⌜ r ≡ seenBelow g (now (volume .entry)) i ⌝ }
-    ensures { λ _. ⌜ marked g (now (volume .entry)) (now (marks .exit)) (i + 1) ≡ true ⌝ }
+    ensures { λ _. ⌜ allMarked g (now (volume .entry)) (now (marks .exit)) (i + 1) ≡ true ⌝ }
 {
     let k = g.group(entry::extent_of(e));
     let mark = mark_of(e[0], &e[1..12], k);

@@ -8,7 +8,7 @@ use Prim.Native.Nat.{ℕ, _≤_, _<_}
 use native.Mathlib.Decide.{ℕ-discrete, decLt}
 use native.Mathlib.Omega.{arith}
 use borrow.Author.Tests.{not-true, not-false}
-use Rattle.lists.proofs.SearchLaws.{low-le, low-hit, low-miss, low-no}
+use Rattle.lists.proofs.BoundedLaws.{low-le, low-hit, low-miss, low-no}
 use Rattle.disk_geometry.specs.declared.Geometry.{Geometry}
 use Rattle.disk_geometry.specs.Geometry.{slots, inside, places}
 use Rattle.disk_volume.specs.Entry.{isEmpty, blockIn}

@@ -3,19 +3,19 @@ use mathlib.Core.Path.{_≡_, refl}
 use mathlib.Core.List.{List, [], _∷_, _++_}
 use Prim.Native.Nat.{ℕ, _-_}
 use lib.ListN.{replicate, length}
-use Rattle.lists.specs.Search.{lowFrom, anyFrom, everyFrom}
+use Rattle.lists.specs.Bounded.{lowFrom, anyFrom, everyFrom}
 use Rattle.lists.specs.Bytes.{part, all}
 use Rattle.disk_geometry.specs.declared.Geometry.{Geometry}
-use Rattle.disk_geometry.specs.Geometry.{start, slotStart, groupOf, inside, places}
+use Rattle.disk_geometry.specs.Geometry.{start, slotStart, groupOf, inside, places, geometryOf}
 use Rattle.disk_volume.specs.Name.{strip, nameAt, same, goodName}
 use Rattle.disk_volume.specs.Entry.{Entry, blockIn, ofFile, ofGroup}
 use Rattle.disk_volume.specs.Directory.{slotAt}
 use Rattle.disk_held.specs.Held.{wordOf, wordsOf, noneHeld}
-use Rattle.disk_rules.specs.GoodSlot.{goodFields, goodTopBits, inPlaces, names, namedBelow, goodPlace, seenBelow, goodSlot, lowestBad}
+use Rattle.disk_rules.specs.GoodSlot.{goodFields, goodTopBits, inPlaces, namesBlock, namedBelow, goodPlace, seenBelow, goodSlot, lowestBad}
 use Rattle.disk_rules.specs.Named.{named, heldOf}
 
 abbrev G : Geometry
-G = record { block = 1024; total = 8; directory = 1 }
+G = geometryOf 1024 8 1
 
 -- SIGLA.TXT of a user, its first byte and t1 given, in extent ex with blocks b and c
 abbrev entry : ℕ → ℕ → ℕ → ℕ → ℕ → ℕ → Entry
@@ -46,7 +46,7 @@ pub record Examples : Type 0 where
   same-group : lowestBad G (volume (sigla 0 1 0 ++ entry 0 83 212 0 2 0)) ≡ 1
   another-user : lowestBad G (volume (sigla 0 1 0 ++ entry 1 83 84 0 2 0)) ≡ 32
   -- with B 2,048 extents 0 and 1 are one group
-  same-group-of-two : lowestBad (record { block = 2048; total = 4; directory = 1 }) (volume (sigla 0 1 0 ++ sigla 1 2 0)) ≡ 1
+  same-group-of-two : lowestBad (geometryOf 2048 4 1) (volume (sigla 0 1 0 ++ sigla 1 2 0)) ≡ 1
   -- a top bit on byte 1, and on byte 9
   top-bit-on-1 : lowestBad G (volume (entry 0 211 84 0 1 0)) ≡ 0
   top-bit-on-9 : lowestBad G (volume (entry 0 83 212 0 1 0)) ≡ 32
@@ -54,10 +54,10 @@ pub record Examples : Type 0 where
   beyond : lowestBad G (volume (sigla 0 8 0)) ≡ 0
   highest : lowestBad G (volume (sigla 0 7 0)) ≡ 32
   -- a block of the directory
-  below-D : lowestBad (record { block = 1024; total = 8; directory = 2 }) (volume (sigla 0 1 0)) ≡ 0
+  below-D : lowestBad (geometryOf 1024 8 2) (volume (sigla 0 1 0)) ≡ 0
 
 pub examples : Examples
-unfolding lowestBad goodSlot goodFields goodTopBits goodPlace inPlaces names namedBelow seenBelow heldOf named lowFrom anyFrom everyFrom part all start slotStart groupOf inside strip nameAt same goodName places blockIn ofFile ofGroup slotAt wordOf wordsOf
+unfolding lowestBad goodSlot goodFields goodTopBits goodPlace inPlaces namesBlock namedBelow seenBelow heldOf named lowFrom anyFrom everyFrom part all start slotStart groupOf inside strip nameAt same goodName places blockIn ofFile ofGroup slotAt wordOf wordsOf
 examples = record {
   all-empty = refl;
   all-empty-held = refl;

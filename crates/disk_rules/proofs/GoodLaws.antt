@@ -9,15 +9,15 @@ use native.Mathlib.Omega.{arith}
 use borrow.Author.Tests.{not-true, leb-true, le-leb, ltb-true, lt-ltb, eqb-true, eqb-false, eq-eqb, ne-eqb}
 use lib.Dec.{leb, ltb, eqb}
 use Rattle.lists.proofs.BoolLaws.{and-parts}
-use Rattle.lists.specs.Search.{every}
+use Rattle.lists.specs.Bounded.{every}
 use Rattle.lists.specs.Bytes.{byte}
-use Rattle.lists.proofs.SearchLaws.{any-false, any-none, every-true, every-intro}
+use Rattle.lists.proofs.BoundedLaws.{any-false, any-none, every-true, every-intro}
 use Rattle.disk_geometry.specs.declared.Geometry.{Geometry}
 use Rattle.disk_geometry.specs.Geometry.{groupOf, inside, places}
 use Rattle.disk_volume.specs.Name.{nameOf, goodName}
 use Rattle.disk_volume.specs.Entry.{Entry, isEmpty, extent, blockIn, ofGroup}
 use Rattle.disk_volume.specs.Directory.{slotAt}
-use Rattle.disk_rules.specs.GoodSlot.{goodFields, goodTopBits, inPlaces, names, namedBelow, goodPlace, seenBelow, goodSlot}
+use Rattle.disk_rules.specs.GoodSlot.{goodFields, goodTopBits, inPlaces, namesBlock, namedBelow, goodPlace, seenBelow, goodSlot}
 
 -- ---- the bytes other than name and map
 pub record Fields (e : Entry) : Type 0 where
@@ -85,15 +85,15 @@ module _ (g : Geometry) (e : Entry) (k b : ℕ) where
 -- block b is in no slot below n that is not empty
 module _ (g : Geometry) (v : List ℕ) (n b : ℕ) where
   pub not-named-below : namedBelow g v n b ≡ false → (j : ℕ) → j < n → isEmpty (slotAt g v j) ≡ false → (q : ℕ) → q < places g → blockIn g (slotAt g v j) q ≢ b
-  unfolding namedBelow names
+  unfolding namedBelow namesBlock
   not-named-below h j l used =
-      not-in-places g (slotAt g v j) (places g) b (rw used at (any-false (λ m. names g (slotAt g v m) b) 0 n h j (omega arith) (omega arith)))
+      not-in-places g (slotAt g v j) (places g) b (rw used at (any-false (λ m. namesBlock g (slotAt g v m) b) 0 n h j (omega arith) (omega arith)))
 
   pub named-nowhere : ((j : ℕ) → j < n → isEmpty (slotAt g v j) ≡ false → (q : ℕ) → q < places g → blockIn g (slotAt g v j) q ≢ b) → namedBelow g v n b ≡ false
-  unfolding namedBelow names
-  named-nowhere h = any-none (λ m. names g (slotAt g v m) b) 0 n (λ j a l. at j (omega arith) (isEmpty (slotAt g v j)) refl)
+  unfolding namedBelow namesBlock
+  named-nowhere h = any-none (λ m. namesBlock g (slotAt g v m) b) 0 n (λ j a l. at j (omega arith) (isEmpty (slotAt g v j)) refl)
     where
-      at : (j : ℕ) → j < n → (t : Bool) → isEmpty (slotAt g v j) ≡ t → names g (slotAt g v j) b ≡ false
+      at : (j : ℕ) → j < n → (t : Bool) → isEmpty (slotAt g v j) ≡ t → namesBlock g (slotAt g v j) b ≡ false
       at j l true e = rw e
       at j l false e = rw e (in-no-place g (slotAt g v j) (places g) b (h j l e))
 

@@ -8,14 +8,14 @@ use native.Mathlib.Omega.{arith}
 use borrow.Author.Tests.{not-true, eqb-true, eq-eqb}
 use lib.Dec.{eqb}
 use Rattle.lists.proofs.BoolLaws.{and-parts}
-use Rattle.lists.proofs.SearchLaws.{any-true, any-intro}
+use Rattle.lists.proofs.BoundedLaws.{any-true, any-intro}
 use Rattle.disk_geometry.specs.declared.Geometry.{Geometry}
 use Rattle.disk_geometry.specs.Geometry.{slots, inside, places}
 use Rattle.disk_volume.specs.Entry.{isEmpty, blockIn}
 use Rattle.disk_volume.specs.Directory.{slotAt}
 use Rattle.disk_held.specs.Held.{holds}
 use Rattle.disk_held.proofs.WordsLaws.{Words, holds-words, words-words}
-use Rattle.disk_rules.specs.GoodSlot.{inPlaces, names, namedBelow}
+use Rattle.disk_rules.specs.GoodSlot.{inPlaces, namesBlock, namedBelow}
 use Rattle.disk_rules.specs.Named.{named, heldOf}
 use Rattle.disk_rules.proofs.GoodLaws.{not-named-below}
 
@@ -30,9 +30,9 @@ pub record NamedAt (g : Geometry) (v : List ℕ) (n b : ℕ) : Type 0 where
 
 module _ (g : Geometry) (v : List ℕ) (n b : ℕ) where
   pub named-at : namedBelow g v n b ≡ true → NamedAt g v n b
-  unfolding namedBelow names inPlaces
+  unfolding namedBelow namesBlock inPlaces
   named-at h =
-      let s = any-true (λ j. names g (slotAt g v j) b) 0 n h in
+      let s = any-true (λ j. namesBlock g (slotAt g v j) b) 0 n h in
       let e = slotAt g v (s .place) in
       let m = and-parts (not (isEmpty e)) (inPlaces g e (places g) b) (s .passes) in
       let p = any-true (λ q. eqb (blockIn g e q) b) 0 (places g) (m .1) in
@@ -46,11 +46,11 @@ module _ (g : Geometry) (v : List ℕ) (n b : ℕ) where
       }
 
   pub at-named : NamedAt g v n b → namedBelow g v n b ≡ true
-  unfolding namedBelow names inPlaces
+  unfolding namedBelow namesBlock inPlaces
   at-named a =
       let e = slotAt g v (a .slot) in
       let m : inPlaces g e (places g) b ≡ true = any-intro (λ q. eqb (blockIn g e q) b) 0 (places g) (a .place) (omega arith) (omega (arith, a .in-map)) (eq-eqb (blockIn g e (a .place)) b (a .is)) in
-      any-intro (λ j. names g (slotAt g v j) b) 0 n (a .slot) (omega arith) (omega (arith, a .below)) (rw (a .used, m))
+      any-intro (λ j. namesBlock g (slotAt g v j) b) 0 n (a .slot) (omega arith) (omega (arith, a .below)) (rw (a .used, m))
 
 -- ---- the words
 module _ (g : Geometry) (v : List ℕ) where

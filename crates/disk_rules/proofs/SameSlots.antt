@@ -5,20 +5,20 @@ use mathlib.Core.List.{List}
 use Prim.Native.Nat.{ℕ, _≤_, _<_}
 use native.Mathlib.Omega.{arith}
 use Rattle.lists.specs.Bytes.{byte}
-use Rattle.lists.proofs.SearchLaws.{low-ext, any-ext, every-ext}
+use Rattle.lists.proofs.BoundedLaws.{low-ext, any-ext, every-ext}
 use Rattle.disk_geometry.specs.declared.Geometry.{Geometry}
 use Rattle.disk_geometry.specs.Geometry.{slots, groupOf, places}
 use Rattle.disk_volume.specs.Name.{nameOf}
 use Rattle.disk_volume.specs.Entry.{Entry, extent, blockIn, ofGroup}
 use Rattle.disk_volume.specs.Directory.{slotAt}
-use Rattle.disk_rules.specs.GoodSlot.{names, namedBelow, goodPlace, seenBelow, goodSlot, lowestBad}
+use Rattle.disk_rules.specs.GoodSlot.{namesBlock, namedBelow, goodPlace, seenBelow, goodSlot, lowestBad}
 use Rattle.disk_rules.specs.Named.{named, heldOf}
 use Rattle.disk_held.proofs.WordsLaws.{words-ext}
 
 module _ (g : Geometry) (v w : List ℕ) where
   pub named-below-same : (n b : ℕ) → ((j : ℕ) → j < n → slotAt g v j ≡ slotAt g w j) → namedBelow g v n b ≡ namedBelow g w n b
   unfolding namedBelow
-  named-below-same n b same = any-ext (λ j. names g (slotAt g v j) b) (λ j. names g (slotAt g w j) b) 0 n (λ j a l. ap (λ (e : Entry). names g e b) (same j (omega arith)))
+  named-below-same n b same = any-ext (λ j. namesBlock g (slotAt g v j) b) (λ j. namesBlock g (slotAt g w j) b) 0 n (λ j a l. ap (λ (e : Entry). namesBlock g e b) (same j (omega arith)))
 
   module _ (i : ℕ) (same : (j : ℕ) → j ≤ i → slotAt g v j ≡ slotAt g w j) where
     place-same : (p : ℕ) → goodPlace g v i p ≡ goodPlace g w i p

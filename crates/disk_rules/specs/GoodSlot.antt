@@ -6,7 +6,7 @@ use mathlib.Core.Bool.{Bool, false, not, _&&_, _||_}
 use mathlib.Core.List.{List}
 use Prim.Native.Nat.{ℕ, _+_}
 use lib.Dec.{leb, ltb, eqb}
-use Rattle.lists.specs.Search.{lowest, any, every}
+use Rattle.lists.specs.Bounded.{lowest, any, every}
 use Rattle.lists.specs.Bytes.{byte}
 use Rattle.disk_geometry.specs.declared.Geometry.{Geometry}
 use Rattle.disk_geometry.specs.Geometry.{slots, groupOf, inside, places}
@@ -26,12 +26,12 @@ goodTopBits e = every 11 (λ k. ltb (byte e (1 + k)) 128 || eqb k 8 || eqb k 9)
 unfoldable pub inPlaces : Geometry → Entry → ℕ → ℕ → Bool
 inPlaces g e k b = any k (λ p. eqb (blockIn g e p) b)
 
-unfoldable pub names : Geometry → Entry → ℕ → Bool
-names g e b = not (isEmpty e) && inPlaces g e (places g) b
+unfoldable pub namesBlock : Geometry → Entry → ℕ → Bool
+namesBlock g e b = not (isEmpty e) && inPlaces g e (places g) b
 
 -- block b is in a slot below n that is not empty
 unfoldable pub namedBelow : Geometry → List ℕ → ℕ → ℕ → Bool
-namedBelow g v n b = any n (λ j. names g (slotAt g v j) b)
+namedBelow g v n b = any n (λ j. namesBlock g (slotAt g v j) b)
 
 -- place p of the entry in slot i: 0, or a block from D to T-1 that is in no lower place and in no lower slot
 unfoldable pub goodPlace : Geometry → List ℕ → ℕ → ℕ → Bool

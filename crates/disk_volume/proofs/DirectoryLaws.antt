@@ -21,14 +21,14 @@ module _ (g : Geometry) (good : lawful g ≡ true) (v : List ℕ) (size : length
   pub slot-inside : (i : ℕ) → i < slots g → slotStart g i + 32 ≤ length v
   slot-inside i h = rw size (slot-in g good i h)
 
-  pub record-inside : (b n : ℕ) → b < g .total → recordStart g b n + 128 ≤ length v
+  pub record-inside : (b n : ℕ) → b < g .blocks → recordStart g b n + 128 ≤ length v
   record-inside b n h = rw size (record-in g good b n h)
 
   pub slot-length : (i : ℕ) → i < slots g → length (slotAt g v i) ≡ 32
   unfolding slotAt
   slot-length i h = length-part v (slotStart g i) 32 (slot-inside i h)
 
-  pub record-length : (b n : ℕ) → b < g .total → length (recordAt g v b n) ≡ 128
+  pub record-length : (b n : ℕ) → b < g .blocks → length (recordAt g v b n) ≡ 128
   unfolding recordAt
   record-length b n h = length-part v (recordStart g b n) 128 (record-inside b n h)
 
@@ -51,12 +51,12 @@ module _ (g : Geometry) (good : lawful g ≡ true) (v : List ℕ) (size : length
     unfolding slotAt putSlot
     slot-putSlot-other j j< ne = part-apart v (slotStart g i) 32 e (slotStart g j) 32 (slot-inside i i<) e32 (slots-apart g good j i j< i< ne)
 
-    pub record-putSlot : (b n : ℕ) → g .directory ≤ b → b < g .total → recordAt g (putSlot g v i e) b n ≡ recordAt g v b n
+    pub record-putSlot : (b n : ℕ) → g .«directory_blocks» ≤ b → b < g .blocks → recordAt g (putSlot g v i e) b n ≡ recordAt g v b n
     unfolding recordAt putSlot
     record-putSlot b n low high = part-apart v (slotStart g i) 32 e (recordStart g b n) 128 (slot-inside i i<) e32 (swap (slot-record-apart g good i b n i< low high))
 
   -- ---- 128 bytes laid into record n of block b
-  module _ (b n : ℕ) (b< : b < g .total) (r : List ℕ) (r128 : length r ≡ 128) where
+  module _ (b n : ℕ) (b< : b < g .blocks) (r : List ℕ) (r128 : length r ≡ 128) where
     pub putRecord-length : length (putRecord g v b n r) ≡ length v
     unfolding putRecord
     putRecord-length = length-put v (recordStart g b n) 128 (record-inside b n b<) r r128
@@ -65,7 +65,7 @@ module _ (g : Geometry) (good : lawful g ≡ true) (v : List ℕ) (size : length
     unfolding recordAt putRecord
     record-putRecord = part-put v (recordStart g b n) 128 (record-inside b n b<) r r128
 
-    pub record-putRecord-other : (c m : ℕ) → c < g .total → c ≢ b → recordAt g (putRecord g v b n r) c m ≡ recordAt g v c m
+    pub record-putRecord-other : (c m : ℕ) → c < g .blocks → c ≢ b → recordAt g (putRecord g v b n r) c m ≡ recordAt g v c m
     unfolding recordAt putRecord
     record-putRecord-other c m c< ne =
         part-apart v (recordStart g b n) 128 r (recordStart g c m) 128 (record-inside b n b<) r128 (records-apart g good c b m n c< b< ne)
@@ -75,6 +75,6 @@ module _ (g : Geometry) (good : lawful g ≡ true) (v : List ℕ) (size : length
     record-putRecord-within m ne =
         part-apart v (recordStart g b n) 128 r (recordStart g b m) 128 (record-inside b n b<) r128 (records-apart-within g good b m n b< ne)
 
-    pub slot-putRecord : g .directory ≤ b → (i : ℕ) → i < slots g → slotAt g (putRecord g v b n r) i ≡ slotAt g v i
+    pub slot-putRecord : g .«directory_blocks» ≤ b → (i : ℕ) → i < slots g → slotAt g (putRecord g v b n r) i ≡ slotAt g v i
     unfolding slotAt putRecord
     slot-putRecord low i i< = part-apart v (recordStart g b n) 128 r (slotStart g i) 32 (record-inside b n b<) r128 (slot-record-apart g good i b n i< low b<)

@@ -7,8 +7,8 @@ use native.Mathlib.Omega.{arith}
 use lib.Dec.{ltb, eqb}
 use borrow.Author.Tests.{ltb-true, ltb-false}
 use Rattle.lists.proofs.BoolLaws.{and-left}
-use Rattle.lists.specs.Search.{lowFrom}
-use Rattle.lists.proofs.SearchLaws.{Low, low-le, low-hit, low-miss, low-is}
+use Rattle.lists.specs.Bounded.{lowFrom}
+use Rattle.lists.proofs.BoundedLaws.{Low, low-le, low-hit, low-miss, low-is}
 use Rattle.disk_geometry.specs.declared.Geometry.{Geometry}
 use Rattle.disk_volume.specs.declared.Wanted.{Wanted}
 use Rattle.disk_volume.specs.declared.Wanted.the-variants.{File, Group}

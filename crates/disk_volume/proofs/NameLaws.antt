@@ -9,7 +9,7 @@ use lib.Dec.{leb, eqb}
 use lib.ListN.{length}
 use borrow.Author.Tests.{eq-eqb, eqb-true}
 use Rattle.lists.proofs.BoolLaws.{and-left, and-right}
-use Rattle.lists.specs.Search.{everyFrom, every}
+use Rattle.lists.specs.Bounded.{everyFrom, every}
 use Rattle.lists.specs.Bytes.{byte, all}
 use Rattle.disk_volume.specs.Name.{strip, same, like, nameByte, goodName}
 

@@ -3,7 +3,7 @@ use mathlib.Core.Bool.{Bool, true, _&&_}
 use mathlib.Core.List.{List}
 use Prim.Native.Nat.{ℕ}
 use lib.Dec.{eqb}
-use Rattle.lists.specs.Search.{lowest, fold}
+use Rattle.lists.specs.Bounded.{lowest, fold}
 use Rattle.lists.specs.Bytes.{part, put}
 use Rattle.disk_geometry.specs.declared.Geometry.{Geometry}
 use Rattle.disk_volume.specs.declared.Wanted.{Wanted}

@@ -5,6 +5,13 @@ use Prim.Native.Nat.{ℕ, _/_, _%_, _*_}
 use lib.Dec.{leb, eqb}
 use Rattle.lists.specs.Bytes.{byte, part, all}
 
+-- "3FH matches any byte", and the blank, 20H
+abbrev pub WILDCARD : ℕ
+WILDCARD = 0x3F
+
+abbrev pub BLANK : ℕ
+BLANK = 0x20
+
 -- the bytes without their top bits
 unfoldable pub strip : List ℕ → List ℕ
 strip [] = []

@@ -7,7 +7,7 @@ use Prim.Native.Nat.{ℕ, _+_, _/_, _%_, _≤_}
 use lib.Dec.{ltb, eqb}
 use lib.ListN.{replicate}
 use Rattle.lists.specs.Bytes.{part, put}
-use Rattle.lists.specs.Search.{fold}
+use Rattle.lists.specs.Bounded.{fold}
 use Rattle.disk_geometry.specs.declared.Geometry.{Geometry}
 use Rattle.disk_volume.specs.declared.Wanted.the-variants.{Group}
 use Rattle.disk_geometry.specs.Geometry.{records, slots, start, recordStart, groupOf, placeOf}

@@ -2,6 +2,7 @@
 
 pub mod directory;
 pub mod entry;
+pub mod fields;
 pub mod names;
 
 // What a search of the directory looks for.

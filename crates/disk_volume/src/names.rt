@@ -5,6 +5,14 @@ ghost use Prim.Native.Nat.{_+_, _<_};
 ghost use lib.ListN.{length};
 ghost use Rattle.disk_volume.specs.Name.{strip, same, like, goodName};
 
+// The byte that matches any byte in a pattern, and the blank.
+pub const WILDCARD: u8 = 0x3F;
+
+pub const BLANK: u8 = 0x20;
+
+// What a top bit counts in its byte.
+pub const TOP_BIT: u8 = 128;
+
 // Are the two names the same?
 pub fn same_name(a: &[u8], b: &[u8]) -> bool
     requires { ⌜ (length (now a) ≡ 11) × (length (now b) ≡ 11) ⌝ }

@@ -4,11 +4,12 @@ use mathlib.Core.Bool.{true}
 use mathlib.Core.List.{List, [], _∷_, _++_}
 use Prim.Native.Nat.{ℕ}
 use lib.ListN.{replicate}
+use Rattle.disk_geometry.specs.Geometry.{geometryOf}
 use Rattle.lists.specs.Bytes.{part, all}
-use Rattle.call_search.specs.declared.Kept.the-variants.{Pattern}
+use Rattle.call_search.specs.declared.SearchKind.the-variants.{Pattern}
 use Rattle.filecalls.specs.declared.Drive.{Drive}
 use Rattle.numbers.specs.Numbers.{bytesOf, number, bytesFrom}
-use Rattle.drive_bytes.specs.Layout.{headBytes, keptBytes, searchBytes, heldBytes, encoded, kindOf, fields, isDrive, decoded}
+use Rattle.drive_bytes.specs.Layout.{headBytes, keptBytes, searchBytes, heldBytes, encoded, kindStored, fields, isDrive, decoded}
 
 -- SIGLA???.TX? with ex 3FH
 abbrev pattern : List ℕ
@@ -18,7 +19,7 @@ pattern = 83 ∷ 73 ∷ 71 ∷ 76 ∷ 65 ∷ 63 ∷ 63 ∷ 63 ∷ 84 ∷ 88 ∷ 
 abbrev sample : Drive
 sample =
     record {
-      geometry = record { block = 2048; total = 256; directory = 2 };
+      geometry = geometryOf 2048 256 2;
       user = 3;
       protected = true;
       search = record { kind = Pattern; user = 9; last = 300; pattern = pattern };
@@ -38,5 +39,5 @@ unfolding encoded headBytes searchBytes keptBytes heldBytes bytesOf bytesFrom
 encodes = refl
 
 decodes : decoded sampleBytes ≡ sample
-unfolding decoded isDrive fields kindOf number part all
+unfolding decoded isDrive fields kindStored number part all
 decodes = refl

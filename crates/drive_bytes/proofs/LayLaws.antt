@@ -10,8 +10,8 @@ use lib.Seq.{length-take-le, take-append-add, take-at, take-all}
 use Rattle.lists.specs.Bytes.{put}
 use Rattle.lists.proofs.PartLaws.{length-put}
 use Rattle.disk_geometry.specs.declared.Geometry.{Geometry}
-use Rattle.call_search.specs.declared.Kept.{Kept}
-use Rattle.call_search.specs.declared.Kept.the-variants.{Nothing, Pattern, Everything}
+use Rattle.call_search.specs.declared.SearchKind.{SearchKind}
+use Rattle.call_search.specs.declared.SearchKind.the-variants.{Nothing, Pattern, Everything}
 use Rattle.numbers.specs.Numbers.{bytesOf, bytesFrom}
 use Rattle.drive_bytes.specs.Layout.{headBytes, keptBytes, searchBytes, heldBytes}
 use Rattle.numbers.proofs.NumberLaws.{bytes-from}
@@ -60,7 +60,7 @@ pub length-head : (g : Geometry) (user : ℕ) (protected : Bool) → length (hea
 unfolding headBytes bytesOf
 length-head g user protected = refl
 
-pub length-search : (kind : Kept) (user last : ℕ) (pattern : List ℕ) → length (searchBytes kind user last pattern) ≡ 16
+pub length-search : (kind : SearchKind) (user last : ℕ) (pattern : List ℕ) → length (searchBytes kind user last pattern) ≡ 16
 unfolding searchBytes keptBytes bytesOf bytesFrom
 length-search Nothing user last pattern = refl
 length-search Pattern user last pattern = refl

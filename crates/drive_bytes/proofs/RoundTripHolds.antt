@@ -12,14 +12,14 @@ use Rattle.lists.specs.Bytes.{byte, part, all}
 use Rattle.lists.proofs.BoolLaws.{and-parts}
 use Rattle.lists.proofs.PartLaws.{length-part}
 use Rattle.disk_geometry.specs.Geometry.{lawful}
-use Rattle.call_search.specs.declared.Kept.{Kept}
-use Rattle.call_search.specs.declared.Kept.the-variants.{Nothing, Pattern, Everything}
+use Rattle.call_search.specs.declared.SearchKind.{SearchKind}
+use Rattle.call_search.specs.declared.SearchKind.the-variants.{Nothing, Pattern, Everything}
 use Rattle.filecalls.specs.declared.Drive.{Drive}
 use Rattle.filecalls.specs.State.{isOpen, closed, noSearch}
 use Rattle.filecalls.specs.Outcome.{withSearch}
 use Rattle.filecalls.specs.Search.{isKept}
 use Rattle.numbers.specs.Numbers.{Bytes, bytesOf, number, bytesFrom, zeros}
-use Rattle.drive_bytes.specs.Layout.{headBytes, keptBytes, searchBytes, heldBytes, encoded, kindOf, fields, isDrive, decoded}
+use Rattle.drive_bytes.specs.Layout.{headBytes, keptBytes, searchBytes, heldBytes, encoded, kindStored, fields, isDrive, decoded}
 use Rattle.drive_bytes.specs.RoundTrip.{Carried, DecodeEncode, EncodeDecode, ReadCarried, ClosedIsZeros}
 use Rattle.numbers.proofs.NumberLaws.{number-bytes, bytes-number, number-low, part-bytes, bytes-from, zeros-are}
 use Rattle.drive_bytes.proofs.LoadLaws.{drive-whole}
@@ -39,7 +39,7 @@ flag-is x h = elim (ℕ-discrete x 1) [
 drive-encoded : (d : Drive) → isDrive (encoded d) ≡ true
 drive-encoded d = go (d .search .kind) (d .protected) refl refl
   where
-    go : (k : Kept) (p : Bool) → d .search .kind ≡ k → d .protected ≡ p → isDrive (encoded d) ≡ true
+    go : (k : SearchKind) (p : Bool) → d .search .kind ≡ k → d .protected ≡ p → isDrive (encoded d) ≡ true
     go Nothing true e h = unfold isDrive encoded headBytes searchBytes heldBytes bytesOf part all in rw (e, h)
     go Nothing false e h = unfold isDrive encoded headBytes searchBytes heldBytes bytesOf part all in rw (e, h)
     go Pattern true e h = unfold isDrive encoded headBytes searchBytes keptBytes heldBytes bytesOf bytesFrom part all in rw (e, h)
@@ -53,12 +53,12 @@ around d search = headBytes (d .geometry) (d .user) (d .protected) ++ search ++ 
 
 module _ (d : Drive) (c : Carried d) where
   idle-back : fields (around d (replicate 16 0)) ≡ withSearch d noSearch
-  unfolding fields kindOf number headBytes heldBytes bytesOf bytesFrom part
+  unfolding fields kindStored number headBytes heldBytes bytesOf bytesFrom part
   idle-back =
       rw (
-        number-bytes 2 (d .geometry .block) (c .block),
-        number-bytes 2 (d .geometry .total) (c .total),
-        number-bytes 2 (d .geometry .directory) (c .directory),
+        number-bytes 2 (d .geometry .«block_bytes») (c .block-bytes-16),
+        number-bytes 2 (d .geometry .blocks) (c .blocks-16),
+        number-bytes 2 (d .geometry .«directory_blocks») (c .directory-blocks-16),
         flag-back (d .protected),
         number-bytes 8 (byte (d .held) 0) (c .words 0),
         number-bytes 8 (byte (d .held) 1) (c .words 1),
@@ -69,13 +69,13 @@ module _ (d : Drive) (c : Carried d) where
 
   kept-back : (kind : ℕ) → let q = d .search in
       fields (around d (keptBytes kind (q .user) (q .last) (q .pattern)))
-      ≡ withSearch d (record { kind = kindOf kind; user = q .user; last = q .last; pattern = q .pattern })
+      ≡ withSearch d (record { kind = kindStored kind; user = q .user; last = q .last; pattern = q .pattern })
   unfolding fields headBytes heldBytes keptBytes bytesOf bytesFrom part
   kept-back kind =
       rw (
-        number-bytes 2 (d .geometry .block) (c .block),
-        number-bytes 2 (d .geometry .total) (c .total),
-        number-bytes 2 (d .geometry .directory) (c .directory),
+        number-bytes 2 (d .geometry .«block_bytes») (c .block-bytes-16),
+        number-bytes 2 (d .geometry .blocks) (c .blocks-16),
+        number-bytes 2 (d .geometry .«directory_blocks») (c .directory-blocks-16),
         flag-back (d .protected),
         number-bytes 2 (d .search .last) (c .last),
         bytes-from (d .search .pattern) 12 (c .pattern),
@@ -90,18 +90,18 @@ module _ (d : Drive) (c : Carried d) where
   fields-encoded = go (d .search .kind) refl
     where
       -- the search's bytes by its kind
-      by-kind : {k : Kept} → d .search .kind ≡ k → fields (encoded d) ≡ fields (around d (searchBytes k (d .search .user) (d .search .last) (d .search .pattern)))
-      by-kind e = unfold encoded in ap (λ (k : Kept). fields (around d (searchBytes k (d .search .user) (d .search .last) (d .search .pattern)))) e
+      by-kind : {k : SearchKind} → d .search .kind ≡ k → fields (encoded d) ≡ fields (around d (searchBytes k (d .search .user) (d .search .last) (d .search .pattern)))
+      by-kind e = unfold encoded in ap (λ (k : SearchKind). fields (around d (searchBytes k (d .search .user) (d .search .last) (d .search .pattern)))) e
 
       -- the search is the one with its own kind
-      own-kind : {k : Kept} → d .search .kind ≡ k
+      own-kind : {k : SearchKind} → d .search .kind ≡ k
           → withSearch d (record { kind = k; user = d .search .user; last = d .search .last; pattern = d .search .pattern }) ≡ d
-      own-kind e = ap (λ (k : Kept). withSearch d (record { kind = k; user = d .search .user; last = d .search .last; pattern = d .search .pattern })) (sym e)
+      own-kind e = ap (λ (k : SearchKind). withSearch d (record { kind = k; user = d .search .user; last = d .search .last; pattern = d .search .pattern })) (sym e)
 
-      go : (k : Kept) → d .search .kind ≡ k → fields (encoded d) ≡ d
+      go : (k : SearchKind) → d .search .kind ≡ k → fields (encoded d) ≡ d
       go Nothing e = unfold searchBytes in by-kind e ∙ idle-back ∙ ap (withSearch d) (sym (c .idle e))
-      go Pattern e = unfold searchBytes kindOf in by-kind e ∙ kept-back 1 ∙ own-kind e
-      go Everything e = unfold searchBytes kindOf in by-kind e ∙ kept-back 2 ∙ own-kind e
+      go Pattern e = unfold searchBytes kindStored in by-kind e ∙ kept-back 1 ∙ own-kind e
+      go Everything e = unfold searchBytes kindStored in by-kind e ∙ kept-back 2 ∙ own-kind e
 
 pub decode-encode : DecodeEncode
 unfolding decoded
@@ -121,8 +121,8 @@ open-drive s e = go (isDrive s) refl
         absurd (false≢true (k ∙ e))
 
 -- byte 8 is zero where it says that no search is kept
-idle-kind : (x : ℕ) → kindOf x ≡ Nothing → x ≡ 0
-unfolding kindOf
+idle-kind : (x : ℕ) → kindStored x ≡ Nothing → x ≡ 0
+unfolding kindStored
 idle-kind x e = go (ℕ-discrete x 0) (ℕ-discrete x 1)
   where
     go : Dec (x ≡ 0) → Dec (x ≡ 1) → x ≡ 0
@@ -185,14 +185,14 @@ module _ (s : List ℕ) (bytes : Bytes s) (drive : isDrive s ≡ true) where
       let z : zeros (part s 9 15) ≡ true = rw (eq-eqb (byte s 8) 0 e) at (laid .idle) in
       ap₂ (λ (x : ℕ) (y : List ℕ). x ∷ y) (sym e) (zeros-from 9 15 (omega arith) z)
 
-  search-back : searchBytes (kindOf (byte s 8)) (byte s 9) (number (part s 10 2)) (part s 12 12) ≡ bytesFrom s 8 16
+  search-back : searchBytes (kindStored (byte s 8)) (byte s 9) (number (part s 10 2)) (part s 12 12) ≡ bytesFrom s 8 16
   search-back = go (ℕ-discrete (byte s 8) 0) (ℕ-discrete (byte s 8) 1)
     where
-      go : Dec (byte s 8 ≡ 0) → Dec (byte s 8 ≡ 1) → searchBytes (kindOf (byte s 8)) (byte s 9) (number (part s 10 2)) (part s 12 12) ≡ bytesFrom s 8 16
-      go (yes e) f = unfold searchBytes kindOf in rw (eq-eqb (byte s 8) 0 e) (idle-bytes e)
-      go (no n) (yes e) = unfold searchBytes kindOf in rw (ne-eqb (byte s 8) 0 n, eq-eqb (byte s 8) 1 e) (kept-as e)
+      go : Dec (byte s 8 ≡ 0) → Dec (byte s 8 ≡ 1) → searchBytes (kindStored (byte s 8)) (byte s 9) (number (part s 10 2)) (part s 12 12) ≡ bytesFrom s 8 16
+      go (yes e) f = unfold searchBytes kindStored in rw (eq-eqb (byte s 8) 0 e) (idle-bytes e)
+      go (no n) (yes e) = unfold searchBytes kindStored in rw (ne-eqb (byte s 8) 0 n, eq-eqb (byte s 8) 1 e) (kept-as e)
       go (no n) (no m) =
-          unfold searchBytes kindOf in rw (ne-eqb (byte s 8) 0 n, ne-eqb (byte s 8) 1 m) (kept-as {kind = 2} (omega (arith, laid .kind)))
+          unfold searchBytes kindStored in rw (ne-eqb (byte s 8) 0 n, ne-eqb (byte s 8) 1 m) (kept-as {kind = 2} (omega (arith, laid .kind)))
 
   -- the same, by the state's fields
   search-fields : let q = fields s .search in searchBytes (q .kind) (q .user) (q .last) (q .pattern) ≡ bytesFrom s 8 16
@@ -215,7 +215,7 @@ module _ (s : List ℕ) (bytes : Bytes s) (drive : isDrive s ≡ true) where
   words-low (suc (suc (suc zero))) = low 56 8 (omega arith)
   words-low (suc (suc (suc (suc k)))) = omega arith
 
-  idle-search : kindOf (byte s 8) ≡ Nothing → fields s .search ≡ noSearch
+  idle-search : kindStored (byte s 8) ≡ Nothing → fields s .search ≡ noSearch
   unfolding fields number bytesFrom part
   idle-search e =
       let z : zeros (part s 9 15) ≡ true = rw (eq-eqb (byte s 8) 0 (idle-kind (byte s 8) e)) at (laid .idle) in
@@ -226,9 +226,9 @@ module _ (s : List ℕ) (bytes : Bytes s) (drive : isDrive s ≡ true) where
   unfolding fields
   fields-carried =
       record {
-        block = low 0 2 (omega arith);
-        total = low 2 2 (omega arith);
-        directory = low 4 2 (omega arith);
+        block-bytes-16 = low 0 2 (omega arith);
+        blocks-16 = low 2 2 (omega arith);
+        directory-blocks-16 = low 4 2 (omega arith);
         last = low 10 2 (omega arith);
         pattern = length-part s 12 12 (omega (arith, size));
         four = refl;

@@ -7,10 +7,11 @@ use mathlib.Core.List.{List, [], _∷_, _++_}
 use Prim.Native.Nat.{ℕ}
 use lib.Dec.{leb, eqb}
 use lib.ListN.{length, replicate}
+use Rattle.disk_geometry.specs.Geometry.{blockBytes, blocks, directoryBlocks, geometryOf}
 use Rattle.lists.specs.Bytes.{byte, part}
 use Rattle.disk_geometry.specs.declared.Geometry.{Geometry}
-use Rattle.call_search.specs.declared.Kept.{Kept}
-use Rattle.call_search.specs.declared.Kept.the-variants.{Nothing, Pattern, Everything}
+use Rattle.call_search.specs.declared.SearchKind.{SearchKind}
+use Rattle.call_search.specs.declared.SearchKind.the-variants.{Nothing, Pattern, Everything}
 use Rattle.filecalls.specs.declared.Drive.{Drive}
 use Rattle.filecalls.specs.State.{closed}
 use Rattle.numbers.specs.Numbers.{bytesOf, number, bytesFrom, zeros}
@@ -19,13 +20,13 @@ use Rattle.numbers.specs.Numbers.{bytesOf, number, bytesFrom, zeros}
 -- 0..7
 unfoldable pub headBytes : Geometry → ℕ → Bool → List ℕ
 headBytes g user protected =
-    bytesOf 2 (g .block) ++ bytesOf 2 (g .total) ++ bytesOf 2 (g .directory) ++ (user ∷ cond protected 1 0 ∷ [])
+    bytesOf 2 (blockBytes g) ++ bytesOf 2 (blocks g) ++ bytesOf 2 (directoryBlocks g) ++ (user ∷ cond protected 1 0 ∷ [])
 
 -- 8..23
 unfoldable pub keptBytes : ℕ → ℕ → ℕ → List ℕ → List ℕ
 keptBytes kind user last pattern = (kind ∷ user ∷ []) ++ bytesOf 2 last ++ bytesFrom pattern 0 12
 
-unfoldable pub searchBytes : Kept → ℕ → ℕ → List ℕ → List ℕ
+unfoldable pub searchBytes : SearchKind → ℕ → ℕ → List ℕ → List ℕ
 searchBytes Nothing user last pattern = replicate 16 0
 searchBytes Pattern user last pattern = keptBytes 1 user last pattern
 searchBytes Everything user last pattern = keptBytes 2 user last pattern
@@ -42,16 +43,16 @@ encoded d =
     ++ heldBytes (d .held)
 
 -- ---- from bytes to the state
-unfoldable pub kindOf : ℕ → Kept
-kindOf n = cond (eqb n 0) Nothing (cond (eqb n 1) Pattern Everything)
+unfoldable pub kindStored : ℕ → SearchKind
+kindStored n = cond (eqb n 0) Nothing (cond (eqb n 1) Pattern Everything)
 
 unfoldable pub fields : List ℕ → Drive
 fields s =
     record {
-      geometry = record { block = number (part s 0 2); total = number (part s 2 2); directory = number (part s 4 2) };
+      geometry = geometryOf (number (part s 0 2)) (number (part s 2 2)) (number (part s 4 2));
       user = byte s 6;
       protected = eqb (byte s 7) 1;
-      search = record { kind = kindOf (byte s 8); user = byte s 9; last = number (part s 10 2); pattern = part s 12 12 };
+      search = record { kind = kindStored (byte s 8); user = byte s 9; last = number (part s 10 2); pattern = part s 12 12 };
       held = number (part s 32 8) ∷ number (part s 40 8) ∷ number (part s 48 8) ∷ number (part s 56 8) ∷ [];
     }
 

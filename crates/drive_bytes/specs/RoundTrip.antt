@@ -5,9 +5,10 @@ use mathlib.Core.Bool.{true}
 use mathlib.Core.List.{List}
 use Prim.Native.Nat.{ℕ, _<_, _^_}
 use lib.ListN.{length, replicate}
+use Rattle.disk_geometry.specs.Geometry.{blockBytes, blocks, directoryBlocks}
 use Rattle.lists.specs.Bytes.{byte}
 use Rattle.numbers.specs.Numbers.{Bytes}
-use Rattle.call_search.specs.declared.Kept.the-variants.{Nothing}
+use Rattle.call_search.specs.declared.SearchKind.the-variants.{Nothing}
 use Rattle.filecalls.specs.declared.Drive.{Drive}
 use Rattle.filecalls.specs.State.{noSearch, isOpen, closed}
 use Rattle.drive_bytes.specs.Layout.{encoded, decoded}
@@ -15,9 +16,9 @@ use Rattle.drive_bytes.specs.Layout.{encoded, decoded}
 -- what 64 bytes can carry of a state: sizes and last slot of 16 bits, twelve bytes of pattern, four words of 64 bits; and
 -- where no search is kept there is nothing beside it. Every state that a log-in or a call leaves is so (crate `emulator`).
 pub record Carried (d : Drive) : Type 0 where
-  pub block : d .geometry .block < 65536
-  pub total : d .geometry .total < 65536
-  pub directory : d .geometry .directory < 65536
+  pub block-bytes-16 : blockBytes (d .geometry) < 65536
+  pub blocks-16 : blocks (d .geometry) < 65536
+  pub directory-blocks-16 : directoryBlocks (d .geometry) < 65536
   pub last : d .search .last < 65536
   pub pattern : length (d .search .pattern) ≡ 12
   pub four : length (d .held) ≡ 4

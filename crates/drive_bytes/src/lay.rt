@@ -2,10 +2,10 @@
 ghost use mathlib.Core.Path.{_≡_};
 ghost use lib.ListN.{length};
 ghost use Rattle.drive_bytes.specs.Layout.{headBytes, keptBytes, searchBytes, heldBytes, encoded};
-use call_search::Kept;
+use call_search::SearchKind;
 use disk_geometry::Geometry;
 use filecalls::Drive;
-use filecalls::Search;
+use filecalls::KeptSearch;
 use numbers::put_eight;
 
 // Lays B, T, D, user and protection into bytes 0 to 7.
@@ -14,12 +14,12 @@ fn put_head(out: &mut [u8], g: Geometry, user: u8, protected: bool)
     ensures { λ _. ⌜ now (out .exit) ≡ headBytes g user protected ⌝ }
 {
     let bytes = [
-        (g.block % 256) as u8,
-        (g.block / 256 % 256) as u8,
-        (g.total % 256) as u8,
-        (g.total / 256 % 256) as u8,
-        (g.directory % 256) as u8,
-        (g.directory / 256 % 256) as u8,
+        (g.block_bytes % 256) as u8,
+        (g.block_bytes / 256 % 256) as u8,
+        (g.blocks % 256) as u8,
+        (g.blocks / 256 % 256) as u8,
+        (g.directory_blocks % 256) as u8,
+        (g.directory_blocks / 256 % 256) as u8,
         user,
         protected as u8,
     ];
@@ -39,16 +39,16 @@ fn put_kept(out: &mut [u8], kind: u8, user: u8, last: usize, pattern: &[u8; 12])
 }
 
 // Lays the search into bytes 8 to 23: zeros where none is kept.
-fn put_search(out: &mut [u8], q: Search)
+fn put_search(out: &mut [u8], q: KeptSearch)
     requires { ⌜ length (now out) ≡ 16 ⌝ }
     ensures { λ _. ⌜ now (out .exit) ≡ searchBytes (q .kind) (q .user) (q .last) (q .pattern) ⌝ }
 {
     let kind = q.kind;
     let pattern = q.pattern;
     match kind {
-        Kept::Nothing => lists::fill(out, 0),
-        Kept::Pattern => put_kept(out, 1, q.user, q.last, &pattern),
-        Kept::Everything => put_kept(out, 2, q.user, q.last, &pattern),
+        SearchKind::Nothing => lists::fill(out, 0),
+        SearchKind::Pattern => put_kept(out, 1, q.user, q.last, &pattern),
+        SearchKind::Everything => put_kept(out, 2, q.user, q.last, &pattern),
     }
 }
 

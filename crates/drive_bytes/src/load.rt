@@ -1,12 +1,12 @@
 // The state read from bytes, and the test that they are laid out as a drive's.
 ghost use mathlib.Core.Path.{_≡_};
 ghost use lib.ListN.{length};
-ghost use Rattle.drive_bytes.specs.Layout.{kindOf, fields, isDrive};
+ghost use Rattle.drive_bytes.specs.Layout.{kindStored, fields, isDrive};
 use crate::DRIVE_BYTES;
-use call_search::Kept;
+use call_search::SearchKind;
 use disk_geometry::Geometry;
 use filecalls::Drive;
-use filecalls::Search;
+use filecalls::KeptSearch;
 use numbers::eight_of;
 use numbers::two_at;
 
@@ -25,16 +25,16 @@ pub(crate) fn is_drive(s: &[u8]) -> bool
 }
 
 // The kind of search that byte 8 says.
-fn kind_of(b: u8) -> Kept
-    ensures { λ r. ⌜ r ≡ kindOf b ⌝ }
+fn kind_stored(b: u8) -> SearchKind
+    ensures { λ r. ⌜ r ≡ kindStored b ⌝ }
 {
     if b == 0 {
-        return Kept::Nothing;
+        return SearchKind::Nothing;
     }
     if b == 1 {
-        return Kept::Pattern;
+        return SearchKind::Pattern;
     }
-    Kept::Everything
+    SearchKind::Everything
 }
 
 // Bytes 0 to 5: B, T and D.
@@ -42,26 +42,26 @@ fn geometry_at(s: &[u8]) -> Geometry
     requires { ⌜ length (now s) ≡ 64 ⌝ }
     ensures { λ r. ⌜ r ≡ fields (now (s .entry)) .geometry ⌝ }
 {
-    let block = two_at(s, 0);
-    let total = two_at(s, 2);
-    let directory = two_at(s, 4);
+    let block_bytes = two_at(s, 0);
+    let blocks = two_at(s, 2);
+    let directory_blocks = two_at(s, 4);
     Geometry {
-        block,
-        total,
-        directory,
+        block_bytes,
+        blocks,
+        directory_blocks,
     }
 }
 
 // Bytes 8 to 23: the kept search.
-fn search_at(s: &[u8]) -> Search
+fn search_at(s: &[u8]) -> KeptSearch
     requires { ⌜ length (now s) ≡ 64 ⌝ }
     ensures { λ r. ⌜ r ≡ fields (now (s .entry)) .search ⌝ }
 {
-    let kind = kind_of(s[8]);
+    let kind = kind_stored(s[8]);
     let last = two_at(s, 10);
     let mut pattern = [0u8; 12];
     lists::copy(&mut pattern, &s[12..24]);
-    Search {
+    KeptSearch {
         kind,
         user: s[9],
         last,

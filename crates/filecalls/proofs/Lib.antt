@@ -5,3 +5,7 @@ pub mod LentLaws
 pub mod WriteLaws
 pub mod SearchLaws
 pub mod NamingLaws
+pub mod SeveralLent
+pub mod PieceLaws
+pub mod SinglesLaws
+pub mod SeveralLaws

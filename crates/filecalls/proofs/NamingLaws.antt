@@ -10,7 +10,7 @@ use Rattle.call_answers.proofs.Ladder.{ladder-append}
 use Rattle.filecalls.specs.declared.Drive.{Drive}
 use Rattle.filecalls.specs.declared.Reply.{Reply}
 use Rattle.filecalls.specs.Outcome.{Change, Store, Act, done, unless, outcome, left, withHeld, changedState, storedAll}
-use Rattle.filecalls.specs.Lent.{namedTests, plainTests}
+use Rattle.filecalls.specs.CodeLadder.{namedTests, plainTests}
 use Rattle.filecalls.proofs.OutcomeLaws.{passes, either, refused-at, decided}
 use Rattle.filecalls.proofs.StateLaws.{Named, no-buffer}
 

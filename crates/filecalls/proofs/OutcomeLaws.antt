@@ -75,7 +75,7 @@ either false x = refl
 
 -- an outcome's answer with all else as given
 abbrev pub sameAll : Outcome → Drive → List ℕ → List ℕ → List ℕ → Outcome
-sameAll o d v f b = record { answer = o .answer; drive = d; volume = v; block = f; buffer = b }
+sameAll o d v f b = record { answer = o .answer; drive = d; volume = v; fcb = f; buffer = b }
 
 -- "A refusal hands back the state as given and alters no lent byte."
 pub outcome-refused : (d : Drive) (v f b : List ℕ) (act : Act) → succeeded (outcome d v f b act .answer) ≡ false

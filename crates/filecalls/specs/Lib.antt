@@ -8,6 +8,7 @@ pub mod Search
 pub mod Names
 pub mod Read
 pub mod Write
+pub mod Several
 pub mod Small
-pub mod Ready
-pub mod Lent
+pub mod CodeReady
+pub mod CodeLadder

@@ -7,7 +7,7 @@ use Prim.Native.Nat.{ℕ}
 use lib.Dec.{ltb, eqb}
 use lib.ListN.{length}
 use Rattle.disk_geometry.specs.declared.Geometry.{Geometry}
-use Rattle.disk_geometry.specs.Geometry.{lawful, bytes, slots}
+use Rattle.disk_geometry.specs.Geometry.{lawful, bytes, slots, blocks, directoryBlocks}
 use Rattle.disk_held.specs.Held.{freeCount}
 use Rattle.call_answers.specs.declared.Refusal.{Refusal}
 use Rattle.call_answers.specs.declared.Refusal.the-variants.{Closed, VolumeLength, BadSlot}
@@ -34,5 +34,5 @@ refusedLogIn why slot = cond (eqb (refusalNumber why) 36) (answer.BadSlot slot) 
 unfoldable pub logIn : Geometry → List ℕ → Reply
 logIn g v =
     cond (isNone (firstMet (logInTests g v)))
-    (record { answer = answer.Ready (freeCount (heldOf g v) (g .directory) (g .total)); drive = loggedIn g (heldOf g v) })
+    (record { answer = answer.Ready (freeCount (heldOf g v) (directoryBlocks g) (blocks g)); drive = loggedIn g (heldOf g v) })
     (record { answer = refusedLogIn (firstMet (logInTests g v)) (lowestBad g v); drive = closed })

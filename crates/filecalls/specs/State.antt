@@ -6,12 +6,12 @@ use lib.Dec.{leb, ltb, eqb}
 use lib.ListN.{replicate}
 use Rattle.lists.specs.Bytes.{byte}
 use Rattle.disk_geometry.specs.declared.Geometry.{Geometry}
-use Rattle.disk_geometry.specs.Geometry.{lawful, slots}
+use Rattle.disk_geometry.specs.Geometry.{lawful, slots, geometryOf}
 use Rattle.disk_volume.specs.Name.{nameAt, goodName}
 use Rattle.disk_held.specs.Held.{noneHeld}
-use Rattle.call_search.specs.declared.Kept.{Kept}
-use Rattle.call_search.specs.declared.Kept.the-variants.{Nothing, Pattern, Everything}
-use Rattle.filecalls.specs.declared.Search.{Search}
+use Rattle.call_search.specs.declared.SearchKind.{SearchKind}
+use Rattle.call_search.specs.declared.SearchKind.the-variants.{Nothing, Pattern, Everything}
+use Rattle.filecalls.specs.declared.KeptSearch.{KeptSearch}
 use Rattle.filecalls.specs.declared.Drive.{Drive}
 
 -- a kept search within the rules: its user is 0..15, its last hit is a slot, and its pattern passed 39 and 40; with dr
@@ -19,7 +19,7 @@ use Rattle.filecalls.specs.declared.Drive.{Drive}
 abbrev pub goodPattern : List ℕ → Bool
 goodPattern pattern = goodName true (nameAt pattern 0) && (leb (byte pattern 11) 31 || eqb (byte pattern 11) 63)
 
-abbrev pub goodKept : Kept → ℕ → ℕ → List ℕ → ℕ → Bool
+abbrev pub goodKept : SearchKind → ℕ → ℕ → List ℕ → ℕ → Bool
 goodKept Nothing user last pattern n = true
 goodKept Everything user last pattern n = leb user 15 && ltb last n
 goodKept Pattern user last pattern n = leb user 15 && ltb last n && goodPattern pattern
@@ -30,14 +30,14 @@ isOpen d =
     lawful (d .geometry) && leb (d .user) 15
     && goodKept (d .search .kind) (d .search .user) (d .search .last) (d .search .pattern) (slots (d .geometry))
 
-abbrev pub noSearch : Search
+abbrev pub noSearch : KeptSearch
 noSearch = record { kind = Nothing; user = 0; last = 0; pattern = replicate 12 0 }
 
 -- "the closed state, one fixed value"
 abbrev pub closed : Drive
 closed =
     record {
-      geometry = record { block = 0; total = 0; directory = 0 };
+      geometry = geometryOf 0 0 0;
       user = 0;
       protected = false;
       search = noSearch;

@@ -9,17 +9,17 @@ use call_answers::Refusal;
 
 impl Drive {
     // Function 19: every matching entry is gone, and its blocks are free.
-    pub fn delete(self, volume: &mut [u8], f: &[u8]) -> Reply
-        ensures { λ r. ⌜ left r (now (volume .exit)) (now (f .entry)) [] ≡ outcome self (now (volume .entry)) (now (f .entry)) [] (deleteAct self (now (volume .entry)) (now (f .entry))) ⌝ }
+    pub fn delete(self, volume: &mut [u8], fcb: &[u8]) -> Reply
+        ensures { λ r. ⌜ left r (now (volume .exit)) (now (fcb .entry)) [] ≡ outcome self (now (volume .entry)) (now (fcb .entry)) [] (deleteAct self (now (volume .entry)) (now (fcb .entry))) ⌝ }
     {
-        let why = self.named_why(volume, f, 128, true);
+        let why = self.named_why(volume, fcb, 128, true);
         if !call_answers::is_none(why) {
             return self.refused(why);
         }
         let before = call_answers::refuse(Refusal::Protected, self.protected);
         let g = self.geometry;
         let held = self.held;
-        let gone = call_delete::delete_matches(g, volume, self.user, &f[1..12], held, before);
+        let gone = call_delete::delete_matches(g, volume, self.user, &fcb[1..12], held, before);
         let why = gone.why;
         let rest = gone.held;
         let mut drive = self;
@@ -28,31 +28,31 @@ impl Drive {
     }
 
     // Function 22: the lowest empty slot gets the file's first entry.
-    pub fn make(self, volume: &mut [u8], f: &mut [u8]) -> Reply
-        ensures { λ r. ⌜ left r (now (volume .exit)) (now (f .exit)) [] ≡ outcome self (now (volume .entry)) (now (f .entry)) [] (makeAct self (now (volume .entry)) (now (f .entry))) ⌝ }
+    pub fn make(self, volume: &mut [u8], fcb: &mut [u8]) -> Reply
+        ensures { λ r. ⌜ left r (now (volume .exit)) (now (fcb .exit)) [] ≡ outcome self (now (volume .entry)) (now (fcb .entry)) [] (makeAct self (now (volume .entry)) (now (fcb .entry))) ⌝ }
     {
-        let why = self.named_why(volume, f, 128, false);
+        let why = self.named_why(volume, fcb, 128, false);
         if !call_answers::is_none(why) {
             return self.refused(why);
         }
-        let file = call_make::new_file_why(f);
+        let file = call_make::new_file_why(fcb);
         let protected = call_answers::refuse(Refusal::Protected, self.protected);
         let before = call_answers::first_of(file, protected);
         let g = self.geometry;
-        let made = call_make::make_file(g, volume, f, self.user, before);
+        let made = call_make::make_file(g, volume, fcb, self.user, before);
         let why = made.why;
         self.answered(why, (made.slot % 4) as u8)
     }
 
     // Function 23: all entries of the file take the new name.
-    pub fn rename(self, volume: &mut [u8], f: &[u8]) -> Reply
-        ensures { λ r. ⌜ left r (now (volume .exit)) (now (f .entry)) [] ≡ outcome self (now (volume .entry)) (now (f .entry)) [] (renameAct self (now (volume .entry)) (now (f .entry))) ⌝ }
+    pub fn rename(self, volume: &mut [u8], fcb: &[u8]) -> Reply
+        ensures { λ r. ⌜ left r (now (volume .exit)) (now (fcb .entry)) [] ≡ outcome self (now (volume .entry)) (now (fcb .entry)) [] (renameAct self (now (volume .entry)) (now (fcb .entry))) ⌝ }
     {
-        let why = self.named_why(volume, f, 128, false);
+        let why = self.named_why(volume, fcb, 128, false);
         if !call_answers::is_none(why) {
             return self.refused(why);
         }
-        let name = call_rename::rename::new_name_why(f);
+        let name = call_rename::rename::new_name_why(fcb);
         let protected = call_answers::refuse(Refusal::Protected, self.protected);
         let before = call_answers::first_of(name, protected);
         let g = self.geometry;
@@ -60,24 +60,24 @@ impl Drive {
             g,
             volume,
             self.user,
-            &f[1..12],
-            &f[17..28],
+            &fcb[1..12],
+            &fcb[17..28],
             before,
         );
         self.answered(why, 0)
     }
 
     // Function 30: all entries of the file take the control block's attribute bits.
-    pub fn set_attributes(self, volume: &mut [u8], f: &[u8]) -> Reply
-        ensures { λ r. ⌜ left r (now (volume .exit)) (now (f .entry)) [] ≡ outcome self (now (volume .entry)) (now (f .entry)) [] (attributesAct self (now (volume .entry)) (now (f .entry))) ⌝ }
+    pub fn set_attributes(self, volume: &mut [u8], fcb: &[u8]) -> Reply
+        ensures { λ r. ⌜ left r (now (volume .exit)) (now (fcb .entry)) [] ≡ outcome self (now (volume .entry)) (now (fcb .entry)) [] (attributesAct self (now (volume .entry)) (now (fcb .entry))) ⌝ }
     {
-        let why = self.named_why(volume, f, 128, false);
+        let why = self.named_why(volume, fcb, 128, false);
         if !call_answers::is_none(why) {
             return self.refused(why);
         }
         let before = call_answers::refuse(Refusal::Protected, self.protected);
         let g = self.geometry;
-        let why = call_rename::rename::mark_file(g, volume, self.user, &f[1..12], before);
+        let why = call_rename::rename::attribute_file(g, volume, self.user, &fcb[1..12], before);
         self.answered(why, 0)
     }
 }

@@ -7,29 +7,29 @@ ghost use lib.ListN.{length};
 ghost use Rattle.disk_geometry.specs.Geometry.{slots};
 ghost use Rattle.call_answers.specs.declared.Refusal.the-variants.{NoMatch};
 ghost use Rattle.call_answers.specs.Refusal.{test, firstMet};
-ghost use Rattle.filecalls.specs.Lent.{firstLent};
+ghost use Rattle.filecalls.specs.CodeLadder.{firstLent};
 ghost use Rattle.filecalls.specs.Outcome.{unless, outcome, left};
-ghost use Rattle.filecalls.specs.Search.{hit, shown, keptAt, isKept, searchFirstAct, searchNextAct};
-ghost use Rattle.filecalls.specs.Ready.{Lent};
+ghost use Rattle.filecalls.specs.Search.{hit, hitAct, keptAt, isKept, searchFirstAct, searchNextAct};
+ghost use Rattle.filecalls.specs.CodeReady.{Lent};
 use crate::Drive;
+use crate::KeptSearch;
 use crate::Reply;
-use crate::Search;
 use call_answers::Refusal;
-use call_search::Kept;
+use call_search::SearchKind;
 
 // Is a search open?
-fn is_open_search(kind: Kept) -> bool
+fn is_open_search(kind: SearchKind) -> bool
     ensures { λ r. ⌜ r ≡ isKept kind ⌝ }
 {
     match kind {
-        Kept::Nothing => false,
-        Kept::Pattern => true,
-        Kept::Everything => true,
+        SearchKind::Nothing => false,
+        SearchKind::Pattern => true,
+        SearchKind::Everything => true,
     }
 }
 
 // The search with its last hit in this slot.
-fn kept_at(search: Search, slot: usize) -> Search
+fn kept_at(search: KeptSearch, slot: usize) -> KeptSearch
     ensures { λ r. ⌜ r ≡ keptAt search slot ⌝ }
 {
     let mut kept = search;
@@ -39,26 +39,29 @@ fn kept_at(search: Search, slot: usize) -> Search
 
 impl Drive {
     // 32 to 35, then 42, 39 and 40 of a search.
-    fn first_why(self, volume: &[u8], f: &[u8], buffer: &[u8]) -> Refusal
-        ensures { λ r. ⌜ r ≡ firstMet (firstLent self (now (volume .entry)) (now (f .entry)) (now (buffer .entry))) ⌝ }
+    fn first_why(self, volume: &[u8], fcb: &[u8], buffer: &[u8]) -> Refusal
+        ensures { λ r. ⌜ r ≡ firstMet (firstLent self (now (volume .entry)) (now (fcb .entry)) (now (buffer .entry))) ⌝ }
     {
-        let why = self.lent_why(volume.len(), f.len(), buffer.len());
+        let why = self.lent_why(volume.len(), fcb.len(), buffer.len());
         if !call_answers::is_none(why) {
             return why;
         }
-        let examined = f[0] != 63;
-        let good = disk_volume::names::good_name(true, &f[1..12]);
-        let a = call_answers::refuse(Refusal::DriveCode, (1 < f[0]) & examined);
+        let examined = fcb[0] != 63;
+        let good = disk_volume::names::good_name(true, &fcb[1..12]);
+        let a = call_answers::refuse(Refusal::DriveCode, (1 < fcb[0]) & examined);
         let b = call_answers::refuse(Refusal::Name, examined & !good);
-        let c = call_answers::refuse(Refusal::Position, examined & (31 < f[12]) & (f[12] != 63));
+        let c = call_answers::refuse(
+            Refusal::Position,
+            examined & (31 < fcb[12]) & (fcb[12] != 63),
+        );
         call_answers::first_of(a, call_answers::first_of(b, c))
     }
 
     // The search from slot `from` on, where the tests of what is lent have passed.
-    fn search_on(self, volume: &[u8], buffer: &mut [u8], search: Search, from: usize) -> Reply
+    fn search_on(self, volume: &[u8], buffer: &mut [u8], search: KeptSearch, from: usize) -> Reply
         requires { ⌜ Lent self (length (now volume)) 36 (length (now buffer)) ⌝ }
         requires { ⌜ from ≤ slots (self .geometry) ⌝ }
-        ensures { λ r. ⌜ ((f : List ℕ) → left r (now (volume .entry)) f (now (buffer .exit)) ≡ outcome self (now (volume .entry)) f (now (buffer .entry)) (unless (test NoMatch (leb (slots (self .geometry)) (hit (self .geometry) (now (volume .entry)) search from)) ∷ []) (shown self (now (volume .entry)) f search (hit (self .geometry) (now (volume .entry)) search from)))) ⌝ }
+        ensures { λ r. ⌜ ((fcb : List ℕ) → left r (now (volume .entry)) fcb (now (buffer .exit)) ≡ outcome self (now (volume .entry)) fcb (now (buffer .entry)) (unless (test NoMatch (leb (slots (self .geometry)) (hit (self .geometry) (now (volume .entry)) search from)) ∷ []) (hitAct self (now (volume .entry)) fcb search (hit (self .geometry) (now (volume .entry)) search from)))) ⌝ }
     {
         let g = self.geometry;
         let kind = search.kind;
@@ -82,16 +85,16 @@ impl Drive {
     }
 
     // Function 17: starts at slot 0, and keeps pattern and user.
-    pub fn search_first(self, volume: &[u8], f: &[u8], buffer: &mut [u8]) -> Reply
-        ensures { λ r. ⌜ left r (now (volume .entry)) (now (f .entry)) (now (buffer .exit)) ≡ outcome self (now (volume .entry)) (now (f .entry)) (now (buffer .entry)) (searchFirstAct self (now (volume .entry)) (now (f .entry)) (now (buffer .entry))) ⌝ }
+    pub fn search_first(self, volume: &[u8], fcb: &[u8], buffer: &mut [u8]) -> Reply
+        ensures { λ r. ⌜ left r (now (volume .entry)) (now (fcb .entry)) (now (buffer .exit)) ≡ outcome self (now (volume .entry)) (now (fcb .entry)) (now (buffer .entry)) (searchFirstAct self (now (volume .entry)) (now (fcb .entry)) (now (buffer .entry))) ⌝ }
     {
-        let why = self.first_why(volume, f, buffer);
+        let why = self.first_why(volume, fcb, buffer);
         if !call_answers::is_none(why) {
             return self.refused(why);
         }
-        let kind = call_search::search::kind_of(f[0]);
-        let pattern = call_search::search::pattern_of(f);
-        let search = Search {
+        let kind = call_search::search::kind_asked(fcb[0]);
+        let pattern = call_search::search::pattern_of(fcb);
+        let search = KeptSearch {
             kind,
             user: self.user,
             last: 0,

@@ -11,18 +11,18 @@ use call_answers::Refusal;
 
 impl Drive {
     // 32, 34, 42 and 40 of function 36, which is lent no volume.
-    fn position_why(self, f: &[u8]) -> Refusal
-        ensures { λ r. ⌜ r ≡ firstMet (setRandomTests self (now (f .entry))) ⌝ }
+    fn position_why(self, fcb: &[u8]) -> Refusal
+        ensures { λ r. ⌜ r ≡ firstMet (setRandomTests self (now (fcb .entry))) ⌝ }
     {
         if !self.is_open() {
             return Refusal::Closed;
         }
-        let whole = f.len() == 36;
+        let whole = fcb.len() == 36;
         if !whole {
-            return Refusal::BlockLength;
+            return Refusal::FcbLength;
         }
-        let fits = (f[12] <= 31) & (f[14] <= 15) & (f[32] <= 128);
-        let a = call_answers::refuse(Refusal::DriveCode, 1 < f[0]);
+        let fits = (fcb[12] <= 31) & (fcb[14] <= 15) & (fcb[32] <= 128);
+        let a = call_answers::refuse(Refusal::DriveCode, 1 < fcb[0]);
         let b = call_answers::refuse(Refusal::Position, !fits);
         call_answers::first_of(a, b)
     }
@@ -58,15 +58,15 @@ impl Drive {
     }
 
     // Function 36: the sequential position in r0 r1 r2.
-    pub fn set_random(self, f: &mut [u8]) -> Reply
-        ensures { λ r. ⌜ left r [] (now (f .exit)) [] ≡ outcome self [] (now (f .entry)) [] (setRandomAct self (now (f .entry))) ⌝ }
+    pub fn set_random(self, fcb: &mut [u8]) -> Reply
+        ensures { λ r. ⌜ left r [] (now (fcb .exit)) [] ≡ outcome self [] (now (fcb .entry)) [] (setRandomAct self (now (fcb .entry))) ⌝ }
     {
-        let why = self.position_why(f);
+        let why = self.position_why(fcb);
         if !call_answers::is_none(why) {
             return self.refused(why);
         }
-        let n = call_fcb::position_of(f);
-        call_fcb::set_random(f, n);
+        let n = call_fcb::position_of(fcb);
+        call_fcb::set_random(fcb, n);
         self.done(0)
     }
 }

@@ -7,11 +7,11 @@ ghost use Rattle.call_answers.specs.declared.Answer.the-variants.{Done, Refused
 ghost use Rattle.filecalls.specs.declared.Reply.{Reply};
 ghost use Rattle.filecalls.specs.State.{goodPattern, goodKept, isOpen, closed};
 use crate::Drive;
+use crate::KeptSearch;
 use crate::Reply;
-use crate::Search;
 use call_answers::Answer;
 use call_answers::Refusal;
-use call_search::Kept;
+use call_search::SearchKind;
 use disk_geometry::Geometry;
 
 // Did the pattern pass 39 and 40?
@@ -24,14 +24,14 @@ fn is_pattern(pattern: &[u8]) -> bool
 }
 
 // Is a kept search of this kind within the rules, n being the number of slots?
-fn is_kept(kind: Kept, user: u8, last: usize, pattern: &[u8], n: usize) -> bool
+fn is_kept(kind: SearchKind, user: u8, last: usize, pattern: &[u8], n: usize) -> bool
     requires { ⌜ length (now pattern) ≡ 12 ⌝ }
     ensures { λ r. ⌜ r ≡ goodKept kind user last (now (pattern .entry)) n ⌝ }
 {
     match kind {
-        Kept::Nothing => true,
-        Kept::Pattern => (user <= 15) & (last < n) & is_pattern(pattern),
-        Kept::Everything => (user <= 15) & (last < n),
+        SearchKind::Nothing => true,
+        SearchKind::Pattern => (user <= 15) & (last < n) & is_pattern(pattern),
+        SearchKind::Everything => (user <= 15) & (last < n),
     }
 }
 
@@ -41,13 +41,13 @@ impl Drive {
         ensures { λ r. ⌜ r ≡ closed ⌝ }
     {
         let geometry = Geometry {
-            block: 0,
-            total: 0,
-            directory: 0,
+            block_bytes: 0,
+            blocks: 0,
+            directory_blocks: 0,
         };
         let pattern = [0u8; 12];
-        let search = Search {
-            kind: Kept::Nothing,
+        let search = KeptSearch {
+            kind: SearchKind::Nothing,
             user: 0,
             last: 0,
             pattern,

@@ -2,64 +2,70 @@
 ghost use mathlib.Core.Path.{_≡_};
 ghost use mathlib.Core.Bool.{false};
 ghost use Rattle.call_answers.specs.Refusal.{firstMet};
-ghost use Rattle.filecalls.specs.Lent.{lentTests, namedTests, sequentialLent, randomLent};
+ghost use Rattle.filecalls.specs.CodeLadder.{lentTests, namedTests, sequentialLent, randomLent};
 use crate::Drive;
 use call_answers::Refusal;
 
 impl Drive {
     // 32, 33, 34, 35 by the lengths that are lent; a length that is not lent is given as the right one.
-    pub(crate) fn lent_why(self, volume: usize, block: usize, buffer: usize) -> Refusal
-        ensures { λ r. ⌜ r ≡ firstMet (lentTests self volume block buffer) ⌝ }
+    pub(crate) fn lent_why(self, volume: usize, fcb: usize, buffer: usize) -> Refusal
+        ensures { λ r. ⌜ r ≡ firstMet (lentTests self volume fcb buffer) ⌝ }
     {
         if !self.is_open() {
             return Refusal::Closed;
         }
         let g = self.geometry;
         let a = call_answers::refuse(Refusal::VolumeLength, volume != g.bytes());
-        let b = call_answers::refuse(Refusal::BlockLength, block != 36);
+        let b = call_answers::refuse(Refusal::FcbLength, fcb != 36);
         let c = call_answers::refuse(Refusal::BufferLength, buffer != 128);
         call_answers::first_of(a, call_answers::first_of(b, c))
     }
 
     // The same, then 42 and 39.
-    pub(crate) fn named_why(self, volume: &[u8], f: &[u8], buffer: usize, pattern: bool) -> Refusal
-        ensures { λ r. ⌜ r ≡ firstMet (namedTests self (now (volume .entry)) (now (f .entry)) buffer pattern) ⌝ }
+    pub(crate) fn named_why(
+        self,
+        volume: &[u8],
+        fcb: &[u8],
+        buffer: usize,
+        pattern: bool,
+    ) -> Refusal
+        ensures { λ r. ⌜ r ≡ firstMet (namedTests self (now (volume .entry)) (now (fcb .entry)) buffer pattern) ⌝ }
     {
-        let why = self.lent_why(volume.len(), f.len(), buffer);
+        let why = self.lent_why(volume.len(), fcb.len(), buffer);
         if !call_answers::is_none(why) {
             return why;
         }
-        let a = call_answers::refuse(Refusal::DriveCode, 1 < f[0]);
+        let a = call_answers::refuse(Refusal::DriveCode, 1 < fcb[0]);
         let b = call_answers::refuse(
             Refusal::Name,
-            !disk_volume::names::good_name(pattern, &f[1..12]),
+            !disk_volume::names::good_name(pattern, &fcb[1..12]),
         );
         call_answers::first_of(a, b)
     }
 
     // The same, then 40 and 6 of a sequential call.
-    pub(crate) fn sequential_why(self, volume: &[u8], f: &[u8], buffer: usize) -> Refusal
-        ensures { λ r. ⌜ r ≡ firstMet (sequentialLent self (now (volume .entry)) (now (f .entry)) buffer) ⌝ }
+    pub(crate) fn sequential_why(self, volume: &[u8], fcb: &[u8], buffer: usize) -> Refusal
+        ensures { λ r. ⌜ r ≡ firstMet (sequentialLent self (now (volume .entry)) (now (fcb .entry)) buffer) ⌝ }
     {
-        let why = self.named_why(volume, f, buffer, false);
+        let why = self.named_why(volume, fcb, buffer, false);
         if !call_answers::is_none(why) {
             return why;
         }
-        let fits = (f[12] <= 31) & (f[14] <= 15) & (f[32] <= 128);
-        let n = call_fcb::position_of(f);
+        let fits = (fcb[12] <= 31) & (fcb[14] <= 15) & (fcb[32] <= 128);
+        let n = call_fcb::position_of(fcb);
         let a = call_answers::refuse(Refusal::Position, !fits);
         let b = call_answers::refuse(Refusal::Beyond, n == 65536);
         call_answers::first_of(a, b)
     }
 
     // 32 to 35, 42 and 39, then 6 of a random call.
-    pub(crate) fn random_why(self, volume: &[u8], f: &[u8], buffer: usize) -> Refusal
-        ensures { λ r. ⌜ r ≡ firstMet (randomLent self (now (volume .entry)) (now (f .entry)) buffer) ⌝ }
+    pub(crate) fn random_why(self, volume: &[u8], fcb: &[u8], buffer: usize) -> Refusal
+        ensures { λ r. ⌜ r ≡ firstMet (randomLent self (now (volume .entry)) (now (fcb .entry)) buffer) ⌝ }
     {
-        let why = self.named_why(volume, f, buffer, false);
+        let why = self.named_why(volume, fcb, buffer, false);
         if !call_answers::is_none(why) {
             return why;
         }
-        call_answers::refuse(Refusal::Beyond, f[35] != 0)
+        call_answers::refuse(Refusal::Beyond, fcb[35] != 0)
     }
 }

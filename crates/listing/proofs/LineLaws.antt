@@ -8,7 +8,7 @@ use native.Mathlib.Omega.{arith}
 use lib.Dec.{eqb}
 use lib.ListN.{length, length-append, length-take}
 use borrow.Author.Tests.{eqb-true, ne-eqb, not-true}
-use Rattle.lists.specs.Search.{countFrom, fold}
+use Rattle.lists.specs.Bounded.{countFrom, fold}
 use Rattle.lists.specs.Bytes.{byte, part}
 use Rattle.lists.proofs.BoolLaws.{and-left}
 use Rattle.disk_held.proofs.CountLaws.{count-not}

@@ -4,11 +4,11 @@ use mathlib.Core.Bool.{Bool, not, cond, _&&_}
 use mathlib.Core.List.{List, [], _∷_, _++_}
 use Prim.Native.Nat.{ℕ, zero, suc, _+_}
 use lib.Dec.{eqb}
-use Rattle.lists.specs.Search.{countFrom, fold}
+use Rattle.lists.specs.Bounded.{countFrom, fold}
 use Rattle.lists.specs.Bytes.{byte, part}
 use Rattle.disk_geometry.specs.declared.Geometry.{Geometry}
 use Rattle.disk_volume.specs.declared.Wanted.the-variants.{File}
-use Rattle.disk_geometry.specs.Geometry.{slots, places}
+use Rattle.disk_geometry.specs.Geometry.{slots, places, geometryOf}
 use Rattle.disk_volume.specs.Name.{strip, nameOf}
 use Rattle.disk_volume.specs.Entry.{Entry, isEmpty, blockIn, ofFile}
 use Rattle.disk_volume.specs.Directory.{slotAt, findSlot}
@@ -21,7 +21,7 @@ use Rattle.filecalls.specs.LogIn.{logIn}
 
 -- "a volume of V's geometry (40,960 bytes)": B 1,024, T 40, D 1
 abbrev pub geometryV : Geometry
-geometryV = record { block = 1024; total = 40; directory = 1 }
+geometryV = geometryOf 1024 40 1
 
 -- what stands between and behind the words
 abbrev pub blank : List ℕ

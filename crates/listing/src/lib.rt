@@ -21,9 +21,9 @@ fn geometry() -> Geometry
     ensures { λ r. ⌜ r ≡ geometryV ⌝ }
 {
     Geometry {
-        block: 1024,
-        total: 40,
-        directory: 1,
+        block_bytes: 1024,
+        blocks: 40,
+        directory_blocks: 1,
     }
 }
 

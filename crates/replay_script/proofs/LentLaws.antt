@@ -4,10 +4,10 @@ use mathlib.Core.Bool.{Bool, true, false, _&&_, _||_}
 use Prim.Native.Nat.{ℕ, _<_}
 use native.Mathlib.Omega.{arith}
 use lib.Dec.{leb, eqb}
-use Rattle.lists.specs.Search.{everyFrom}
-use Rattle.lists.proofs.SearchLaws.{every-true}
+use Rattle.lists.specs.Bounded.{everyFrom}
+use Rattle.lists.proofs.BoundedLaws.{every-true}
 use Rattle.call_served.specs.Calls.{callOf}
-use Rattle.replay_script.specs.Lent.{isServed, lendsBlock, lendsBuffer}
+use Rattle.replay_script.specs.Lends.{isServed, lendsFcb, lendsBuffer}
 
 abbrev alike : Bool → Bool → Bool
 alike true true = true
@@ -28,9 +28,9 @@ abbrev bufferNumber : ℕ → Bool
 bufferNumber n = eqb n 17 || eqb n 18 || eqb n 20 || eqb n 21 || eqb n 33 || eqb n 34 || eqb n 40 || eqb n 220 || eqb n 221
 
 abbrev servedNumber : ℕ → Bool
-servedNumber n = lendsBlock (callOf n) || eqb n 13 || eqb n 18 || eqb n 28 || eqb n 32 || eqb n 37
+servedNumber n = lendsFcb (callOf n) || eqb n 13 || eqb n 18 || eqb n 28 || eqb n 32 || eqb n 37
 
-all-blocks : everyFrom (λ n. alike (blockNumber n) (lendsBlock (callOf n))) 0 256 ≡ true
+all-blocks : everyFrom (λ n. alike (blockNumber n) (lendsFcb (callOf n))) 0 256 ≡ true
 unfolding everyFrom callOf
 all-blocks = refl
 
@@ -42,8 +42,8 @@ all-served : everyFrom (λ n. alike (servedNumber n) (isServed (callOf n))) 0 25
 unfolding everyFrom callOf
 all-served = refl
 
-pub block-number : (n : ℕ) → n < 256 → blockNumber n ≡ lendsBlock (callOf n)
-block-number n h = alike-true _ _ (every-true (λ n. alike (blockNumber n) (lendsBlock (callOf n))) 0 256 all-blocks n (omega arith) (omega arith))
+pub block-number : (n : ℕ) → n < 256 → blockNumber n ≡ lendsFcb (callOf n)
+block-number n h = alike-true _ _ (every-true (λ n. alike (blockNumber n) (lendsFcb (callOf n))) 0 256 all-blocks n (omega arith) (omega arith))
 
 pub buffer-number : (n : ℕ) → n < 256 → bufferNumber n ≡ lendsBuffer (callOf n)
 buffer-number n h = alike-true _ _ (every-true (λ n. alike (bufferNumber n) (lendsBuffer (callOf n))) 0 256 all-buffers n (omega arith) (omega arith))

@@ -24,7 +24,7 @@ module _ (s : List ℕ) {f b k : ℕ} {known : Bool}
   next-bad h = rw (ne-eqb (length s) 0 some, ← whole, not-true (leb (5 + b + k) (length s) && known) h)
 
   pub next-call : (p : ℕ) → p ≡ byte s 1 → not (leb (5 + b + k) (length s) && known) ≡ false
-      → Call (record { function = f; parameter = p; block = b; buffer = k }) ≡ nextOf s
+      → Call (record { function = f; parameter = p; fcb = b; buffer = k }) ≡ nextOf s
   unfolding nextOf
   next-call p ep h = rw (ne-eqb (length s) 0 some, ← whole, not-false (leb (5 + b + k) (length s) && known) h, ep, ek, eb, ef)
 

@@ -11,8 +11,8 @@ use lib.Seq.{paste, paste-suc, length-take-le, getD-append-add, getD-drop, take-
 use borrow.Author.Tests.{le-leb, lt-leb, ne-eqb}
 use Rattle.lists.specs.Bytes.{byte, part, put}
 use Rattle.lists.proofs.PartLaws.{length-part, part-put, part-apart}
-use Rattle.replay_script.specs.Script.{blockLength, bufferLength, callLength, headOf, nextOf, callAt}
-use Rattle.replay_script.specs.Window.{shifted}
+use Rattle.replay_script.specs.Script.{fcbLength, bufferLength, callLength, headOf, nextOf, callAt}
+use Rattle.replay_script.specs.CodeWindow.{shifted}
 
 -- ---- the loop that moves bytes
 pub shift-step : (w e : List ℕ) (from i : ℕ) → e ≡ paste w 0 (drop from w) i → from + i < length w
@@ -67,7 +67,7 @@ module _ (w z : List ℕ) (small : (k : ℕ) → byte w k < 256) (room : 65795 �
       let k : n ≤ length (drop a w) = rw length-drop (omega arith) in
       rw (drop-append-le a w z l, take-append-le n (drop a w) z k)
 
-  block-is : blockLength (w ++ z) ≡ blockLength w
+  block-is : fcbLength (w ++ z) ≡ fcbLength w
   block-is = byte-is 2 (omega arith)
 
   buffer-is : bufferLength (w ++ z) ≡ bufferLength w

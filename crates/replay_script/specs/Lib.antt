@@ -1,4 +1,4 @@
 -- The script of a replay.
-pub mod Lent
+pub mod Lends
 pub mod Script
-pub mod Window
+pub mod CodeWindow

@@ -1,11 +1,11 @@
 // Which numbers are served, and what their calls are lent.
 ghost use mathlib.Core.Path.{_≡_};
 ghost use Rattle.call_served.specs.Calls.{callOf};
-ghost use Rattle.replay_script.specs.Lent.{isServed, lendsBlock, lendsBuffer};
+ghost use Rattle.replay_script.specs.Lends.{isServed, lendsFcb, lendsBuffer};
 
 // Is the call of this number lent a control block?
-pub fn lends_block(n: u8) -> bool
-    ensures { λ r. ⌜ r ≡ lendsBlock (callOf n) ⌝ }
+pub fn lends_fcb(n: u8) -> bool
+    ensures { λ r. ⌜ r ≡ lendsFcb (callOf n) ⌝ }
 {
     ((15 <= n) & (n <= 17))
         | ((19 <= n) & (n <= 23))
@@ -35,5 +35,5 @@ pub fn lends_buffer(n: u8) -> bool
 pub fn is_served(n: u8) -> bool
     ensures { λ r. ⌜ r ≡ isServed (callOf n) ⌝ }
 {
-    lends_block(n) | (n == 13) | (n == 18) | (n == 28) | (n == 32) | (n == 37)
+    lends_fcb(n) | (n == 13) | (n == 18) | (n == 28) | (n == 32) | (n == 37)
 }

@@ -8,7 +8,7 @@ use disk_geometry::Geometry;
 pub mod lending;
 pub mod window;
 
-// The longest call: five bytes, 255 of control block, 65,535 of buffer.
+// The longest call: five bytes, 255 of control fcb, 65,535 of buffer.
 pub const LONGEST_CALL: usize = 65795;
 
 // The longest volume.
@@ -24,7 +24,7 @@ pub enum Header {
 pub struct Head {
     pub function: u8,
     pub parameter: u8,
-    pub block: usize,
+    pub fcb: usize,
     pub buffer: usize,
 }
 
@@ -46,9 +46,9 @@ pub fn header_of(s: &[u8]) -> Header
         return Header::Bad;
     }
     let geometry = Geometry {
-        block: numbers::two_at(s, 0),
-        total: numbers::two_at(s, 2),
-        directory: numbers::two_at(s, 4),
+        block_bytes: numbers::two_at(s, 0),
+        blocks: numbers::two_at(s, 2),
+        directory_blocks: numbers::two_at(s, 4),
     };
     Header::Good(geometry, length)
 }
@@ -70,23 +70,23 @@ pub fn next_of(s: &[u8]) -> Next
     }
     let function = numbers::byte_at(s, 0);
     let parameter = numbers::byte_at(s, 1);
-    let block = lists::wide(numbers::byte_at(s, 2));
-    let buffer = numbers::two_at(s, 3 + block);
-    let good = (5 + block + buffer <= s.len()) & is_known(function);
+    let fcb = lists::wide(numbers::byte_at(s, 2));
+    let buffer = numbers::two_at(s, 3 + fcb);
+    let good = (5 + fcb + buffer <= s.len()) & is_known(function);
     if !good {
         return Next::Bad;
     }
     Next::Call(Head {
         function,
         parameter,
-        block,
+        fcb,
         buffer,
     })
 }
 
 // The offset that the control block of function 0 begins with.
-pub fn offset_of(f: &[u8]) -> usize
-    ensures { λ r. ⌜ r ≡ three (now (f .entry)) 0 ⌝ }
+pub fn offset_of(fcb: &[u8]) -> usize
+    ensures { λ r. ⌜ r ≡ three (now (fcb .entry)) 0 ⌝ }
 {
-    numbers::two_at(f, 0) + 65536 * lists::wide(numbers::byte_at(f, 2))
+    numbers::two_at(fcb, 0) + 65536 * lists::wide(numbers::byte_at(fcb, 2))
 }

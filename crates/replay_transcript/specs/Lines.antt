@@ -9,7 +9,7 @@ use Rattle.call_answers.specs.declared.Answer.{Answer}
 use Rattle.call_answers.specs.Answer.{numberOf, valueOf}
 use Rattle.call_served.specs.Calls.{callOf}
 use Rattle.replay_transcript.specs.Hex.{hex}
-use Rattle.replay_script.specs.Lent.{lendsBlock, lendsBuffer}
+use Rattle.replay_script.specs.Lends.{lendsFcb, lendsBuffer}
 
 abbrev pub blank : List ℕ
 blank = 32 ∷ []
@@ -23,9 +23,9 @@ shown true l = (61 ∷ []) ++ hex l
 shown false l = 45 ∷ []
 
 unfoldable pub callLine : ℕ → Answer → List ℕ → List ℕ → List ℕ
-callLine n a f b =
+callLine n a fcb b =
     decimal n ++ blank ++ decimal (numberOf a) ++ blank ++ decimal (valueOf a)
-    ++ blank ++ shown (lendsBlock (callOf n)) f ++ blank ++ shown (lendsBuffer (callOf n)) b ++ lineEnd
+    ++ blank ++ shown (lendsFcb (callOf n)) fcb ++ blank ++ shown (lendsBuffer (callOf n)) b ++ lineEnd
 
 -- "BAD SCRIPT "
 abbrev pub badWord : List ℕ

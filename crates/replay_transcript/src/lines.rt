@@ -37,14 +37,14 @@ pub fn put_call(
     at: usize,
     function: u8,
     answer: Answer,
-    block: &[u8],
+    fcb: &[u8],
     buffer: &[u8],
 ) -> usize
-    ensures { λ r. ⌜ text (now (out .exit)) r ≡ puts (text (now (out .entry)) at) (callLine function answer (now (block .entry)) (now (buffer .entry))) ⌝ }
+    ensures { λ r. ⌜ text (now (out .exit)) r ≡ puts (text (now (out .entry)) at) (callLine function answer (now (fcb .entry)) (now (buffer .entry))) ⌝ }
 {
     let a = put_numbers(out, at, function, answer);
     let b = text::put_byte(out, a, b' ');
-    let c = put_shown(out, b, lending::lends_block(function), block);
+    let c = put_shown(out, b, lending::lends_fcb(function), fcb);
     let d = text::put_byte(out, c, b' ');
     let e = put_shown(out, d, lending::lends_buffer(function), buffer);
     text::put_byte(out, e, b'\n')

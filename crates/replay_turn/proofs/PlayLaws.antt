@@ -15,11 +15,11 @@ use Rattle.replay_script.specs.Script.{lentBy}
 use Rattle.replay_turn.specs.Play.{Called, leaves, called, afterwards, afterBy}
 
 pub lent-here : (g : Geometry) (h : Head) (d : Drive) (v s : List ℕ) (t : Text) (c n : ℕ) {f : List ℕ} {e : Drive} {w p q : List ℕ} {u : Text}
-    → f ≡ take (3 + h .block - 3) (drop 3 s) → c ≡ 5 + h .block → n ≡ h .buffer
+    → f ≡ take (3 + h .fcb - 3) (drop 3 s) → c ≡ 5 + h .fcb → n ≡ h .buffer
     → leaves e w p q u ≡ called g (asked (h .function) (h .parameter) f (take n (drop c s))) d v t
     → afterwards e w (put s c n q) u ≡ afterBy (Call h) s d v t (called g (lentBy h s) d v t)
 unfolding part
 lent-here g h d v s t c n {f} {e} {w} {p} {q} {u} ef ec en l =
-    let z : 3 + h .block - 3 ≡ h .block = omega arith in
+    let z : 3 + h .fcb - 3 ≡ h .fcb = omega arith in
     let m : leaves e w p q u ≡ called g (lentBy h s) d v t = l ∙ rw (ef, z, ec, en) in
-    rw (ec, en) (ap (λ (o : Called). afterwards (o .drive) (o .volume) (put s (5 + h .block) (h .buffer) (o .buffer)) (o .text)) m)
+    rw (ec, en) (ap (λ (o : Called). afterwards (o .drive) (o .volume) (put s (5 + h .fcb) (h .buffer) (o .buffer)) (o .text)) m)

@@ -46,20 +46,20 @@ module _ (g : Geometry) (n : ℕ) (s : List ℕ) (d : Drive) (v : List ℕ) wher
   unfolding runFrom
   run-breaks k e = rw e
 
-  after-call : (h : Head) → nextOf s ≡ Call h → drop (callLength s) s ≡ drop (5 + h .block + h .buffer) s
+  after-call : (h : Head) → nextOf s ≡ Call h → drop (callLength s) s ≡ drop (5 + h .fcb + h .buffer) s
   unfolding callLength
-  after-call h e = ap (λ (x : Head). drop (5 + x .block + x .buffer) s) (next-head s h e)
+  after-call h e = ap (λ (x : Head). drop (5 + x .fcb + x .buffer) s) (next-head s h e)
 
   run-goes-on : (k : ℕ) (h : Head) → nextOf s ≡ Call h
       → runFrom g (suc k) n s d v
       ≡ record {
         lines =
             lineOf (callAt s .function) (played g (callAt s) d v)
-            ++ runFrom g k (suc n) (drop (5 + h .block + h .buffer) s) (played g (callAt s) d v .drive) (played g (callAt s) d v .volume) .lines;
+            ++ runFrom g k (suc n) (drop (5 + h .fcb + h .buffer) s) (played g (callAt s) d v .drive) (played g (callAt s) d v .volume) .lines;
         volume =
-            runFrom g k (suc n) (drop (5 + h .block + h .buffer) s) (played g (callAt s) d v .drive) (played g (callAt s) d v .volume) .volume;
+            runFrom g k (suc n) (drop (5 + h .fcb + h .buffer) s) (played g (callAt s) d v .drive) (played g (callAt s) d v .volume) .volume;
         calls =
-            runFrom g k (suc n) (drop (5 + h .block + h .buffer) s) (played g (callAt s) d v .drive) (played g (callAt s) d v .volume) .calls;
+            runFrom g k (suc n) (drop (5 + h .fcb + h .buffer) s) (played g (callAt s) d v .drive) (played g (callAt s) d v .volume) .calls;
       }
   unfolding runFrom
   run-goes-on k h e = rw (← after-call h e, e)
@@ -99,7 +99,7 @@ holds {g} {n} {s} {d} {v} {t} {b} {m} {x} {q} (breaks w z e i o) (suc k) l =
 holds {g} {n} {s} {d} {v} {t} {b} {m} {x} {q} (goes-on w z y h e i o a rest) zero l =
     absurd (let c : nextOf s ≡ Call h = next-same s w z e i ∙ o in let f : nextOf s ≡ End = next-none s l in let z : _≡_ {A = ℕ} 0 1 = cc in omega arith)
 holds {g} (goes-on {n} {m} {s} {d} {e} {v} {u} {x} {t} {p} {q} {b} w z y h j i o a rest) (suc k) l =
-    let f : length (drop (5 + h .block + h .buffer) s) ≤ k = rw length-drop (omega arith) in
+    let f : length (drop (5 + h .fcb + h .buffer) s) ≤ k = rw length-drop (omega arith) in
     let ih = holds rest k f in
     let (de, (ue, pe)) = turned g s w z d e v u y t p h j i o a in
     let r = run-goes-on g n s d v k h (next-same s w z j i ∙ o) in

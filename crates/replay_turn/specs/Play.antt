@@ -21,31 +21,31 @@ use Rattle.replay_transcript.specs.Lines.{callLine}
 -- "Function 0 is `something else touches the volume`: its F bytes are a 24-bit offset and the bytes to lay there";
 -- "function 0 ignores bytes beyond the volume". Fewer than three bytes lay nothing.
 unfoldable pub laid : List ℕ → List ℕ → List ℕ
-laid v f = puts (text v (three f 0)) (drop 3 f) .bytes
+laid v fcb = puts (text v (three fcb 0)) (drop 3 fcb) .bytes
 
 unfoldable pub played : Geometry → Asked → Drive → List ℕ → Outcome
 played g c d v =
     cond (eqb (c .function) 0)
-    (record { answer = Done 0; drive = d; volume = laid v (c .block); block = c .block; buffer = c .buffer })
+    (record { answer = Done 0; drive = d; volume = laid v (c .fcb); fcb = c .fcb; buffer = c .buffer })
     (step g c d v)
 
 -- the call's line
 abbrev pub lineOf : ℕ → Outcome → List ℕ
-lineOf n o = callLine n (o .answer) (o .block) (o .buffer)
+lineOf n o = callLine n (o .answer) (o .fcb) (o .buffer)
 
 -- all that a call leaves, with its line appended to the transcript
 pub record Called : Type 0 where
   pub drive : Drive
   pub volume : List ℕ
-  pub block : List ℕ
+  pub fcb : List ℕ
   pub buffer : List ℕ
   pub text : Text
 
 abbrev pub leaves : Drive → List ℕ → List ℕ → List ℕ → Text → Called
-leaves d v f b t = record { drive = d; volume = v; block = f; buffer = b; text = t }
+leaves d v fcb b t = record { drive = d; volume = v; fcb = fcb; buffer = b; text = t }
 
 abbrev pub shownAs : ℕ → Text → Outcome → Called
-shownAs n t o = leaves (o .drive) (o .volume) (o .block) (o .buffer) (puts t (lineOf n o))
+shownAs n t o = leaves (o .drive) (o .volume) (o .fcb) (o .buffer) (puts t (lineOf n o))
 
 unfoldable pub called : Geometry → Asked → Drive → List ℕ → Text → Called
 called g c d v t = shownAs (c .function) t (played g c d v)
@@ -64,7 +64,7 @@ afterwards d v s t = record { drive = d; volume = v; script = s; text = t }
 abbrev pub afterBy : Next → List ℕ → Drive → List ℕ → Text → Called → After
 afterBy End s d v t o = afterwards d v s t
 afterBy Bad s d v t o = afterwards d v s t
-afterBy (Call h) s d v t o = afterwards (o .drive) (o .volume) (put s (5 + h .block) (h .buffer) (o .buffer)) (o .text)
+afterBy (Call h) s d v t o = afterwards (o .drive) (o .volume) (put s (5 + h .fcb) (h .buffer) (o .buffer)) (o .text)
 
 unfoldable pub after : Geometry → List ℕ → Drive → List ℕ → Text → After
 after g s d v t = afterBy (nextOf s) s d v t (called g (callAt s) d v t)

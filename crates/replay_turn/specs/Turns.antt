@@ -32,7 +32,7 @@ pub data Turns (g : Geometry) : ℕ → List ℕ → Drive → List ℕ → Text
       → nextOf w ≡ Bad → Turns g n s d v t true n v t
   goes-on : {n m : ℕ} {s : List ℕ} {d e : Drive} {v u x : List ℕ} {t p q : Text} {b : Bool} (w z y : List ℕ) (h : Head) → s ≡ w ++ z → Enough w z
       → nextOf w ≡ Call h → afterwards e u y p ≡ after g w d v t
-      → Turns g (suc n) (drop (5 + h .block + h .buffer) s) e u p b m x q
+      → Turns g (suc n) (drop (5 + h .fcb + h .buffer) s) e u p b m x q
       → Turns g n s d v t b m x q
 
 -- what they leave is what the transcript says, in any number of calls that the script has room for

@@ -24,12 +24,12 @@ pub struct Turn {
     pub at: usize,
 }
 
-// Lays bytes into the volume: f has the offset, then the bytes.
-fn lay(volume: &mut [u8], f: &[u8])
-    ensures { λ _. ⌜ now (volume .exit) ≡ laid (now (volume .entry)) (now (f .entry)) ⌝ }
+// Lays bytes into the volume: fcb has the offset, then the bytes.
+fn lay(volume: &mut [u8], fcb: &[u8])
+    ensures { λ _. ⌜ now (volume .exit) ≡ laid (now (volume .entry)) (now (fcb .entry)) ⌝ }
 {
-    if 3 <= f.len() {
-        text::put_bytes(volume, replay_script::offset_of(f), &f[3..]);
+    if 3 <= fcb.len() {
+        text::put_bytes(volume, replay_script::offset_of(fcb), &fcb[3..]);
     }
 }
 
@@ -40,19 +40,19 @@ fn play(
     parameter: u8,
     drive: Drive,
     volume: &mut [u8],
-    block: &mut [u8],
+    fcb: &mut [u8],
     buffer: &mut [u8],
 ) -> Reply
-    ensures { λ r. ⌜ left r (now (volume .exit)) (now (block .exit)) (now (buffer .exit)) ≡ played g (asked function parameter (now (block .entry)) (now (buffer .entry))) drive (now (volume .entry)) ⌝ }
+    ensures { λ r. ⌜ left r (now (volume .exit)) (now (fcb .exit)) (now (buffer .exit)) ≡ played g (asked function parameter (now (fcb .entry)) (now (buffer .entry))) drive (now (volume .entry)) ⌝ }
 {
     if function == 0 {
-        lay(volume, block);
+        lay(volume, fcb);
         return Reply {
             answer: Answer::Done(0),
             drive,
         };
     }
-    bdos::enter(g, function, parameter, drive, volume, block, buffer)
+    bdos::enter(g, function, parameter, drive, volume, fcb, buffer)
 }
 
 // The state after a call, and the next place in the transcript.
@@ -67,40 +67,40 @@ fn serve(
     head: Head,
     drive: Drive,
     volume: &mut [u8],
-    block: &mut [u8],
+    fcb: &mut [u8],
     buffer: &mut [u8],
     out: &mut [u8],
     at: usize,
 ) -> Served
-    ensures { λ r. ⌜ leaves (r .drive) (now (volume .exit)) (now (block .exit)) (now (buffer .exit)) (text (now (out .exit)) (r .at)) ≡ called g (asked (head .function) (head .parameter) (now (block .entry)) (now (buffer .entry))) drive (now (volume .entry)) (text (now (out .entry)) at) ⌝ }
+    ensures { λ r. ⌜ leaves (r .drive) (now (volume .exit)) (now (fcb .exit)) (now (buffer .exit)) (text (now (out .exit)) (r .at)) ≡ called g (asked (head .function) (head .parameter) (now (fcb .entry)) (now (buffer .entry))) drive (now (volume .entry)) (text (now (out .entry)) at) ⌝ }
 {
     let function = head.function;
-    let r = play(g, function, head.parameter, drive, volume, block, buffer);
+    let r = play(g, function, head.parameter, drive, volume, fcb, buffer);
     let answer = r.answer;
-    let next = lines::put_call(out, at, function, answer, block, buffer);
+    let next = lines::put_call(out, at, function, answer, fcb, buffer);
     let drive = r.drive;
     Served { drive, at: next }
 }
 
-// Does the call at the start of s, whose head is given; block is as long as its control block.
+// Does the call at the start of s, whose head is given; fcb is as long as its control block.
 fn call_here(
     g: Geometry,
     head: Head,
     drive: Drive,
     s: &mut [u8],
-    block: &mut [u8],
+    fcb: &mut [u8],
     volume: &mut [u8],
     out: &mut [u8],
     at: usize,
 ) -> Served
-    requires { ⌜ (length (now block) ≡ head .block) × (5 + head .block + head .buffer ≤ length (now s)) ⌝ }
+    requires { ⌜ (length (now fcb) ≡ head .fcb) × (5 + head .fcb + head .buffer ≤ length (now s)) ⌝ }
     ensures { λ r. ⌜ afterwards (r .drive) (now (volume .exit)) (now (s .exit)) (text (now (out .exit)) (r .at)) ≡ afterBy (Call head) (now (s .entry)) drive (now (volume .entry)) (text (now (out .entry)) at) (called g (lentBy head (now (s .entry))) drive (now (volume .entry)) (text (now (out .entry)) at)) ⌝ }
 {
-    let b = 3 + head.block;
+    let b = 3 + head.fcb;
     let c = b + 2;
     let d = c + head.buffer;
-    lists::copy(block, &s[3..b]);
-    serve(g, head, drive, volume, block, &mut s[c..d], out, at)
+    lists::copy(fcb, &s[3..b]);
+    serve(g, head, drive, volume, fcb, &mut s[c..d], out, at)
 }
 
 // The same with room for the control block.
@@ -114,17 +114,17 @@ fn call_next(
     at: usize,
 ) -> Turn
     requires { ⌜ Within (length (now s)) (Call head) ⌝ }
-    ensures { λ r. ⌜ (r .next ≡ Call head) × (r .used ≡ 5 + head .block + head .buffer) ⌝ }
+    ensures { λ r. ⌜ (r .next ≡ Call head) × (r .used ≡ 5 + head .fcb + head .buffer) ⌝ }
     ensures { λ r. ⌜ afterwards (r .drive) (now (volume .exit)) (now (s .exit)) (text (now (out .exit)) (r .at)) ≡ afterBy (Call head) (now (s .entry)) drive (now (volume .entry)) (text (now (out .entry)) at) (called g (lentBy head (now (s .entry))) drive (now (volume .entry)) (text (now (out .entry)) at)) ⌝ }
 {
     let mut space = [0u8; 255];
-    let f = head.block;
-    let served = call_here(g, head, drive, s, &mut space[0..f], volume, out, at);
+    let length = head.fcb;
+    let served = call_here(g, head, drive, s, &mut space[0..length], volume, out, at);
     let next = Next::Call(head);
     let after = served.drive;
     Turn {
         next,
-        used: 5 + f + head.buffer,
+        used: 5 + length + head.buffer,
         drive: after,
         at: served.at,
     }

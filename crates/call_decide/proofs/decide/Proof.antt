@@ -11,7 +11,7 @@ use Rattle.disk_volume.specs.Record.{recordSlot}
 use Rattle.disk_volume.specs.declared.Wanted.the-variants.{File, Group, Empty}
 use Rattle.call_answers.specs.Refusal.{isNone, firstMet}
 use Rattle.call_decide.specs.Write.{baseEntry, needsBlock}
-use Rattle.call_decide.specs.WritePlan.{ownOr, fromSlot, fileTests}
+use Rattle.call_decide.specs.CodePlan.{ownOr, fromSlot, fileTests}
 use Rattle.call_decide.proofs.WriteLaws.{base-is, slot-is, block-is, file-there, refused-file, passed-file}
 use Rattle.call_decide.proofs.decide.Statement.{statement}
 use Rattle.call_decide.proofs.decide.Tie as tie

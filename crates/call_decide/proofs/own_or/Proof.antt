@@ -4,7 +4,7 @@ use native.Mathlib.Omega.{arith}
 use borrow.Author.Tests.{lt-ltb, le-ltb}
 use borrow.Author.Needs.{needs}
 use Rattle.disk_geometry.specs.Geometry.{slots}
-use Rattle.call_decide.specs.WritePlan.{ownOr}
+use Rattle.call_decide.specs.CodePlan.{ownOr}
 use Rattle.call_decide.proofs.own_or.Statement.{statement}
 use Rattle.call_decide.proofs.own_or.Tie as tie
 

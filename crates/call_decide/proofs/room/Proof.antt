@@ -6,7 +6,7 @@ use borrow.Author.Tests.{eq-eqb, ne-eqb}
 use borrow.Author.Needs.{needs}
 use Rattle.disk_volume.specs.Entry.{blockIn}
 use Rattle.disk_volume.specs.Record.{recordBlock}
-use Rattle.call_decide.specs.WritePlan.{blockFor}
+use Rattle.call_decide.specs.CodePlan.{blockFor}
 use Rattle.call_decide.proofs.WriteLaws.{own-block, new-block}
 use Rattle.call_decide.proofs.room.Statement.{statement}
 use Rattle.call_decide.proofs.room.Tie as tie

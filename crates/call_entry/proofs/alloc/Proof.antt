@@ -14,7 +14,7 @@ use Rattle.disk_geometry.proofs.InsideLaws.{inside-is}
 use Rattle.call_entry.proofs.alloc.Statement.{statement}
 use Rattle.call_entry.proofs.alloc.Tie as tie
 
-within : (c : tie.Then1) → (let a = c .before .before .before .before .args in let b = c .before .before .nearest-below .result in (a .g .directory ≤ b) × (b < a .g .total))
+within : (c : tie.Then1) → (let a = c .before .before .before .before .args in let b = c .before .before .nearest-below .result in (a .g .«directory_blocks» ≤ b) × (b < a .g .blocks))
 within c = inside-is _ _ (sym (c .before .is-inside .ensures) ∙ c .if1 .taken)
 
 -- either way to the end of the first test: no free block above

@@ -1,7 +1,7 @@
 -- The extent and cr are read as the definition has them, and are small.
 use native.Mathlib.Omega.{arith}
 use borrow.Author.Needs.{needs}
-use Rattle.call_fcb.specs.Block.{position}
+use Rattle.call_fcb.specs.Fcb.{position}
 use Rattle.call_fcb.proofs.position_of.Statement.{statement}
 use Rattle.call_fcb.proofs.position_of.Tie as tie
 

@@ -1,7 +1,7 @@
 -- The two bytes are the definition's.
 use native.Mathlib.Omega.{arith}
 use borrow.Author.Needs.{needs}
-use Rattle.call_fcb.specs.Block.{random}
+use Rattle.call_fcb.specs.Fcb.{random}
 use Rattle.call_fcb.proofs.random_of.Statement.{statement}
 use Rattle.call_fcb.proofs.random_of.Tie as tie
 

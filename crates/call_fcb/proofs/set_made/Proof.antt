@@ -5,7 +5,7 @@ use lib.ListN.{length}
 use borrow.Rule.Slice.PartMut.{putMid, midOf, mid-len}
 use borrow.Author.Needs.{needs}
 use Rattle.lists.specs.Bytes.{put}
-use Rattle.call_fcb.specs.Block.{made}
+use Rattle.call_fcb.specs.Fcb.{made}
 use Rattle.call_fcb.proofs.set_made.Statement.{statement}
 use Rattle.call_fcb.proofs.set_made.Tie as tie
 
@@ -40,8 +40,8 @@ returns : tie.Need-returns
 unfolding made put
 returns c =
     let s = c .before .before .before .before .before .before .before .before .before .before in
-    let l = putMid 1 11 (s .args .f .now) (c .before .before .before .before .before .before .copy .last .0) in
-    let k : length (midOf 12 20 l) ≡ 20 = mid-len 12 32 l (omega (arith, c .before .before .before .before .before .f .given .1, s .pre)) in
+    let l = putMid 1 11 (s .args .fcb .now) (c .before .before .before .before .before .before .copy .last .0) in
+    let k : length (midOf 12 20 l) ≡ 20 = mid-len 12 32 l (omega (arith, c .before .before .before .before .before .fcb .given .1, s .pre)) in
     rw (c .before .before .fill .ensures, k, c .before .before .before .before .before .before .copy .ensures)
 
 pub set-made-spec : {M : Type 1} → statement M

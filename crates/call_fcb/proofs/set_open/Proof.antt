@@ -4,7 +4,7 @@ use native.Mathlib.Omega.{arith}
 use lib.ListN.{length-set}
 use borrow.Author.Needs.{needs}
 use Rattle.lists.specs.Bytes.{part, put}
-use Rattle.call_fcb.specs.Block.{opened}
+use Rattle.call_fcb.specs.Fcb.{opened}
 use Rattle.call_fcb.proofs.set_open.Statement.{statement}
 use Rattle.call_fcb.proofs.set_open.Tie as tie
 
@@ -17,14 +17,14 @@ wide-requires c κs = search needs
 count-of-requires : tie.Need-count-of-requires
 count-of-requires c κs = search needs
 
-slice-write-f : tie.Need-slice-write-f
-slice-write-f c = search needs
+slice-write-fcb : tie.Need-slice-write-fcb
+slice-write-fcb c = search needs
 
-slice-write-f-2 : tie.Need-slice-write-f-2
-slice-write-f-2 c = search needs
+slice-write-fcb-2 : tie.Need-slice-write-fcb-2
+slice-write-fcb-2 c = search needs
 
-slice-write-f-3 : tie.Need-slice-write-f-3
-slice-write-f-3 c = search needs
+slice-write-fcb-3 : tie.Need-slice-write-fcb-3
+slice-write-fcb-3 c = search needs
 
 sub-copy : tie.Need-sub-copy
 sub-copy c = search needs
@@ -54,7 +54,7 @@ part-copy-start-3 : tie.Need-part-copy-start-3
 part-copy-start-3 c = search needs
 
 part-copy-end-3 : tie.Need-part-copy-end-3
-part-copy-end-3 c = omega (arith, simp length-set at (c .before .f .given .1))
+part-copy-end-3 c = omega (arith, simp length-set at (c .before .fcb .given .1))
 
 sub-copy-4 : tie.Need-sub-copy-4
 sub-copy-4 c = search needs
@@ -69,7 +69,7 @@ copy-requires-2 : tie.Need-copy-requires-2
 copy-requires-2 c κs = search needs
 
 same-length : tie.Need-same-length
-same-length c = c .before .f2 .given .1 ∙ c .before .before .before .before .before .before .f .given .1 ∙ simp length-set
+same-length c = c .before .fcb2 .given .1 ∙ c .before .before .before .before .before .before .fcb .given .1 ∙ simp length-set
 
 returns : tie.Need-returns
 unfolding opened part put
@@ -82,9 +82,9 @@ set-open-spec =
     slice-read-wide
     wide-requires
     count-of-requires
-    slice-write-f
-    slice-write-f-2
-    slice-write-f-3
+    slice-write-fcb
+    slice-write-fcb-2
+    slice-write-fcb-3
     sub-copy
     part-copy-start
     part-copy-end

@@ -4,30 +4,30 @@ use native.Mathlib.Omega.{arith}
 use lib.ListN.{length-set}
 use borrow.Author.Needs.{needs}
 use Rattle.lists.specs.Bytes.{part, put}
-use Rattle.call_fcb.specs.Block.{setTo}
+use Rattle.call_fcb.specs.Fcb.{setTo}
 use Rattle.call_fcb.proofs.set_to.Statement.{statement}
 use Rattle.call_fcb.proofs.set_to.Tie as tie
 
 count-of-requires : tie.Need-count-of-requires
 count-of-requires c κs = search needs
 
-cast-f : tie.Need-cast-f
-cast-f c = search needs
+cast-fcb : tie.Need-cast-fcb
+cast-fcb c = search needs
 
-slice-write-f : tie.Need-slice-write-f
-slice-write-f c = search needs
+slice-write-fcb : tie.Need-slice-write-fcb
+slice-write-fcb c = search needs
 
-cast-f-2 : tie.Need-cast-f-2
-cast-f-2 c = search needs
+cast-fcb-2 : tie.Need-cast-fcb-2
+cast-fcb-2 c = search needs
 
-slice-write-f-2 : tie.Need-slice-write-f-2
-slice-write-f-2 c = search needs
+slice-write-fcb-2 : tie.Need-slice-write-fcb-2
+slice-write-fcb-2 c = search needs
 
-slice-write-f-3 : tie.Need-slice-write-f-3
-slice-write-f-3 c = search needs
+slice-write-fcb-3 : tie.Need-slice-write-fcb-3
+slice-write-fcb-3 c = search needs
 
-slice-write-f-4 : tie.Need-slice-write-f-4
-slice-write-f-4 c = search needs
+slice-write-fcb-4 : tie.Need-slice-write-fcb-4
+slice-write-fcb-4 c = search needs
 
 sub-copy : tie.Need-sub-copy
 sub-copy c = search needs
@@ -51,7 +51,7 @@ copy-requires : tie.Need-copy-requires
 copy-requires c κs = search needs
 
 same-length : tie.Need-same-length
-same-length c = c .before .f .given .1 ∙ simp length-set
+same-length c = c .before .fcb .given .1 ∙ simp length-set
 
 returns : tie.Need-returns
 unfolding setTo part put
@@ -62,12 +62,12 @@ set-to-spec =
     tie.close
     (tie.spec
     count-of-requires
-    cast-f
-    slice-write-f
-    cast-f-2
-    slice-write-f-2
-    slice-write-f-3
-    slice-write-f-4
+    cast-fcb
+    slice-write-fcb
+    cast-fcb-2
+    slice-write-fcb-2
+    slice-write-fcb-3
+    slice-write-fcb-4
     sub-copy
     part-copy-start
     part-copy-end

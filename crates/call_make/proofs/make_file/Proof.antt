@@ -8,12 +8,12 @@ use Rattle.disk_volume.specs.Name.{strip, nameAt, nameOf}
 use Rattle.call_make.proofs.make_file.Statement.{statement}
 use Rattle.call_make.proofs.make_file.Tie as tie
 
-named : (c : tie.After-name2) → c .before .lay-name .last .0 ≡ nameOf (now (c .before .before .before .before .before .before .before .args .f))
+named : (c : tie.After-name2) → c .before .lay-name .last .0 ≡ nameOf (now (c .before .before .before .before .before .before .before .args .fcb))
 unfolding nameAt part
 named c = c .before .lay-name .ensures
 
-once : (c : tie.After-name2) → strip (c .before .lay-name .last .0) ≡ nameOf (now (c .before .before .before .before .before .before .before .args .f))
-once c = ap strip (named c) ∙ (unfold nameAt in strip-strip (part (now (c .before .before .before .before .before .before .before .args .f)) 1 11))
+once : (c : tie.After-name2) → strip (c .before .lay-name .last .0) ≡ nameOf (now (c .before .before .before .before .before .before .before .args .fcb))
+once c = ap strip (named c) ∙ (unfold nameAt in strip-strip (part (now (c .before .before .before .before .before .before .before .args .fcb)) 1 11))
 
 slice-aggregate-lay-name : tie.Need-slice-aggregate-lay-name
 slice-aggregate-lay-name c = search needs

@@ -39,7 +39,7 @@ first-of-requires c κs = search needs
 returns : tie.Need-returns
 unfolding nameAt part
 returns c =
-    let f = now (c .before .before .before .before .before .before .before .args .f) in
+    let f = now (c .before .before .before .before .before .before .before .args .fcb) in
     c .first-of .ensures
     ∙ rw (c .before .before .before .refuse .ensures, c .before .before .before .before .typeable-name .ensures, c .before .refuse2 .ensures)
     (ladder-two Untypeable Position (not (typeable (nameOf f))) (not (eqb (byte f 12) 0)) refl)

@@ -15,11 +15,11 @@ use borrow.Author.Needs.{needs}
 use Rattle.call_size.proofs.measure.Statement.{statement}
 use Rattle.call_size.proofs.measure.Tie as tie
 
-why : (c : tie.After-refuse) → (let a = c .before .before .before .before .before .before .before .args in c .refuse .result ≡ firstMet (test NoMatch (leb (slots (a .g)) (findSlot (a .g) (now (a .volume)) (a .user) (nameOf (now (a .f))) File)) ∷ []))
+why : (c : tie.After-refuse) → (let a = c .before .before .before .before .before .before .before .args in c .refuse .result ≡ firstMet (test NoMatch (leb (slots (a .g)) (findSlot (a .g) (now (a .volume)) (a .user) (nameOf (now (a .fcb))) File)) ∷ []))
 unfolding nameAt part
 why c =
     let a = c .before .before .before .before .before .before .before .args in
-    rw (← ladder-one NoMatch (leb (slots (a .g)) (findSlot (a .g) (now (a .volume)) (a .user) (nameOf (now (a .f))) File)) refl, ← c .before .before .find .ensures .0, ← c .before .slots .ensures .0) (c .refuse .ensures)
+    rw (← ladder-one NoMatch (leb (slots (a .g)) (findSlot (a .g) (now (a .volume)) (a .user) (nameOf (now (a .fcb))) File)) refl, ← c .before .before .find .ensures .0, ← c .before .slots .ensures .0) (c .refuse .ensures)
 
 sub-find : tie.Need-sub-find
 sub-find c = search needs

@@ -13,7 +13,7 @@ use Rattle.call_sweep.proofs.change_all.Statement.{statement}
 use Rattle.call_sweep.proofs.change_all.Tie as tie
 
 abbrev Inv-loop : tie.InvT-loop
-Inv-loop g volume₀ user name new edit count r₀ volume r = (r ≤ g .directory * records g) × ((length volume ≡ bytes g) × Swept g (changed edit user (strip name) new) volume₀ volume r)
+Inv-loop g volume₀ user name new edit count r₀ volume r = (r ≤ g .«directory_blocks» * records g) × ((length volume ≡ bytes g) × Swept g (changed edit user (strip name) new) volume₀ volume r)
 
 abbrev μ-loop : tie.MeasureT-loop
 μ-loop g volume₀ user name new edit count r₀ volume r = count - r

@@ -7,7 +7,7 @@ use lib.ListN.{length-take, length-drop, length}
 use borrow.Author.Needs.{needs}
 use Rattle.lists.proofs.FoldLaws.{Folded, folded-start, folded-next, folded-end}
 use Rattle.call_sweep.proofs.SweepLaws.{mapPiece-length}
-use Rattle.call_sweep.specs.Pieces.{mapPiece}
+use Rattle.call_sweep.specs.CodeRecords.{mapPiece}
 use Rattle.disk_volume.specs.Name.{strip}
 use Rattle.call_sweep.specs.Sweep.{changed}
 use Rattle.call_sweep.proofs.EditLaws.{changed-keeps, lent-piece, lent-same, or-false}

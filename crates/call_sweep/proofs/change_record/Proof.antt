@@ -7,7 +7,7 @@ use borrow.Author.Needs.{needs}
 use Rattle.lists.specs.Bytes.{part, put}
 use Rattle.call_sweep.proofs.SweepLaws.{record-same}
 use Rattle.disk_geometry.proofs.GeometryLaws.{bounds}
-use Rattle.call_sweep.specs.Pieces.{mapRecord}
+use Rattle.call_sweep.specs.CodeRecords.{mapRecord}
 use Rattle.disk_volume.specs.Name.{strip}
 use Rattle.call_sweep.specs.Sweep.{changed}
 use Rattle.call_sweep.proofs.EditLaws.{changed-keeps}

@@ -18,8 +18,8 @@ rename-entry-requires c κs = search needs
 enum-told-3 : tie.Need-enum-told-3
 enum-told-3 c = search needs
 
-mark-entry-requires : tie.Need-mark-entry-requires
-mark-entry-requires c κs = search needs
+attribute-entry-requires : tie.Need-attribute-entry-requires
+attribute-entry-requires c κs = search needs
 
 same-length : tie.Need-same-length
 same-length c = search needs
@@ -37,7 +37,7 @@ same-length-3 : tie.Need-same-length-3
 same-length-3 c = search needs
 
 returns-3 : tie.Need-returns-3
-returns-3 c = rw (c .before .before .before .before .enum-told3 .given .1) (c .before .before .mark-entry .ensures)
+returns-3 c = rw (c .before .before .before .before .enum-told3 .given .1) (c .before .before .attribute-entry .ensures)
 
 pub edit-entry-spec : {M : Type 1} → statement M
 edit-entry-spec =
@@ -48,7 +48,7 @@ edit-entry-spec =
     enum-told-2
     rename-entry-requires
     enum-told-3
-    mark-entry-requires
+    attribute-entry-requires
     same-length
     returns
     same-length-2

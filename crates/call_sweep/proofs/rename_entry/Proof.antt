@@ -3,28 +3,28 @@ use native.Mathlib.Omega.{arith}
 use lib.ListN.{length-set}
 use borrow.Author.Needs.{needs}
 use Rattle.lists.specs.Bytes.{byte, put}
-use Rattle.call_sweep.specs.Sweep.{marked, renamed}
+use Rattle.call_sweep.specs.Sweep.{withTopBit, renamed}
 use Rattle.call_sweep.proofs.EditLaws.{named-and-marked}
 use Rattle.call_sweep.proofs.rename_entry.Statement.{statement}
 use Rattle.call_sweep.proofs.rename_entry.Tie as tie
 
-shared-slice-read-marked : tie.Need-shared-slice-read-marked
-shared-slice-read-marked c = search needs
+shared-slice-read-with-top-bit : tie.Need-shared-slice-read-with-top-bit
+shared-slice-read-with-top-bit c = search needs
 
-slice-read-marked : tie.Need-slice-read-marked
-slice-read-marked c = search needs
+slice-read-with-top-bit : tie.Need-slice-read-with-top-bit
+slice-read-with-top-bit c = search needs
 
-marked-requires : tie.Need-marked-requires
-marked-requires c κs = search needs
+with-top-bit-requires : tie.Need-with-top-bit-requires
+with-top-bit-requires c κs = search needs
 
-shared-slice-read-marked-2 : tie.Need-shared-slice-read-marked-2
-shared-slice-read-marked-2 c = search needs
+shared-slice-read-with-top-bit-2 : tie.Need-shared-slice-read-with-top-bit-2
+shared-slice-read-with-top-bit-2 c = search needs
 
-slice-read-marked-2 : tie.Need-slice-read-marked-2
-slice-read-marked-2 c = search needs
+slice-read-with-top-bit-2 : tie.Need-slice-read-with-top-bit-2
+slice-read-with-top-bit-2 c = search needs
 
-marked-requires-2 : tie.Need-marked-requires-2
-marked-requires-2 c κs = search needs
+with-top-bit-requires-2 : tie.Need-with-top-bit-requires-2
+with-top-bit-requires-2 c κs = search needs
 
 sub-lay-name : tie.Need-sub-lay-name
 sub-lay-name c = search needs
@@ -53,19 +53,19 @@ returns c =
     let a = c .before .before .before .before .before .before .before .before .before .before .before .before .args in
     let e = a .e .now in
     let n = a .new .now in
-    rw (c .before .before .lay-name .ensures, c .before .before .before .before .before .before .before .marked .ensures, c .before .before .before .before .marked2 .ensures)
-    (named-and-marked e n (marked (byte n 8) (byte e 9)) (marked (byte n 9) (byte e 10)) (search needs) (search needs))
+    rw (c .before .before .lay-name .ensures, c .before .before .before .before .before .before .before .with-top-bit .ensures, c .before .before .before .before .with-top-bit2 .ensures)
+    (named-and-marked e n (withTopBit (byte n 8) (byte e 9)) (withTopBit (byte n 9) (byte e 10)) (search needs) (search needs))
 
 pub rename-entry-spec : {M : Type 1} → statement M
 rename-entry-spec =
     tie.close
     (tie.spec
-    shared-slice-read-marked
-    slice-read-marked
-    marked-requires
-    shared-slice-read-marked-2
-    slice-read-marked-2
-    marked-requires-2
+    shared-slice-read-with-top-bit
+    slice-read-with-top-bit
+    with-top-bit-requires
+    shared-slice-read-with-top-bit-2
+    slice-read-with-top-bit-2
+    with-top-bit-requires-2
     sub-lay-name
     part-lay-name-start
     part-lay-name-end

@@ -5,7 +5,7 @@ use Prim.Native.Nat.{_≤_, _-_}
 use lib.ListN.{length}
 use denote.Ref.{now}
 use borrow.Author.Needs.{needs}
-use Rattle.lists.proofs.SearchLaws.{Passed, passed-start, passed-next, passed-fails, passed-all}
+use Rattle.lists.proofs.BoundedLaws.{Passed, passed-start, passed-next, passed-fails, passed-all}
 use Rattle.call_typing.proofs.TypingLaws.{lastAt, last-places}
 use Rattle.call_typing.proofs.blanks_last.Statement.{statement}
 use Rattle.call_typing.proofs.blanks_last.Tie as tie

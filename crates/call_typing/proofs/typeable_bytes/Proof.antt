@@ -5,7 +5,7 @@ use denote.Ref.{now}
 use borrow.Author.Needs.{needs}
 use borrow.Author.Tests.{not-true, not-false}
 use Rattle.lists.specs.Bytes.{byte}
-use Rattle.lists.proofs.SearchLaws.{Passed, passed-start, passed-next, passed-fails, passed-all}
+use Rattle.lists.proofs.BoundedLaws.{Passed, passed-start, passed-next, passed-fails, passed-all}
 use Rattle.call_typing.specs.Typing.{typeableByte}
 use Rattle.disk_volume.proofs.NameLaws.{all-places}
 use Rattle.call_typing.proofs.typeable_bytes.Statement.{statement}

@@ -1,7 +1,7 @@
 -- 64 bytes take the state that log-in hands back; a drive of another length is refused.
 use Rattle.churawel.proofs.SeamLaws.{log-in-refused, log-in-done}
 use Rattle.churawel.proofs.ValueLaws.{log-in-value}
-use Rattle.churawel.specs.Seam.{geometryOf}
+use Rattle.disk_geometry.specs.Geometry.{geometryOf}
 use Rattle.filecalls.specs.declared.Reply.{Reply}
 use Rattle.call_answers.specs.Answer.{valueOf}
 use mathlib.Core.Path.{ap}

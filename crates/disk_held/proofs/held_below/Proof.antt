@@ -4,7 +4,7 @@ use Prim.Native.Nat.{ℕ, _+_, _-_, _*_, _≤_, min}
 use native.Mathlib.Omega.{arith}
 use borrow.Author.Needs.{needs}
 use lib.ListN.{length}
-use Rattle.lists.specs.Search.{countFrom}
+use Rattle.lists.specs.Bounded.{countFrom}
 use Rattle.disk_held.specs.Held.{holds}
 use Rattle.disk_held.proofs.CountLaws.{held-word}
 use Rattle.disk_held.proofs.held_below.Statement.{statement}

@@ -6,7 +6,7 @@ use Prim.Native.Nat.{_-_, _≤_}
 use native.Mathlib.Omega.{arith}
 use borrow.Author.Needs.{needs}
 use lib.ListN.{length}
-use Rattle.lists.proofs.SearchLaws.{Searched, searched-start, searched-next, searched-hit, searched-none}
+use Rattle.lists.proofs.BoundedLaws.{Searched, searched-start, searched-next, searched-hit, searched-none}
 use Rattle.disk_held.specs.Held.{isFree, lowestFree}
 use Rattle.disk_held.proofs.FreeLaws.{full-word, searched-over}
 use Rattle.disk_held.proofs.lowest_free.Statement.{statement}

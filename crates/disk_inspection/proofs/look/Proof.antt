@@ -8,13 +8,13 @@ use denote.Ref.{now}
 use borrow.Author.Needs.{needs}
 use borrow.Author.Tests.{not-false}
 use lib.ListN.{length}
-use Rattle.lists.proofs.SearchLaws.{Searched, searched-start, searched-next, searched-hit, searched-none, from-zero}
+use Rattle.lists.proofs.BoundedLaws.{Searched, searched-start, searched-next, searched-hit, searched-none, from-zero}
 use Rattle.disk_geometry.specs.declared.Geometry.{Geometry}
 use Rattle.disk_geometry.specs.Geometry.{slots}
 use Rattle.disk_held.specs.Held.{wordsOf}
 use Rattle.disk_rules.specs.GoodSlot.{goodSlot, lowestBad}
-use Rattle.disk_maps.specs.HeldBelow.{heldBelow}
-use Rattle.disk_marks.specs.Marks.{marked}
+use Rattle.disk_maps.specs.CodeHeldBelow.{heldBelow}
+use Rattle.disk_marks.specs.CodeMarks.{allMarked}
 use Rattle.disk_maps.proofs.HeldLaws.{no-slots, all-slots}
 use Rattle.disk_marks.proofs.MarkLaws.{none-marked}
 use Rattle.disk_inspection.proofs.look.Statement.{statement}
@@ -28,7 +28,7 @@ record SoFar (g : Geometry) (volume held marks : List ℕ) (i : ℕ) : Type 0 wh
   good : Searched (bad g volume) 0 (slots g) i
   blocks : held ≡ wordsOf (heldBelow g volume i)
   long : length marks ≡ 1024
-  seen : marked g volume marks i ≡ true
+  seen : allMarked g volume marks i ≡ true
 
 abbrev Inv-loop : tie.InvT-loop
 Inv-loop g volume n held₀ marks₀ i₀ held marks i = SoFar g volume held marks i

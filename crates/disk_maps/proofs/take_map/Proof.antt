@@ -7,14 +7,14 @@ use Prim.Native.Nat.{ℕ, _≤_, _-_}
 use native.Mathlib.Omega.{arith}
 use denote.Ref.{now}
 use borrow.Author.Needs.{needs}
-use Rattle.lists.proofs.SearchLaws.{Passed, passed-start, passed-next, passed-fails, passed-all}
+use Rattle.lists.proofs.BoundedLaws.{Passed, passed-start, passed-next, passed-fails, passed-all}
 use Rattle.disk_volume.specs.Entry.{blockIn}
 use Rattle.disk_geometry.specs.Geometry.{places}
 use Rattle.disk_volume.specs.Directory.{slotAt}
 use Rattle.disk_volume.proofs.EntryLaws.{lent-slot}
 use Rattle.disk_held.specs.Held.{hold, wordsOf}
 use Rattle.disk_rules.specs.GoodSlot.{goodPlace}
-use Rattle.disk_maps.specs.HeldBelow.{heldUpTo}
+use Rattle.disk_maps.specs.CodeHeldBelow.{heldUpTo}
 use Rattle.disk_maps.proofs.HeldLaws.{no-places, zero-place, zero-good, block-place, place-tests, inside-test}
 use Rattle.disk_maps.proofs.take_map.Statement.{statement}
 use Rattle.disk_maps.proofs.take_map.Tie as tie

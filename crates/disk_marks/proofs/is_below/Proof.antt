@@ -10,7 +10,7 @@ use Rattle.disk_volume.specs.Name.{strip}
 use Rattle.disk_volume.specs.Entry.{ofGroup}
 use Rattle.disk_volume.specs.Directory.{slotAt}
 use Rattle.disk_volume.proofs.EntryLaws.{lent-slot}
-use Rattle.lists.proofs.AnyLaws.{Asked, asked-start, asked-next, asked-hit, asked-none}
+use Rattle.lists.proofs.AnyLaws.{AnySoFar, asked-start, asked-next, asked-hit, asked-none}
 use Rattle.disk_marks.proofs.is_below.Statement.{statement}
 use Rattle.disk_marks.proofs.is_below.Tie as tie
 
@@ -19,7 +19,7 @@ abbrev groupAt : Geometry → List ℕ → ℕ → List ℕ → ℕ → ℕ → 
 groupAt g volume user name k j = ofGroup g user (strip name) k (slotAt g volume j)
 
 abbrev Inv-loop : tie.InvT-loop
-Inv-loop g volume n user name k j₀ j = (j ≤ n) × Asked (groupAt g volume user name k) n j
+Inv-loop g volume n user name k j₀ j = (j ≤ n) × AnySoFar (groupAt g volume user name k) n j
 
 abbrev μ-loop : tie.MeasureT-loop
 μ-loop g volume n user name k j₀ j = n - j

@@ -14,7 +14,7 @@ use Rattle.disk_volume.specs.Directory.{slotAt}
 use Rattle.disk_held.specs.Held.{digit, holds, hold}
 use Rattle.disk_held.proofs.Bits.{one-shifted}
 use Rattle.disk_rules.specs.GoodSlot.{seenBelow}
-use Rattle.disk_marks.specs.Marks.{entryMark}
+use Rattle.disk_marks.specs.CodeMarks.{entryMark}
 use Rattle.disk_marks.proofs.MarkLaws.{unmarked, still-marked, now-marked}
 use Rattle.disk_marks.proofs.is_seen.Statement.{statement}
 use Rattle.disk_marks.proofs.is_seen.Tie as tie

@@ -6,7 +6,7 @@ use borrow.Author.Needs.{needs}
 use Rattle.lists.proofs.FoldLaws.{Folded, folded-start, folded-next, folded-end}
 use Rattle.disk_volume.specs.Name.{strip}
 use Rattle.disk_volume.proofs.NameLaws.{byte-strip}
-use Rattle.disk_marks.specs.Marks.{firstMark, nextMark, markOf}
+use Rattle.disk_marks.specs.CodeMarks.{firstMark, nextMark, markOf}
 use Rattle.disk_marks.proofs.mark_of.Statement.{statement}
 use Rattle.disk_marks.proofs.mark_of.Tie as tie
 

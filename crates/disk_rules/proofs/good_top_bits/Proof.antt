@@ -7,7 +7,7 @@ use borrow.Author.Needs.{needs}
 use borrow.Author.Tests.{not-true, not-false}
 use lib.Dec.{ltb, eqb}
 use Rattle.lists.specs.Bytes.{byte}
-use Rattle.lists.proofs.SearchLaws.{Passed, passed-start, passed-next, passed-fails, passed-all}
+use Rattle.lists.proofs.BoundedLaws.{Passed, passed-start, passed-next, passed-fails, passed-all}
 use Rattle.disk_rules.specs.GoodSlot.{goodTopBits}
 use Rattle.disk_rules.proofs.good_top_bits.Statement.{statement}
 use Rattle.disk_rules.proofs.good_top_bits.Tie as tie

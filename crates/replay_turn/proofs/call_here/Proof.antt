@@ -58,7 +58,7 @@ returns : tie.Need-returns
 unfolding put
 returns c =
     let a = c .before .before .before .before .before .before .before .before .before .before .before .before .before .before .before .before .before .before .before .before .before .before .before .before .before .args in
-    let at = 3 + a .head .block + 2 in
+    let at = 3 + a .head .fcb + 2 in
     lent-here (a .g) (a .head) (a .drive) (now (a .volume)) (now (a .s)) (text (now (a .out)) (a .at)) at (at + a .head .buffer - at) (c .before .before .before .before .before .before .before .before .before .before .before .before .before .before .before .copy .ensures) (omega arith) (omega arith) (c .before .before .before .before .before .before .before .before .serve .ensures)
 
 pub call-here-spec : {M : Type 1} → statement M

@@ -32,15 +32,15 @@ same-length c = search needs
 returns : tie.Need-returns
 unfolding laid
 returns c =
-    let f = now (c .before .before .before .before .before .before .before .before .before .args .f) in
+    let f = now (c .before .before .before .before .before .before .before .before .before .args .fcb) in
     let h : length (drop 3 f) ≤ length f - 3 = rw length-drop (omega arith) in
     ap (λ (t : Text). t .bytes) (c .before .before .put-bytes .ensures) ∙ rw (take-all (length f - 3) (drop 3 f) h, c .before .before .before .before .offset-of .ensures)
 
 returns-2 : tie.Need-returns-2
 unfolding laid puts
 returns-2 c =
-    let h : length (now (c .before .before .before .args .f)) ≤ 3 = omega arith in
-    rw (drop-of-length-le (now (c .before .before .before .args .f)) h)
+    let h : length (now (c .before .before .before .args .fcb)) ≤ 3 = omega arith in
+    rw (drop-of-length-le (now (c .before .before .before .args .fcb)) h)
 
 pub lay-spec : {M : Type 1} → statement M
 lay-spec =

@@ -3,7 +3,7 @@ use denote.Ref.{now}
 use borrow.Author.Tests.{not-true, not-false}
 use borrow.Author.Needs.{needs}
 use Rattle.disk_volume.proofs.EntryLaws.{lent-slot}
-use Rattle.call_read.specs.Plan.{planIn}
+use Rattle.call_read.specs.CodePlan.{planIn}
 use Rattle.call_read.proofs.read.plan_in.Statement.{statement}
 use Rattle.call_read.proofs.read.plan_in.Tie as tie
 

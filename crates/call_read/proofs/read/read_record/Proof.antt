@@ -10,11 +10,11 @@ use Rattle.call_read.proofs.read.read_record.Statement.{statement}
 use Rattle.call_read.proofs.read.read_record.Tie as tie
 
 -- what the arm that reads may rely on
-goes : (c : tie.After-slot) → (let a = c .before .before .before .before .before .before .before .before .args in Goes (a .g) (now (a .volume)) (a .user) (nameOf (now (a .f))) (a .n) (a .missing) (c .slot .given .0 .0) (c .slot .given .0 .1 .0))
+goes : (c : tie.After-slot) → (let a = c .before .before .before .before .before .before .before .before .args in Goes (a .g) (now (a .volume)) (a .user) (nameOf (now (a .fcb))) (a .n) (a .missing) (c .slot .given .0 .0) (c .slot .given .0 .1 .0))
 unfolding nameAt part
 goes c =
     let a = c .before .before .before .before .before .before .before .before .args in
-    plan-go (a .g) (now (a .volume)) (a .user) (nameOf (now (a .f))) (a .n) (a .missing) (c .before .before .before .before .before .before .before .before .pre .1 .1) (c .slot .given .0 .0) (c .slot .given .0 .1 .0) (sym (c .before .before .plan .ensures) ∙ c .slot .given .1)
+    plan-go (a .g) (now (a .volume)) (a .user) (nameOf (now (a .fcb))) (a .n) (a .missing) (c .before .before .before .before .before .before .before .before .pre .1 .1) (c .slot .given .0 .0) (c .slot .given .0 .1 .0) (sym (c .before .before .plan .ensures) ∙ c .slot .given .1)
 
 sub-plan : tie.Need-sub-plan
 sub-plan c = search needs
@@ -46,7 +46,7 @@ returns : tie.Need-returns
 unfolding nameAt part
 returns c =
     let a = c .before .before .before .before .before .before .before .before .before .args in
-    let k = plan-no (a .g) (now (a .volume)) (a .user) (nameOf (now (a .f))) (a .n) (a .missing) (c .before .before .before .before .before .before .before .before .before .pre .1 .1) (c .before .why .given .0 .0) (sym (c .before .before .before .plan .ensures) ∙ c .before .why .given .1) in
+    let k = plan-no (a .g) (now (a .volume)) (a .user) (nameOf (now (a .fcb))) (a .n) (a .missing) (c .before .before .before .before .before .before .before .before .before .pre .1 .1) (c .before .why .given .0 .0) (sym (c .before .before .before .plan .ensures) ∙ c .before .why .given .1) in
     (k .0, (rw (k .1), rw (k .1)))
 
 same-length-2 : tie.Need-same-length-2

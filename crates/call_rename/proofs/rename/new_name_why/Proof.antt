@@ -5,7 +5,7 @@ use denote.Ref.{now}
 use Rattle.lists.specs.Bytes.{part}
 use Rattle.disk_volume.specs.Name.{nameAt, goodName}
 use Rattle.call_typing.specs.Typing.{typeable}
-use Rattle.call_fcb.specs.Block.{newName}
+use Rattle.call_fcb.specs.Fcb.{newName}
 use Rattle.call_answers.specs.declared.Refusal.the-variants.{Name, Untypeable}
 use Rattle.call_answers.proofs.Ladder.{ladder-two}
 use borrow.Author.Needs.{needs}
@@ -48,7 +48,7 @@ first-of-requires c κs = search needs
 returns : tie.Need-returns
 unfolding nameAt part
 returns c =
-    let new = newName (now (c .before .before .before .before .before .before .before .before .args .f)) in
+    let new = newName (now (c .before .before .before .before .before .before .before .before .args .fcb)) in
     c .first-of .ensures
     ∙ rw (c .before .before .before .before .refuse .ensures, c .before .before .before .before .before .good-name .ensures, c .before .refuse2 .ensures, c .before .before .typeable-name .ensures)
     (ladder-two Name Untypeable (not (goodName false new)) (not (typeable new)) refl)

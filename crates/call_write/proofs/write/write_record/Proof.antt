@@ -11,7 +11,7 @@ use Rattle.disk_geometry.specs.Geometry.{slots}
 use Rattle.disk_volume.specs.Name.{nameAt, nameOf}
 use Rattle.disk_geometry.proofs.GeometryLaws.{bounds}
 use Rattle.call_answers.specs.Refusal.{isNone}
-use Rattle.call_decide.specs.WritePlan.{Decided, entryAfter}
+use Rattle.call_decide.specs.CodePlan.{Decided, entryAfter}
 use Rattle.call_decide.proofs.WriteLaws.{Passed, write-passed}
 use Rattle.call_write.proofs.write.write_record.Statement.{statement}
 use Rattle.call_write.proofs.write.write_record.Tie as tie
@@ -19,26 +19,26 @@ use Rattle.call_write.proofs.write.write_record.Tie as tie
 none-met : (c : tie.Else1) → isNone (c .before .before .before .decide .result .why) ≡ true
 none-met c = sym (c .before .is-none .ensures) ∙ not-false (c .before .is-none .result) (c .if1 .left)
 
-decided : (c : tie.Else1) → (let a = c .before .before .before .before .before .before .before .before .before .before .before .args in let r = c .before .before .before .decide .result in Decided (a .g) (a .held) (now (a .volume)) (a .user) (nameOf (now (a .f))) (a .n) (r .slot) (r .block) (r .fresh) (c .before .before .before .decide .last .1 .1 .1 .1 .1 .1 .0))
+decided : (c : tie.Else1) → (let a = c .before .before .before .before .before .before .before .before .before .before .before .args in let r = c .before .before .before .decide .result in Decided (a .g) (a .held) (now (a .volume)) (a .user) (nameOf (now (a .fcb))) (a .n) (r .slot) (r .block) (r .fresh) (c .before .before .before .decide .last .1 .1 .1 .1 .1 .1 .0))
 unfolding nameAt part
 decided c = c .before .before .before .decide .ensures .1 (none-met c)
 
-passed : (c : tie.Else1) → (let a = c .before .before .before .before .before .before .before .before .before .before .before .args in Passed (a .g) (a .held) (now (a .volume)) (a .user) (nameOf (now (a .f))) (a .n))
+passed : (c : tie.Else1) → (let a = c .before .before .before .before .before .before .before .before .before .before .before .args in Passed (a .g) (a .held) (now (a .volume)) (a .user) (nameOf (now (a .fcb))) (a .n))
 unfolding nameAt part
 passed c =
     let a = c .before .before .before .before .before .before .before .before .before .before .before .args in
-    write-passed (a .g) (a .held) (now (a .volume)) (a .user) (nameOf (now (a .f))) (a .n) (ap isNone (sym (c .before .before .before .decide .ensures .0)) ∙ none-met c)
+    write-passed (a .g) (a .held) (now (a .volume)) (a .user) (nameOf (now (a .fcb))) (a .n) (ap isNone (sym (c .before .before .before .decide .ensures .0)) ∙ none-met c)
 
 slot-fits : (c : tie.Else1) → c .before .before .before .decide .result .slot < slots (c .before .before .before .before .before .before .before .before .before .before .before .args .g)
 slot-fits c = rw (decided c .slot-is) (passed c .slot-in)
 
-block-fits : (c : tie.Else1) → c .before .before .before .decide .result .block < c .before .before .before .before .before .before .before .before .before .before .before .args .g .total
+block-fits : (c : tie.Else1) → c .before .before .before .decide .result .block < c .before .before .before .before .before .before .before .before .before .before .before .args .g .blocks
 block-fits c = rw (decided c .block-is) (passed c .block-high)
 
 block-small : (c : tie.Else1) → c .before .before .before .decide .result .block < 256
 block-small c = omega (arith, block-fits c, bounds _ (c .before .before .before .before .before .before .before .before .before .before .before .pre .0 .0))
 
-entry-laid : (c : tie.After-write-entry) → (let a = c .before .before .before .before .before .before .before .before .before .before .before .before .before .args in c .write-entry .last .1 .0 ≡ entryAfter (a .g) (a .held) (now (a .volume)) (a .user) (nameOf (now (a .f))) (a .n))
+entry-laid : (c : tie.After-write-entry) → (let a = c .before .before .before .before .before .before .before .before .before .before .before .before .before .args in c .write-entry .last .1 .0 ≡ entryAfter (a .g) (a .held) (now (a .volume)) (a .user) (nameOf (now (a .fcb))) (a .n))
 entry-laid c = c .write-entry .ensures ∙ rw (decided (c .before .before) .entry-is, decided (c .before .before) .block-is)
 
 sub-decide : tie.Need-sub-decide

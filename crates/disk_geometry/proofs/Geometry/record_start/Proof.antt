@@ -20,7 +20,7 @@ shl-start c = search needs
 blm-requires : tie.Need-blm-requires
 blm-requires c κs = search needs
 
-inside : (c : tie.After-blm) → c .before .before .args .b * records (c .before .before .args .self) + c .before .before .args .n % records (c .before .before .args .self) < c .before .before .args .self .total * records (c .before .before .args .self)
+inside : (c : tie.After-blm) → c .before .before .args .b * records (c .before .before .args .self) + c .before .before .args .n % records (c .before .before .args .self) < c .before .before .args .self .blocks * records (c .before .before .args .self)
 inside c =
     let a = c .before .before .args in
     let p = c .before .before .pre in

@@ -1,7 +1,7 @@
 -- A search from slot 0.
 use denote.Ref.{now}
 use borrow.Author.Needs.{needs}
-use Rattle.lists.proofs.SearchLaws.{from-zero}
+use Rattle.lists.proofs.BoundedLaws.{from-zero}
 use Rattle.disk_volume.specs.Directory.{slotFits, findSlot}
 use Rattle.disk_volume.specs.Name.{strip}
 use Rattle.disk_geometry.specs.Geometry.{slots}

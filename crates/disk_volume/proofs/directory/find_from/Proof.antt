@@ -3,7 +3,7 @@ use mathlib.Core.Path.{_≡_, sym, _∙_}
 use Prim.Native.Nat.{_≤_, _-_}
 use denote.Ref.{now}
 use borrow.Author.Needs.{needs}
-use Rattle.lists.proofs.SearchLaws.{Searched, searched-start, searched-next, searched-hit, searched-none}
+use Rattle.lists.proofs.BoundedLaws.{Searched, searched-start, searched-next, searched-hit, searched-none}
 use Rattle.disk_volume.specs.Directory.{slotFits}
 use Rattle.disk_volume.specs.Name.{strip}
 use Rattle.disk_geometry.specs.Geometry.{slots}

@@ -4,7 +4,7 @@ use Prim.Native.Nat.{_≤_, _-_}
 use denote.Ref.{now}
 use borrow.Author.Needs.{needs}
 use borrow.Author.Tests.{not-true, not-false}
-use Rattle.lists.proofs.SearchLaws.{Passed, passed-start, passed-next, passed-fails, passed-all}
+use Rattle.lists.proofs.BoundedLaws.{Passed, passed-start, passed-next, passed-fails, passed-all}
 use Rattle.disk_volume.proofs.NameLaws.{goodAt, good-places}
 use Rattle.disk_volume.proofs.names.good_name.Statement.{statement}
 use Rattle.disk_volume.proofs.names.good_name.Tie as tie

@@ -7,11 +7,11 @@ use borrow.Author.Needs.{needs}
 use Rattle.drive_bytes.proofs.load.search_at.Statement.{statement}
 use Rattle.drive_bytes.proofs.load.search_at.Tie as tie
 
-shared-slice-read-kind-of : tie.Need-shared-slice-read-kind-of
-shared-slice-read-kind-of c = search needs
+shared-slice-read-kind-stored : tie.Need-shared-slice-read-kind-stored
+shared-slice-read-kind-stored c = search needs
 
-kind-of-requires : tie.Need-kind-of-requires
-kind-of-requires c κs = search needs
+kind-stored-requires : tie.Need-kind-stored-requires
+kind-stored-requires c κs = search needs
 
 two-at-requires : tie.Need-two-at-requires
 two-at-requires c κs = search needs
@@ -38,14 +38,14 @@ returns : tie.Need-returns
 unfolding fields part
 returns c =
     let size = c .before .before .before .before .before .before .before .before .before .pre in
-    rw (c .before .before .before .before .before .before .kind-of .ensures, c .before .before .before .before .before .two-at .ensures .0, number-two (c .before .before .before .before .before .before .before .before .before .args .s .now) 10 (omega (arith, size)), c .before .before .copy .ensures)
+    rw (c .before .before .before .before .before .before .kind-stored .ensures, c .before .before .before .before .before .two-at .ensures .0, number-two (c .before .before .before .before .before .before .before .before .before .args .s .now) 10 (omega (arith, size)), c .before .before .copy .ensures)
 
 pub search-at-spec : {M : Type 1} → statement M
 search-at-spec =
     tie.close
     (tie.spec
-    shared-slice-read-kind-of
-    kind-of-requires
+    shared-slice-read-kind-stored
+    kind-stored-requires
     two-at-requires
     slice-aggregate-copy
     sub-copy

@@ -1,7 +1,7 @@
 -- The numbers, then what was lent, one after the other.
 use Rattle.replay_transcript.proofs.LineLaws.{wrote-shown}
 use Rattle.replay_transcript.specs.Lines.{callLine}
-use Rattle.replay_script.specs.Lent.{lendsBlock, lendsBuffer}
+use Rattle.replay_script.specs.Lends.{lendsFcb, lendsBuffer}
 use Rattle.text.proofs.TextLaws.{wrote, wrote-byte, then}
 use Rattle.call_served.specs.Calls.{callOf}
 use denote.Ref.{now}
@@ -15,8 +15,8 @@ put-numbers-requires c κs = search needs
 put-byte-requires : tie.Need-put-byte-requires
 put-byte-requires c κs = search needs
 
-lends-block-requires : tie.Need-lends-block-requires
-lends-block-requires c κs = search needs
+lends-fcb-requires : tie.Need-lends-fcb-requires
+lends-fcb-requires c κs = search needs
 
 put-shown-requires : tie.Need-put-shown-requires
 put-shown-requires c κs = search needs
@@ -43,7 +43,7 @@ returns c =
     then (then (then (then (then
     (wrote _ (c .before .before .before .before .before .before .before .before .before .before .before .before .before .before .before .before .before .before .before .before .before .before .before .before .put-numbers .ensures))
     (wrote-byte 32 (c .before .before .before .before .before .before .before .before .before .before .before .before .before .before .before .before .before .before .before .before .put-byte .ensures)))
-    (wrote-shown (lendsBlock (callOf (a .function))) (now (a .block)) (c .before .before .before .before .before .before .before .before .before .before .before .before .before .before .before .before .lends-block .ensures) (c .before .before .before .before .before .before .before .before .before .before .before .before .before .before .before .put-shown .ensures)))
+    (wrote-shown (lendsFcb (callOf (a .function))) (now (a .fcb)) (c .before .before .before .before .before .before .before .before .before .before .before .before .before .before .before .before .lends-fcb .ensures) (c .before .before .before .before .before .before .before .before .before .before .before .before .before .before .before .put-shown .ensures)))
     (wrote-byte 32 (c .before .before .before .before .before .before .before .before .before .before .before .put-byte2 .ensures)))
     (wrote-shown (lendsBuffer (callOf (a .function))) (now (a .buffer)) (c .before .before .before .before .before .before .before .lends-buffer .ensures) (c .before .before .before .before .before .before .put-shown2 .ensures)))
     (wrote-byte 10 (c .before .before .put-byte3 .ensures)) .is
@@ -54,7 +54,7 @@ put-call-spec =
     (tie.spec
     put-numbers-requires
     put-byte-requires
-    lends-block-requires
+    lends-fcb-requires
     put-shown-requires
     put-byte-requires-2
     lends-buffer-requires

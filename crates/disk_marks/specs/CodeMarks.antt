@@ -1,0 +1,30 @@
+-- Marks: every user, name and group has one of 65,536 marks, and the mark of each entry passed is set. Where a slot's
+-- mark is not set, no lower slot can have the same user, name and group. Marks are bits in words, as held blocks are.
+use mathlib.Core.Bool.{Bool, _||_}
+use mathlib.Core.List.{List}
+use Prim.Native.Nat.{ℕ, _+_, _*_, _%_}
+use Rattle.lists.specs.Bounded.{every, fold}
+use Rattle.lists.specs.Bytes.{byte}
+use Rattle.disk_geometry.specs.declared.Geometry.{Geometry}
+use Rattle.disk_geometry.specs.Geometry.{groupOf}
+use Rattle.disk_volume.specs.Name.{nameOf}
+use Rattle.disk_volume.specs.Entry.{Entry, isEmpty, extent}
+use Rattle.disk_volume.specs.Directory.{slotAt}
+use Rattle.disk_held.specs.Held.{holds}
+
+-- the mark of user u and group k, and what byte p of the name makes of it
+abbrev pub firstMark : ℕ → ℕ → ℕ
+firstMark u k = (u + 16 * (k % 1024)) % 65536
+
+abbrev pub nextMark : List ℕ → ℕ → ℕ → ℕ
+nextMark name mark p = (5003 * mark + byte name p) % 65536
+
+unfoldable pub markOf : ℕ → List ℕ → ℕ → ℕ
+markOf u name k = fold (nextMark name) (firstMark u k) 0 11
+
+abbrev pub entryMark : Geometry → Entry → ℕ
+entryMark g e = markOf (byte e 0) (nameOf e) (groupOf g (extent e))
+
+-- the mark of each entry below slot n is set
+unfoldable pub allMarked : Geometry → List ℕ → List ℕ → ℕ → Bool
+allMarked g v marks n = every n (λ j. isEmpty (slotAt g v j) || holds marks (entryMark g (slotAt g v j)))
