@@ -63,10 +63,7 @@ fn hit_from(
     from: usize,
 ) -> usize
     requires { ⌜ VolumeAnd g (now volume) ((length (now pattern) ≡ patternBytes) × (from ≤ slots g)) ⌝ }
-    ensures { λ r. ⌜
-        (r ≡ hitFrom g (now (volume .entry)) kind user (now (pattern .entry)) from)
-        × (r ≤ slots g)
-        ⌝ }
+    ensures { λ r. ⌜ (r ≡ hitFrom g (now (volume .entry)) kind user (now (pattern .entry)) from) × (r ≤ slots g) ⌝ }
 {
     let wanted = sought_by(g, kind, pattern[NAME_BYTES]);
     disk_volume::directory::find_from(g, volume, from, user, &pattern[0..NAME_BYTES], wanted)
@@ -84,10 +81,7 @@ pub fn search_from(
     from: usize,
 ) -> usize
     requires { ⌜ VolumeAnd g (now volume) (IsRecord (now buffer) × (from ≤ slots g)) ⌝ }
-    ensures { λ r. ⌜
-        (r ≡ hitFrom g (now (volume .entry)) kind user (now (pattern .entry)) from)
-        × (r ≤ slots g)
-        ⌝ }
+    ensures { λ r. ⌜ (r ≡ hitFrom g (now (volume .entry)) kind user (now (pattern .entry)) from) × (r ≤ slots g) ⌝ }
     ensures { λ r. ⌜ now (buffer .exit) ≡ hitBuffer g (now (volume .entry)) r (now (buffer .entry)) ⌝ }
 {
     let slot = hit_from(g, volume, kind, user, pattern, from);

@@ -13,6 +13,10 @@ use Rattle.call_answers.specs.declared.Refusal.the-variants.{NoMatch}
 use Rattle.call_answers.specs.Refusal.{test, firstMet}
 use Rattle.call_size.specs.Size.{sizeOf}
 
+-- every end is below it, whatever bytes an entry has
+abbrev pub endBound : ℕ
+endBound = 2000000
+
 -- 255 where the file has no entry
 abbrev pub measureWhy : Geometry → List ℕ → ℕ → List ℕ → Refusal
 measureWhy g v u fcb = firstMet (test NoMatch (leb (slots g) (findSlot g v u (nameOf fcb) File)) ∷ [])

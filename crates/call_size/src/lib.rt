@@ -6,7 +6,7 @@ ghost use Rattle.disk_volume.specs.CodeLent.{VolumeAnd, IsEntry, IsFcb, IsName}
 ghost use Rattle.disk_volume.specs.Name.{strip};
 ghost use Rattle.call_answers.specs.Refusal.{unlessRefused};
 ghost use Rattle.call_size.specs.Size.{entryEnd, larger, sizeOf};
-ghost use Rattle.call_size.specs.CodeMeasure.{measureWhy, measured};
+ghost use Rattle.call_size.specs.CodeMeasure.{endBound, measureWhy, measured};
 use call_answers::Refusal;
 use disk_geometry::Geometry;
 use disk_volume::Wanted;
@@ -16,7 +16,7 @@ use disk_volume::fields::NAME_END;
 // Where the file ends by this entry.
 fn entry_end(e: &[u8]) -> usize
     requires { ⌜ IsEntry (now e) ⌝ }
-    ensures { λ r. ⌜ (r ≡ entryEnd (now (e .entry))) × (r < 2000000) ⌝ }
+    ensures { λ r. ⌜ (r ≡ entryEnd (now (e .entry))) × (r < endBound) ⌝ }
 {
     let own = disk_volume::entry::extent_of(e);
     Geometry::EXTENT_RECORDS * own + lists::wide(disk_volume::entry::count_of(e, own))
@@ -25,11 +25,8 @@ fn entry_end(e: &[u8]) -> usize
 // The larger of m and what slot i says of the file.
 fn larger_at(g: Geometry, volume: &[u8], user: u8, name: &[u8], m: usize, i: usize) -> usize
     requires { ⌜ VolumeAnd g (now volume) (IsName (now name)) ⌝ }
-    requires { ⌜ (i < slots g) × (m < 2000000) ⌝ }
-    ensures { λ r. ⌜
-        (r ≡ larger g (now (volume .entry)) user (strip (now (name .entry))) m i)
-        × (r < 2000000)
-        ⌝ }
+    requires { ⌜ (i < slots g) × (m < endBound) ⌝ }
+    ensures { λ r. ⌜ (r ≡ larger g (now (volume .entry)) user (strip (now (name .entry))) m i) × (r < endBound) ⌝ }
 {
     let at = g.slot_start(i);
     if !disk_volume::entry::has(
@@ -48,10 +45,7 @@ fn larger_at(g: Geometry, volume: &[u8], user: u8, name: &[u8], m: usize, i: usi
 // Answers the file's size in records.
 pub fn size_of(g: Geometry, volume: &[u8], user: u8, name: &[u8]) -> usize
     requires { ⌜ VolumeAnd g (now volume) (IsName (now name)) ⌝ }
-    ensures { λ r. ⌜
-        (r ≡ sizeOf g (now (volume .entry)) user (strip (now (name .entry))))
-        × (r < 2000000)
-        ⌝ }
+    ensures { λ r. ⌜ (r ≡ sizeOf g (now (volume .entry)) user (strip (now (name .entry)))) × (r < endBound) ⌝ }
 {
     let n = g.slots();
     let mut m = 0;
