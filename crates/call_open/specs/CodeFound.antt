@@ -24,5 +24,5 @@ abbrev pub closeWhy : Geometry → List ℕ → ℕ → List ℕ → Refusal
 closeWhy g v u fcb = slotWhy g (extentFits fcb) (closeSlot g v u fcb)
 
 -- the control block, with the entry that was found where nothing refuses
-abbrev pub shown : Geometry → List ℕ → Found → List ℕ → List ℕ
-shown g v found fcb = unlessRefused (found .why) (opened fcb (slotAt g v (found .slot))) fcb
+abbrev pub openedOr : Geometry → List ℕ → Found → List ℕ → List ℕ
+openedOr g v found fcb = unlessRefused (found .why) (opened fcb (slotAt g v (found .slot))) fcb

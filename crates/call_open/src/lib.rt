@@ -6,7 +6,7 @@ ghost use Rattle.disk_geometry.specs.Geometry.{lawful, slots};
 ghost use Rattle.disk_volume.specs.CodeLent.{VolumeAnd, IsFcb};
 ghost use Rattle.call_answers.specs.Refusal.{isNone};
 ghost use Rattle.call_open.specs.Open.{openSlot, closeSlot};
-ghost use Rattle.call_open.specs.CodeFound.{slotWhy, openWhy, closeWhy, shown};
+ghost use Rattle.call_open.specs.CodeFound.{slotWhy, openWhy, closeWhy, openedOr};
 use call_answers::Refusal;
 use disk_geometry::Geometry;
 use disk_volume::Wanted;
@@ -46,7 +46,7 @@ pub fn open_file(g: Geometry, volume: &[u8], fcb: &mut [u8], user: u8) -> Found
     requires { ⌜ VolumeAnd g (now volume) (IsFcb (now fcb)) ⌝ }
     ensures { λ r. ⌜ r .why ≡ openWhy g (now (volume .entry)) user (now (fcb .entry)) ⌝ }
     ensures { λ r. ⌜ r .slot ≡ openSlot g (now (volume .entry)) user (now (fcb .entry)) ⌝ }
-    ensures { λ r. ⌜ now (fcb .exit) ≡ shown g (now (volume .entry)) r (now (fcb .entry)) ⌝ }
+    ensures { λ r. ⌜ now (fcb .exit) ≡ openedOr g (now (volume .entry)) r (now (fcb .entry)) ⌝ }
 {
     let slot = slot_to_open(g, volume, fcb, user);
     let why = slot_why(g, fcb[EX] <= 31, slot);
