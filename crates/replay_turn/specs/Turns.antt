@@ -4,14 +4,15 @@
 use mathlib.Core.Path.{_≡_}
 use mathlib.Core.Bool.{Bool, true, false, cond}
 use mathlib.Core.List.{List, [], _++_}
-use Prim.Native.Nat.{ℕ, suc, _+_, _<_, _≤_}
+use Prim.Native.Nat.{ℕ, suc, _≤_}
 use lib.ListN.{length, drop}
-use Rattle.lists.specs.Bytes.{byte}
+use Rattle.numbers.specs.Numbers.{Bytes}
 use Rattle.disk_geometry.specs.declared.Geometry.{Geometry}
 use Rattle.filecalls.specs.declared.Drive.{Drive}
 use Rattle.text.specs.Text.{Text, puts}
 use Rattle.replay_script.specs.declared.Head.{Head}
 use Rattle.replay_script.specs.declared.Next.the-variants.{End, Bad, Call}
+use Rattle.replay_script.specs.Layout.{callBytes, longestCall}
 use Rattle.replay_script.specs.Script.{nextOf}
 use Rattle.replay_transcript.specs.Lines.{badLine}
 use Rattle.replay_turn.specs.Play.{afterwards, after}
@@ -21,7 +22,7 @@ use Rattle.replay_turn.specs.Transcript.{runFrom}
 -- room in it
 pub data Enough (w z : List ℕ) : Type 0 where
   all-left : z ≡ [] → Enough w z
-  longest : ((k : ℕ) → byte w k < 256) → 65795 ≤ length w → Enough w z
+  longest : Bytes w → longestCall ≤ length w → Enough w z
 
 -- from n calls, a script, a state, a volume and a text on: whether the script is bad, and the number of calls, the volume
 -- and the text at the end
@@ -30,9 +31,10 @@ pub data Turns (g : Geometry) : ℕ → List ℕ → Drive → List ℕ → Text
       → nextOf w ≡ End → Turns g n s d v t false n v t
   breaks : {n : ℕ} {s : List ℕ} {d : Drive} {v : List ℕ} {t : Text} (w z : List ℕ) → s ≡ w ++ z → Enough w z
       → nextOf w ≡ Bad → Turns g n s d v t true n v t
-  goes-on : {n m : ℕ} {s : List ℕ} {d e : Drive} {v u x : List ℕ} {t p q : Text} {b : Bool} (w z y : List ℕ) (h : Head) → s ≡ w ++ z → Enough w z
+  goes-on : {n m : ℕ} {s : List ℕ} {d e : Drive} {v u x : List ℕ} {t p q : Text} {b : Bool}
+      (w z y : List ℕ) (h : Head) → s ≡ w ++ z → Enough w z
       → nextOf w ≡ Call h → afterwards e u y p ≡ after g w d v t
-      → Turns g (suc n) (drop (5 + h .fcb + h .buffer) s) e u p b m x q
+      → Turns g (suc n) (drop (callBytes (h .fcb) (h .buffer)) s) e u p b m x q
       → Turns g n s d v t b m x q
 
 -- what they leave is what the transcript says, in any number of calls that the script has room for
