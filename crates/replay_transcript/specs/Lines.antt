@@ -1,6 +1,6 @@
 -- The lines of a transcript, each with one line feed: "for each call one line of five fields with one blank between:
--- function, answer, value (log-in: count or slot; else 0), control block, buffer", `BAD SCRIPT n` and `END n`. Of several records
--- the value is how many were done.
+-- function, answer, value (log-in: count or slot; else 0), control block, buffer", `BAD SCRIPT n` and `END n`. Of several
+-- records the value is how many were done.
 use mathlib.Core.Bool.{Bool, true, false}
 use mathlib.Core.List.{List, _++_}
 use Prim.Native.Nat.{ℕ}

@@ -1,5 +1,5 @@
--- The tie of the code to the transcript: a run of turns (`take_turn`), each given the state, the volume and the text that the
--- last left, and each over a window of what is left of the script. Of each turn it is taken that it leaves what its
+-- The tie of the code to the transcript: a run of turns (`take_turn`), each given the state, the volume and the text that
+-- the last left, and each over a window of what is left of the script. Of each turn it is taken that it leaves what its
 -- contract says; that it does is what the check of this crate proves. So the transcript speaks of what runs.
 use mathlib.Core.Path.{_≡_}
 use mathlib.Core.Bool.{Bool, true, false, cond}
@@ -38,7 +38,8 @@ pub data Turns (g : Geometry) : ℕ → List ℕ → Drive → List ℕ → Text
       → Turns g n s d v t b m x q
 
 -- what they leave is what the transcript says, in any number of calls that the script has room for
-pub record Shows (g : Geometry) (k n : ℕ) (s : List ℕ) (d : Drive) (v : List ℕ) (t : Text) (b : Bool) (m : ℕ) (x : List ℕ) (q : Text) : Type 0 where
+pub record Shows (g : Geometry) (k n : ℕ) (s : List ℕ) (d : Drive) (v : List ℕ) (t : Text)
+    (b : Bool) (m : ℕ) (x : List ℕ) (q : Text) : Type 0 where
   pub lines-are : cond b (puts q (badLine m)) q ≡ puts t (runFrom g k n s d v .lines)
   pub volume-is : x ≡ runFrom g k n s d v .volume
   pub calls-are : m ≡ runFrom g k n s d v .calls
