@@ -1,3 +1,4 @@
 -- The text that the lister prints for a volume, and the room that it needs.
+pub mod Letters
 pub mod Listing
 pub mod Room

@@ -1,4 +1,5 @@
 -- The lines of a transcript.
 pub mod Hex
+pub mod Letters
 pub mod Lines
 pub mod Records
