@@ -21,13 +21,13 @@ character x =
 unfoldable pub typeableByte : ℕ → Bool
 typeableByte x = not (smallLetter x || character x)
 
-abbrev pub blank : ℕ → Bool
-blank x = eqb x BLANK
+abbrev pub isBlank : ℕ → Bool
+isBlank x = eqb x BLANK
 
 -- "a blank before a later non-blank"
 unfoldable pub blankBefore : List ℕ → Bool
 blankBefore [] = false
-blankBefore (x ∷ xs) = let rest = blankBefore xs in cond (blank x && not (all blank xs)) true rest
+blankBefore (x ∷ xs) = let rest = blankBefore xs in cond (isBlank x && not (all isBlank xs)) true rest
 
 -- name and type of the eleven bytes: "1..8 name; 9..11 type"
 abbrev pub typeStart : ℕ

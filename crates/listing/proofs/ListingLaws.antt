@@ -14,7 +14,6 @@ use Rattle.disk_geometry.specs.declared.Geometry.{Geometry}
 use Rattle.disk_geometry.specs.Geometry.{lawful, bytes}
 use Rattle.disk_volume.specs.Name.{strip}
 use Rattle.text.specs.Text.{Text, text, puts}
-use Rattle.text.specs.Decimal.{decimal}
 use Rattle.text.proofs.TextLaws.{Wrote, wrote, puts-append, puts-within}
 use Rattle.call_answers.specs.declared.Refusal.the-variants.{VolumeLength}
 use Rattle.call_answers.specs.declared.Answer.{Answer}
@@ -66,10 +65,6 @@ lines-next g v n i t u h e = rw (less n i h, ← add-one i, puts-append, e)
 pub lines-end : (g : Geometry) (v : List ℕ) (n i : ℕ) (t : Text) → n ≤ i → puts t (linesFrom g v i (n - i)) ≡ t
 unfolding linesFrom puts
 lines-end g v n i t h = let z : n - i ≡ 0 = omega arith in rw z
-
--- ---- a number that was appended is the one meant
-pub wrote-number : {t u : Text} {m : ℕ} (n : ℕ) → m ≡ n → u ≡ puts t (decimal m) → Wrote t (decimal n) u
-wrote-number {t} {u} {m} n e w = wrote (decimal n) (w ∙ ap (λ (k : ℕ). puts t (decimal k)) e)
 
 -- ---- a refusal that was appended is that of the answer
 pub wrote-refused : {t u : Text} {a b : Answer} → a ≡ b → u ≡ puts t (refused a) → Wrote t (refused b) u

@@ -1,4 +1,3 @@
 -- The text that the lister prints for a volume, and the room that it needs.
-pub mod Letters
 pub mod Listing
 pub mod Room

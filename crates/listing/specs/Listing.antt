@@ -14,26 +14,20 @@ use Rattle.disk_volume.specs.Name.{strip, nameOf}
 use Rattle.disk_volume.specs.Entry.{Entry, isEmpty, blockIn, ofFile}
 use Rattle.disk_volume.specs.Directory.{slotAt, findSlot}
 use Rattle.text.specs.Decimal.{decimal}
+use Rattle.text.specs.Letters.{letters, blank, lineEnd}
 use Rattle.call_answers.specs.declared.Answer.{Answer}
 use Rattle.call_answers.specs.declared.Answer.the-variants.{Done, Ready, BadSlot, Refused, Several}
 use Rattle.call_answers.specs.Answer.{numberOf}
 use Rattle.call_size.specs.Size.{sizeOf}
 use Rattle.filecalls.specs.LogIn.{logIn}
-use Rattle.listing.specs.Letters.{letters}
 
 -- "a volume of V's geometry (40,960 bytes)": B 1,024, T 40, D 1
 abbrev pub geometryV : Geometry
 geometryV = geometryOf 1024 40 1
 
--- what stands between and behind the words
-abbrev pub blank : List ℕ
-blank = letters " "
-
+-- the full stop between name and type
 abbrev pub stop : List ℕ
 stop = letters "."
-
-abbrev pub lineEnd : List ℕ
-lineEnd = letters "\n"
 
 -- the header, and the words before the free blocks and before a refusal's number
 abbrev pub header : List ℕ

@@ -1,5 +1,4 @@
 -- The lines of a transcript.
 pub mod Hex
-pub mod Letters
 pub mod Lines
 pub mod Records

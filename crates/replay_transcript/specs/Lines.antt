@@ -5,18 +5,12 @@ use mathlib.Core.Bool.{Bool, true, false}
 use mathlib.Core.List.{List, _++_}
 use Prim.Native.Nat.{ℕ}
 use Rattle.text.specs.Decimal.{decimal}
+use Rattle.text.specs.Letters.{letters, blank, lineEnd}
 use Rattle.call_answers.specs.declared.Answer.{Answer}
 use Rattle.call_answers.specs.Answer.{numberOf, valueOf}
 use Rattle.call_served.specs.Calls.{callOf}
 use Rattle.replay_transcript.specs.Hex.{hex}
-use Rattle.replay_transcript.specs.Letters.{letters}
 use Rattle.replay_script.specs.Lends.{lendsFcb, lendsBuffer}
-
-abbrev pub blank : List ℕ
-blank = letters " "
-
-abbrev pub lineEnd : List ℕ
-lineEnd = letters "\n"
 
 -- "a lent one is `=` and its bytes afterwards in hex, `-` where the call is lent none"
 unfoldable pub shown : Bool → List ℕ → List ℕ

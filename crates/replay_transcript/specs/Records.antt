@@ -8,8 +8,8 @@ use Rattle.disk_geometry.specs.Geometry.{recordBytes}
 use Rattle.disk_volume.specs.Name.{same}
 use Rattle.text.specs.Decimal.{decimal}
 use Rattle.replay_transcript.specs.Hex.{hex}
-use Rattle.replay_transcript.specs.Letters.{letters}
-use Rattle.replay_transcript.specs.Lines.{blank, lineEnd}
+use Rattle.text.specs.Letters.{letters}
+use Rattle.text.specs.Letters.{blank, lineEnd}
 
 -- record q; the last one may be shorter, and there is nothing behind it
 abbrev pub recordOf : List ℕ → ℕ → List ℕ

@@ -16,7 +16,7 @@ use Rattle.text.specs.Text.{putByte, puts}
 use Rattle.text.specs.Decimal.{decimalIn, decimal}
 use Rattle.replay_script.specs.Script.{headerOf, callLength, nextOf, callAt}
 use Rattle.replay_transcript.specs.Hex.{hex}
-use Rattle.replay_transcript.specs.Letters.{letters}
+use Rattle.text.specs.Letters.{letters}
 use Rattle.replay_transcript.specs.Lines.{shown, callLine, badLine, endLine}
 use Rattle.replay_transcript.specs.Records.{recordLine, recordLines}
 use Rattle.replay_turn.specs.Play.{laid, played}

@@ -1,7 +1,7 @@
 -- Two runs of bytes, one after the other.
 use mathlib.Core.Path.{_∙_}
 use Rattle.call_answers.specs.Answer.{numberOf}
-use Rattle.listing.proofs.ListingLaws.{wrote-number}
+use Rattle.text.proofs.TextLaws.{wrote-number}
 use Rattle.listing.specs.Listing.{refusedWord}
 use Rattle.text.proofs.TextLaws.{wrote, then}
 use borrow.Author.Needs.{needs}
