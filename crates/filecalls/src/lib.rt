@@ -14,12 +14,15 @@ mod state;
 mod tests;
 mod writes;
 
+// A pattern: eleven name bytes and ex.
+pub const PATTERN_BYTES: usize = 12;
+
 // A search that is kept between calls: its kind, the user and the pattern of its first call, and its last hit.
 pub struct KeptSearch {
     pub kind: SearchKind,
     pub user: u8,
     pub last: usize,
-    pub pattern: [u8; 12],
+    pub pattern: [u8; PATTERN_BYTES],
 }
 
 // The drive's state.
