@@ -1,10 +1,10 @@
 -- Delete, rename and attributes change "all matching entries", "all entries of the file", and leave every other.
 use mathlib.Core.Bool.{cond}
 use mathlib.Core.List.{List, [], _∷_, _++_}
-use Prim.Native.Nat.{ℕ, _+_, _-_, _%_}
+use Prim.Native.Nat.{ℕ, _+_, _%_}
 use lib.ListN.{set, take}
 use Rattle.lists.specs.Bytes.{byte, put}
-use Rattle.disk_volume.specs.Fields.{USER, NAME, T1, T2, nameBytes, EMPTY}
+use Rattle.disk_volume.specs.Fields.{USER, NAME, T1, T2, nameBytes, EMPTY, nameT1, nameT2}
 use Rattle.disk_volume.specs.Name.{strip, topBit}
 use Rattle.disk_volume.specs.Entry.{Entry, ofFile, matches}
 use Rattle.call_sweep.specs.declared.Edit.{Edit}
@@ -13,13 +13,6 @@ use Rattle.call_sweep.specs.declared.Edit.the-variants.{Erase, Rename, A
 -- "byte 0 of all matching entries .. becomes E5H"
 abbrev pub erased : Entry → Entry
 erased e = set e USER EMPTY
-
--- where bytes 9 and 10 of an entry stand in a name of eleven bytes
-abbrev pub nameT1 : ℕ
-nameT1 = T1 - NAME
-
-abbrev pub nameT2 : ℕ
-nameT2 = T2 - NAME
 
 -- a byte with another's top bit
 abbrev pub withTopBit : ℕ → ℕ → ℕ

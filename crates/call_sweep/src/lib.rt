@@ -16,11 +16,6 @@ use disk_volume::entry;
 use disk_volume::fields;
 use disk_volume::names;
 
-// Where bytes 9 and 10 of an entry stand in a name of eleven bytes.
-const NAME_T1: usize = fields::T1 - fields::NAME;
-
-const NAME_T2: usize = fields::T2 - fields::NAME;
-
 // How entries change in a sweep over the directory.
 pub enum Edit {
     Erase,
@@ -52,8 +47,8 @@ fn rename_entry(e: &mut [u8], new: &[u8])
     requires { ⌜ IsEntry (now e) × IsName (now new) ⌝ }
     ensures { λ _. ⌜ now (e .exit) ≡ renamed (now (e .entry)) (now (new .entry)) ⌝ }
 {
-    let read_only = with_top_bit(new[NAME_T1], e[fields::T1]);
-    let system = with_top_bit(new[NAME_T2], e[fields::T2]);
+    let read_only = with_top_bit(new[fields::NAME_T1], e[fields::T1]);
+    let system = with_top_bit(new[fields::NAME_T2], e[fields::T2]);
     lay_name(&mut e[fields::NAME..fields::NAME_END], new);
     e[fields::T1] = read_only;
     e[fields::T2] = system;
@@ -64,8 +59,8 @@ fn attribute_entry(e: &mut [u8], new: &[u8])
     requires { ⌜ IsEntry (now e) × IsName (now new) ⌝ }
     ensures { λ _. ⌜ now (e .exit) ≡ attributed (now (e .entry)) (now (new .entry)) ⌝ }
 {
-    let read_only = with_top_bit(e[fields::T1], new[NAME_T1]);
-    let system = with_top_bit(e[fields::T2], new[NAME_T2]);
+    let read_only = with_top_bit(e[fields::T1], new[fields::NAME_T1]);
+    let system = with_top_bit(e[fields::T2], new[fields::NAME_T2]);
     e[fields::T1] = read_only;
     e[fields::T2] = system;
 }

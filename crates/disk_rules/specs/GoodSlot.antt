@@ -4,13 +4,13 @@
 -- same user, name and group."
 use mathlib.Core.Bool.{Bool, false, not, _&&_, _||_}
 use mathlib.Core.List.{List}
-use Prim.Native.Nat.{ℕ, _+_, _-_}
+use Prim.Native.Nat.{ℕ, _+_}
 use lib.Dec.{leb, ltb, eqb}
 use Rattle.lists.specs.Bounded.{lowest, any, every}
 use Rattle.lists.specs.Bytes.{byte}
 use Rattle.disk_geometry.specs.declared.Geometry.{Geometry}
 use Rattle.disk_geometry.specs.Geometry.{slots, groupOf, inside, places}
-use Rattle.disk_volume.specs.Fields.{USER, NAME, T1, T2, EX, S1, S2, RC, nameBytes}
+use Rattle.disk_volume.specs.Fields.{USER, NAME, EX, S1, S2, RC, nameBytes, nameT1, nameT2}
 use Rattle.disk_volume.specs.Name.{TOPBIT, nameOf, goodName}
 use Rattle.disk_volume.specs.Entry.{Entry, isEmpty, extent, blockIn, ofGroup}
 use Rattle.disk_volume.specs.Directory.{slotAt}
@@ -21,7 +21,7 @@ goodFields e = leb (byte e USER) 15 && leb (byte e EX) 31 && eqb (byte e S1) 0 &
 
 -- "only bytes 9 and 10 may carry a top bit"
 unfoldable pub goodTopBits : Entry → Bool
-goodTopBits e = every nameBytes (λ k. ltb (byte e (NAME + k)) TOPBIT || eqb k (T1 - NAME) || eqb k (T2 - NAME))
+goodTopBits e = every nameBytes (λ k. ltb (byte e (NAME + k)) TOPBIT || eqb k nameT1 || eqb k nameT2)
 
 -- what the entry alone shows, but its map
 abbrev pub goodEntry : Entry → Bool

@@ -17,11 +17,6 @@ fn good_fields(e: &[u8]) -> bool
         & (e[fields::RC] <= 128)
 }
 
-// Where bytes 9 and 10 stand in the name.
-const T1: usize = fields::T1 - fields::NAME;
-
-const T2: usize = fields::T2 - fields::NAME;
-
 // Do bytes 9 and 10 alone carry a top bit, if any?
 fn good_top_bits(e: &[u8]) -> bool
     requires { ⌜ IsEntry (now e) ⌝ }
@@ -29,7 +24,9 @@ fn good_top_bits(e: &[u8]) -> bool
 {
     let mut k = 0;
     while k < fields::NAME_BYTES {
-        if !((e[fields::NAME + k] < names::TOP_BIT) | (k == T1) | (k == T2)) {
+        if !((e[fields::NAME + k] < names::TOP_BIT)
+            | (k == fields::NAME_T1)
+            | (k == fields::NAME_T2)) {
             return false;
         }
         k += 1;

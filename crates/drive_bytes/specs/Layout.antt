@@ -13,7 +13,8 @@ use Rattle.disk_geometry.specs.declared.Geometry.{Geometry}
 use Rattle.call_search.specs.declared.SearchKind.{SearchKind}
 use Rattle.call_search.specs.declared.SearchKind.the-variants.{Nothing, Pattern, Everything}
 use Rattle.filecalls.specs.declared.Drive.{Drive}
-use Rattle.filecalls.specs.State.{patternBytes, closed}
+use Rattle.call_search.specs.Search.{patternBytes}
+use Rattle.filecalls.specs.State.{closed}
 use Rattle.numbers.specs.Numbers.{bytesOf, number, bytesFrom, zeros}
 
 -- where each field stands

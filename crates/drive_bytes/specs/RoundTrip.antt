@@ -10,7 +10,8 @@ use Rattle.lists.specs.Bytes.{byte}
 use Rattle.numbers.specs.Numbers.{Bytes}
 use Rattle.call_search.specs.declared.SearchKind.the-variants.{Nothing}
 use Rattle.filecalls.specs.declared.Drive.{Drive}
-use Rattle.filecalls.specs.State.{patternBytes, noSearch, isOpen, closed}
+use Rattle.call_search.specs.Search.{patternBytes}
+use Rattle.filecalls.specs.State.{noSearch, isOpen, closed}
 use Rattle.drive_bytes.specs.Layout.{driveBytes, encoded, decoded}
 
 -- what 64 bytes can carry of a state: sizes and last slot of 16 bits, twelve bytes of pattern, four words of 64 bits; and

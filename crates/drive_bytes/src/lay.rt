@@ -9,11 +9,11 @@ use crate::layout::PATTERN_AT;
 use crate::layout::SEARCH_AT;
 use crate::layout::SEARCH_USER_AT;
 use crate::layout::SPARE_AT;
+use call_search::PATTERN_BYTES;
 use call_search::SearchKind;
 use disk_geometry::Geometry;
 use filecalls::Drive;
 use filecalls::KeptSearch;
-use filecalls::PATTERN_BYTES;
 use numbers::put_eight;
 
 // Where the fields of a search stand in its own bytes.

@@ -14,11 +14,11 @@ use crate::layout::SEARCH_AT;
 use crate::layout::SEARCH_USER_AT;
 use crate::layout::SPARE_AT;
 use crate::layout::USER_AT;
+use call_search::PATTERN_BYTES;
 use call_search::SearchKind;
 use disk_geometry::Geometry;
 use filecalls::Drive;
 use filecalls::KeptSearch;
-use filecalls::PATTERN_BYTES;
 use numbers::eight_of;
 use numbers::two_at;
 

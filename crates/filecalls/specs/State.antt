@@ -12,12 +12,9 @@ use Rattle.disk_volume.specs.Name.{WILDCARD, nameAt, goodName}
 use Rattle.disk_held.specs.Held.{noneHeld}
 use Rattle.call_search.specs.declared.SearchKind.{SearchKind}
 use Rattle.call_search.specs.declared.SearchKind.the-variants.{Nothing, Pattern, Everything}
+use Rattle.call_search.specs.Search.{patternBytes}
 use Rattle.filecalls.specs.declared.KeptSearch.{KeptSearch}
 use Rattle.filecalls.specs.declared.Drive.{Drive}
-
--- a pattern: "11 name bytes and ex"
-abbrev pub patternBytes : ℕ
-patternBytes = 12
 
 -- a kept search within the rules: its user is 0..15, its last hit is a slot, and its pattern passed 39 and 40; with dr
 -- 3FH the pattern is not examined

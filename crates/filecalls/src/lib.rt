@@ -1,5 +1,6 @@
 // The file calls: every call is a method of the drive state that takes the state and hands it back.
 use call_answers::Answer;
+use call_search::PATTERN_BYTES;
 use call_search::SearchKind;
 use disk_geometry::Geometry;
 
@@ -13,9 +14,6 @@ mod small;
 mod state;
 mod tests;
 mod writes;
-
-// A pattern: eleven name bytes and ex.
-pub const PATTERN_BYTES: usize = 12;
 
 // A search that is kept between calls: its kind, the user and the pattern of its first call, and its last hit.
 pub struct KeptSearch {

@@ -4,7 +4,8 @@ ghost use Prim.Native.Nat.{_<_};
 ghost use lib.ListN.{length};
 ghost use Rattle.call_fcb.specs.Fcb.{fileRecords};
 ghost use Rattle.filecalls.specs.Outcome.{unless, outcome, left};
-ghost use Rattle.filecalls.specs.Write.{directoryTests, writeDone, writeSequentialAct, writeDirectAct, writeRandomAct, writeZeroFillAct};
+ghost use Rattle.filecalls.specs.Leaves.{writeSequentialLeaves, writeRandomLeaves, writeZeroFillLeaves};
+ghost use Rattle.filecalls.specs.Write.{directoryTests, writeDone, writeDirectAct};
 ghost use Rattle.filecalls.specs.CodeReady.{Lent};
 use crate::Drive;
 use crate::Reply;
@@ -59,8 +60,7 @@ impl Drive {
     pub fn write_sequential(self, volume: &mut [u8], fcb: &mut [u8], buffer: &[u8]) -> Reply
         ensures { λ r. ⌜
             left r (now (volume .exit)) (now (fcb .exit)) (now (buffer .entry))
-            ≡ outcome self (now (volume .entry)) (now (fcb .entry)) (now (buffer .entry))
-            (writeSequentialAct self (now (volume .entry)) (now (fcb .entry)) (now (buffer .entry)))
+            ≡ writeSequentialLeaves self (now (volume .entry)) (now (fcb .entry)) (now (buffer .entry))
             ⌝ }
     {
         let why = self.sequential_why(volume, fcb, buffer.len());
@@ -105,8 +105,7 @@ impl Drive {
     pub fn write_random(self, volume: &mut [u8], fcb: &mut [u8], buffer: &[u8]) -> Reply
         ensures { λ r. ⌜
             left r (now (volume .exit)) (now (fcb .exit)) (now (buffer .entry))
-            ≡ outcome self (now (volume .entry)) (now (fcb .entry)) (now (buffer .entry))
-            (writeRandomAct self (now (volume .entry)) (now (fcb .entry)) (now (buffer .entry)))
+            ≡ writeRandomLeaves self (now (volume .entry)) (now (fcb .entry)) (now (buffer .entry))
             ⌝ }
     {
         self.write_direct(volume, fcb, buffer, false)
@@ -116,8 +115,7 @@ impl Drive {
     pub fn write_zero_fill(self, volume: &mut [u8], fcb: &mut [u8], buffer: &[u8]) -> Reply
         ensures { λ r. ⌜
             left r (now (volume .exit)) (now (fcb .exit)) (now (buffer .entry))
-            ≡ outcome self (now (volume .entry)) (now (fcb .entry)) (now (buffer .entry))
-            (writeZeroFillAct self (now (volume .entry)) (now (fcb .entry)) (now (buffer .entry)))
+            ≡ writeZeroFillLeaves self (now (volume .entry)) (now (fcb .entry)) (now (buffer .entry))
             ⌝ }
     {
         self.write_direct(volume, fcb, buffer, true)
