@@ -1,5 +1,5 @@
 -- One door: the function's number, its parameter and what is lent decide the call; `step` is all that it leaves.
-use mathlib.Core.List.{List, []}
+use mathlib.Core.List.{List}
 use Prim.Native.Nat.{ℕ}
 use Rattle.disk_geometry.specs.declared.Geometry.{Geometry}
 use Rattle.call_answers.specs.declared.Refusal.the-variants.{NotServed}
@@ -12,13 +12,8 @@ use Rattle.call_served.specs.Asked.{Asked}
 use Rattle.filecalls.specs.declared.Drive.{Drive}
 use Rattle.filecalls.specs.Outcome.{deny, Outcome, outcome, left}
 use Rattle.filecalls.specs.LogIn.{logIn}
-use Rattle.filecalls.specs.Open.{openAct, closeAct, sizeAct}
-use Rattle.filecalls.specs.Search.{searchFirstAct, searchNextAct}
-use Rattle.filecalls.specs.Names.{deleteAct, makeAct, renameAct, attributesAct}
-use Rattle.filecalls.specs.Read.{readSequentialAct, readRandomAct}
-use Rattle.filecalls.specs.Write.{writeSequentialAct, writeRandomAct, writeZeroFillAct}
-use Rattle.filecalls.specs.Small.{protectAct, userAct, setRandomAct}
-use Rattle.filecalls.specs.Several.{readOne, writeOne, several}
+use Rattle.filecalls.specs.Leaves.{openLeaves, closeLeaves, sizeLeaves, deleteLeaves, makeLeaves, renameLeaves, attributesLeave, searchFirstLeaves, searchNextLeaves, readSequentialLeaves, readRandomLeaves, writeSequentialLeaves, writeRandomLeaves, writeZeroFillLeaves, protectLeaves, userLeaves, setRandomLeaves}
+use Rattle.filecalls.specs.Several.{several}
 
 -- what a call is not lent stays as it is
 abbrev pub keepsBuffer : List ℕ → Outcome → Outcome
@@ -32,29 +27,29 @@ keepsVolume v o = record { answer = o .answer; drive = o .drive; volume = v; fcb
 
 -- a call that moves records, its parameter, state, volume, control block and buffer: all that is left
 unfoldable pub carries : Transfer → ℕ → Drive → List ℕ → List ℕ → List ℕ → Outcome
-carries ReadSequential p d v fcb b = outcome d v fcb b (readSequentialAct d v fcb b)
-carries WriteSequential p d v fcb b = outcome d v fcb b (writeSequentialAct d v fcb b)
-carries ReadRandom p d v fcb b = outcome d v fcb b (readRandomAct d v fcb b)
-carries WriteRandom p d v fcb b = outcome d v fcb b (writeRandomAct d v fcb b)
-carries WriteZeroFill p d v fcb b = outcome d v fcb b (writeZeroFillAct d v fcb b)
-carries ReadSeveral p d v fcb b = several readOne d v fcb b p
-carries WriteSeveral p d v fcb b = several writeOne d v fcb b p
+carries ReadSequential p d v fcb b = readSequentialLeaves d v fcb b
+carries WriteSequential p d v fcb b = writeSequentialLeaves d v fcb b
+carries ReadRandom p d v fcb b = readRandomLeaves d v fcb b
+carries WriteRandom p d v fcb b = writeRandomLeaves d v fcb b
+carries WriteZeroFill p d v fcb b = writeZeroFillLeaves d v fcb b
+carries ReadSeveral p d v fcb b = several readSequentialLeaves d v fcb b p
+carries WriteSeveral p d v fcb b = several writeSequentialLeaves d v fcb b p
 
 -- the call, the parameter, state, volume, control block and buffer: all that is left
 unfoldable pub does : Geometry → Call → ℕ → Drive → List ℕ → List ℕ → List ℕ → Outcome
 does g LogIn p d v fcb b = left (logIn g v) v fcb b
-does g Open p d v fcb b = keepsBuffer b (outcome d v fcb [] (openAct d v fcb))
-does g Close p d v fcb b = keepsBuffer b (outcome d v fcb [] (closeAct d v fcb))
-does g SearchFirst p d v fcb b = outcome d v fcb b (searchFirstAct d v fcb b)
-does g SearchNext p d v fcb b = keepsFcb fcb (outcome d v [] b (searchNextAct d v b))
-does g Delete p d v fcb b = keepsBuffer b (outcome d v fcb [] (deleteAct d v fcb))
-does g Make p d v fcb b = keepsBuffer b (outcome d v fcb [] (makeAct d v fcb))
-does g Rename p d v fcb b = keepsBuffer b (outcome d v fcb [] (renameAct d v fcb))
-does g Protect p d v fcb b = keepsVolume v (keepsFcb fcb (keepsBuffer b (outcome d [] [] [] (protectAct d))))
-does g Attributes p d v fcb b = keepsBuffer b (outcome d v fcb [] (attributesAct d v fcb))
-does g User p d v fcb b = keepsVolume v (keepsFcb fcb (keepsBuffer b (outcome d [] [] [] (userAct d p))))
-does g Size p d v fcb b = keepsBuffer b (outcome d v fcb [] (sizeAct d v fcb))
-does g SetRandom p d v fcb b = keepsVolume v (keepsBuffer b (outcome d [] fcb [] (setRandomAct d fcb)))
+does g Open p d v fcb b = keepsBuffer b (openLeaves d v fcb)
+does g Close p d v fcb b = keepsBuffer b (closeLeaves d v fcb)
+does g SearchFirst p d v fcb b = searchFirstLeaves d v fcb b
+does g SearchNext p d v fcb b = keepsFcb fcb (searchNextLeaves d v b)
+does g Delete p d v fcb b = keepsBuffer b (deleteLeaves d v fcb)
+does g Make p d v fcb b = keepsBuffer b (makeLeaves d v fcb)
+does g Rename p d v fcb b = keepsBuffer b (renameLeaves d v fcb)
+does g Protect p d v fcb b = keepsVolume v (keepsFcb fcb (keepsBuffer b (protectLeaves d)))
+does g Attributes p d v fcb b = keepsBuffer b (attributesLeave d v fcb)
+does g User p d v fcb b = keepsVolume v (keepsFcb fcb (keepsBuffer b (userLeaves d p)))
+does g Size p d v fcb b = keepsBuffer b (sizeLeaves d v fcb)
+does g SetRandom p d v fcb b = keepsVolume v (keepsBuffer b (setRandomLeaves d fcb))
 does g (Moves t) p d v fcb b = carries t p d v fcb b
 does g Unserved p d v fcb b = outcome d v fcb b (deny NotServed)
 

@@ -19,7 +19,10 @@ fn carry(
     fcb: &mut [u8],
     buffer: &mut [u8],
 ) -> Reply
-    ensures { λ r. ⌜ left r (now (volume .exit)) (now (fcb .exit)) (now (buffer .exit)) ≡ carries kind parameter drive (now (volume .entry)) (now (fcb .entry)) (now (buffer .entry)) ⌝ }
+    ensures { λ r. ⌜
+        left r (now (volume .exit)) (now (fcb .exit)) (now (buffer .exit))
+        ≡ carries kind parameter drive (now (volume .entry)) (now (fcb .entry)) (now (buffer .entry))
+        ⌝ }
 {
     match kind {
         Transfer::ReadSequential => drive.read_sequential(volume, fcb, buffer),
@@ -42,7 +45,10 @@ fn serve(
     fcb: &mut [u8],
     buffer: &mut [u8],
 ) -> Reply
-    ensures { λ r. ⌜ left r (now (volume .exit)) (now (fcb .exit)) (now (buffer .exit)) ≡ does g kind parameter drive (now (volume .entry)) (now (fcb .entry)) (now (buffer .entry)) ⌝ }
+    ensures { λ r. ⌜
+        left r (now (volume .exit)) (now (fcb .exit)) (now (buffer .exit))
+        ≡ does g kind parameter drive (now (volume .entry)) (now (fcb .entry)) (now (buffer .entry))
+        ⌝ }
 {
     match kind {
         Call::LogIn => Drive::log_in(g, volume),
@@ -73,7 +79,10 @@ pub fn enter(
     fcb: &mut [u8],
     buffer: &mut [u8],
 ) -> Reply
-    ensures { λ r. ⌜ left r (now (volume .exit)) (now (fcb .exit)) (now (buffer .exit)) ≡ step g (asked function parameter (now (fcb .entry)) (now (buffer .entry))) drive (now (volume .entry)) ⌝ }
+    ensures { λ r. ⌜
+        left r (now (volume .exit)) (now (fcb .exit)) (now (buffer .exit))
+        ≡ step g (asked function parameter (now (fcb .entry)) (now (buffer .entry))) drive (now (volume .entry))
+        ⌝ }
 {
     let kind = call_served::call_of(function);
     serve(g, kind, parameter, drive, volume, fcb, buffer)

@@ -12,7 +12,7 @@ use Rattle.call_answers.specs.Refusal.{refusalNumber}
 abbrev pub numberOf : Answer → ℕ
 numberOf (Done code) = code
 numberOf (Ready free) = 0
-numberOf (BadSlot slot) = 36
+numberOf (BadSlot slot) = refusalNumber refusal.BadSlot
 numberOf (Refused why) = refusalNumber why
 numberOf (Several done why) = refusalNumber why
 

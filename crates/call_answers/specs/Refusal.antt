@@ -70,6 +70,10 @@ test why met = record { why = why; met = met }
 abbrev pub refusing : Refusal → Bool → Refusal
 refusing why met = cond met why None
 
+-- "A refusal .. alters no lent byte": the new bytes where there is no refusal, else the old ones
+abbrev pub unlessRefused : Refusal → List ℕ → List ℕ → List ℕ
+unlessRefused why new old = cond (isNone why) new old
+
 -- the first of two refusals
 abbrev pub first : Refusal → Refusal → Refusal
 first a b = cond (isNone a) b a

@@ -44,28 +44,28 @@ pub enum Answer {
     Several(usize, Refusal),
 }
 
-// Is it no refusal?
+// Answers whether it is no refusal.
 pub fn is_none(why: Refusal) -> bool
     ensures { λ r. ⌜ r ≡ isNone why ⌝ }
 {
     refusal_number(why) == 0
 }
 
-// One test of a ladder: the refusal where the test is met.
+// One test of a ladder: answers the refusal where the test is met, None where it is not.
 pub fn refuse(why: Refusal, met: bool) -> Refusal
     ensures { λ r. ⌜ r ≡ refusing why met ⌝ }
 {
     if met { why } else { Refusal::None }
 }
 
-// The first of two refusals.
+// Answers the first of two refusals, None where both are.
 pub fn first_of(a: Refusal, b: Refusal) -> Refusal
     ensures { λ r. ⌜ r ≡ first a b ⌝ }
 {
     if is_none(a) { b } else { a }
 }
 
-// The paper's number of a refusal.
+// Answers the paper's number of a refusal, 0 for None.
 pub fn refusal_number(why: Refusal) -> u8
     ensures { λ r. ⌜ r ≡ refusalNumber why ⌝ }
 {
@@ -98,20 +98,21 @@ pub fn refusal_number(why: Refusal) -> u8
     }
 }
 
-// The paper's number of an answer.
+// Answers the paper's number of an answer.
 pub fn number(a: Answer) -> u8
     ensures { λ r. ⌜ r ≡ numberOf a ⌝ }
 {
     match a {
         Answer::Done(code) => code,
         Answer::Ready(_) => 0,
-        Answer::BadSlot(_) => 36,
+        Answer::BadSlot(_) => refusal_number(Refusal::BadSlot),
         Answer::Refused(why) => refusal_number(why),
         Answer::Several(_, why) => refusal_number(why),
     }
 }
 
-// The value beside the number: log-in's count of free blocks, or the bad slot in its place; the count of records done; else 0.
+// Answers the value beside the number: log-in's count of free blocks, or the bad slot in its place; the count of records
+// done; else 0.
 pub fn value(a: Answer) -> usize
     ensures { λ r. ⌜ r ≡ valueOf a ⌝ }
 {
@@ -124,7 +125,7 @@ pub fn value(a: Answer) -> usize
     }
 }
 
-// Did the call succeed?
+// Answers whether the call succeeded.
 pub fn succeeded(a: Answer) -> bool
     ensures { λ r. ⌜ r ≡ succeeded a ⌝ }
 {
@@ -137,7 +138,7 @@ pub fn succeeded(a: Answer) -> bool
     }
 }
 
-// Why the call was refused, or stopped.
+// Answers why the call was refused, or stopped.
 pub fn why_of(a: Answer) -> Refusal
     ensures { λ r. ⌜ r ≡ whyOf a ⌝ }
 {

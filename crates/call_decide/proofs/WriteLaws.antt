@@ -23,8 +23,8 @@ use Rattle.call_entry.specs.Grown.{likeEntry, baseOf}
 use Rattle.disk_geometry.proofs.InsideLaws.{inside-is, is-inside}
 use Rattle.call_entry.proofs.AllocLaws.{alloc-given}
 use Rattle.call_entry.proofs.GrowLaws.{length-like, length-written}
-use Rattle.call_decide.specs.Write.{hasGroup, writeSlot, baseEntry, needsBlock, writeBlock, writeTests}
-use Rattle.call_decide.specs.CodePlan.{ownOr, fromSlot, blockFor, fileTests, roomTests, entryAfter}
+use Rattle.call_decide.specs.Write.{hasGroup, writeSlot, baseEntry, needsBlock, writeBlock, entryAfter, writeTests}
+use Rattle.call_decide.specs.CodePlan.{ownOr, fromSlot, blockFor, fileTests, roomTests}
 use Rattle.disk_volume.proofs.FindLaws.{group-file}
 
 -- ---- the tests in two groups, as code asks them

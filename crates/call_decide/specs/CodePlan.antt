@@ -9,14 +9,12 @@ use Rattle.disk_volume.specs.declared.Wanted.{Wanted}
 use Rattle.disk_volume.specs.declared.Wanted.the-variants.{File, ReadOnlyFile}
 use Rattle.disk_geometry.specs.Geometry.{slots, inside, placeOf, blocks}
 use Rattle.disk_volume.specs.Entry.{Entry}
-use Rattle.disk_volume.specs.Directory.{putSlot, findSlot}
-use Rattle.disk_volume.specs.Record.{recordSlot, recordBlock, putFilled}
-use Rattle.disk_held.specs.Held.{hold}
+use Rattle.disk_volume.specs.Directory.{findSlot}
+use Rattle.disk_volume.specs.Record.{recordSlot, recordBlock}
 use Rattle.call_answers.specs.declared.Refusal.the-variants.{NoFile, ReadOnly, Outside, NoSlot, NoBlock}
 use Rattle.call_answers.specs.Refusal.{Test, test}
 use Rattle.call_entry.specs.Alloc.{alloc}
-use Rattle.call_entry.specs.Grown.{writtenEntry}
-use Rattle.call_decide.specs.Write.{writeSlot, baseEntry, needsBlock, fillsBlock, writeBlock}
+use Rattle.call_decide.specs.Write.{writeSlot, baseEntry, needsBlock, writeBlock}
 
 -- the slot of the group's own entry, or else the lowest that has what is wanted
 unfoldable pub ownOr : Geometry → List ℕ → ℕ → List ℕ → ℕ → Wanted → ℕ
@@ -45,22 +43,9 @@ roomTests g held e slot n =
     ∷ test NoBlock (eqb (recordBlock g e n) 0 && leb (blocks g) (alloc g held e (placeOf g n)))
     ∷ []
 
--- what a write leaves: the entry in its slot; the volume, the data first and then the directory; the held blocks
-abbrev pub entryAfter : Geometry → List ℕ → List ℕ → ℕ → List ℕ → ℕ → Entry
-entryAfter g held v u name n = writtenEntry g (baseEntry g v u name n) n (writeBlock g held v u name n)
-
--- the data alone, and the directory with it
-abbrev pub dataAfter : Geometry → List ℕ → List ℕ → ℕ → List ℕ → ℕ → Bool → List ℕ → List ℕ
-dataAfter g held v u name n fills r = putFilled g (fillsBlock g v u name n fills) v (writeBlock g held v u name n) n r
-
-abbrev pub volumeAfter : Geometry → List ℕ → List ℕ → ℕ → List ℕ → ℕ → Bool → List ℕ → List ℕ
-volumeAfter g held v u name n fills r = putSlot g (dataAfter g held v u name n fills r) (writeSlot g v u name n) (entryAfter g held v u name n)
-
-abbrev pub heldAfter : Geometry → List ℕ → List ℕ → ℕ → List ℕ → ℕ → List ℕ
-heldAfter g held v u name n = cond (needsBlock g v u name n) (hold held (writeBlock g held v u name n)) held
-
 -- what is decided where no test is met: slot, block, whether the block is newly taken, and the entry that grows
-pub record Decided (g : Geometry) (held v : List ℕ) (u : ℕ) (name : List ℕ) (n slot block : ℕ) (fresh : Bool) (e : Entry) : Type 0 where
+pub record Decided (g : Geometry) (held v : List ℕ) (u : ℕ) (name : List ℕ) (n slot block : ℕ) (fresh : Bool) (e : Entry)
+    : Type 0 where
   pub slot-is : slot ≡ writeSlot g v u name n
   pub block-is : block ≡ writeBlock g held v u name n
   pub fresh-is : fresh ≡ needsBlock g v u name n

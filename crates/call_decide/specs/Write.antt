@@ -1,6 +1,6 @@
 -- The writes: "a missing group gets the lowest empty slot, with bytes 0 to 11 of the file's lowest entry, s1 0 and a map
--- of zeros; a zero map place gets the lowest free block. The record's 128 bytes are stored." The entry that grows and the
--- block that a place is given are those of `entries`.
+-- of zeros; a zero map place gets the lowest free block. The record's 128 bytes are stored." How an entry grows and which
+-- block a place is given stand in `call_entry`.
 use mathlib.Core.Bool.{Bool, not, cond, _&&_}
 use mathlib.Core.List.{List, [], _∷_}
 use Prim.Native.Nat.{ℕ}
@@ -14,7 +14,7 @@ use Rattle.disk_volume.specs.Record.{recordSlot, recordBlock}
 use Rattle.call_answers.specs.declared.Refusal.the-variants.{NoFile, ReadOnly, Outside, NoSlot, NoBlock}
 use Rattle.call_answers.specs.Refusal.{Test, test}
 use Rattle.call_entry.specs.Alloc.{alloc}
-use Rattle.call_entry.specs.Grown.{likeEntry}
+use Rattle.call_entry.specs.Grown.{likeEntry, writtenEntry}
 
 module _ (g : Geometry) (v : List ℕ) (u : ℕ) (name : List ℕ) (n : ℕ) where
   -- record n's group has an entry
@@ -39,7 +39,12 @@ module _ (g : Geometry) (v : List ℕ) (u : ℕ) (name : List ℕ) (n : ℕ) whe
 -- the block that the record goes to
 unfoldable pub writeBlock : Geometry → List ℕ → List ℕ → ℕ → List ℕ → ℕ → ℕ
 writeBlock g held v u name n =
-    cond (needsBlock g v u name n) (alloc g held (baseEntry g v u name n) (placeOf g n)) (recordBlock g (baseEntry g v u name n) n)
+    cond (needsBlock g v u name n) (alloc g held (baseEntry g v u name n) (placeOf g n))
+    (recordBlock g (baseEntry g v u name n) n)
+
+-- the entry that the write leaves in its slot
+abbrev pub entryAfter : Geometry → List ℕ → List ℕ → ℕ → List ℕ → ℕ → Entry
+entryAfter g held v u name n = writtenEntry g (baseEntry g v u name n) n (writeBlock g held v u name n)
 
 -- 3, 38, 41, 5, 2
 unfoldable pub writeTests : Geometry → List ℕ → List ℕ → ℕ → List ℕ → ℕ → List Test

@@ -3,10 +3,10 @@ ghost use mathlib.Core.Path.{_≡_};
 ghost use mathlib.Core.Bool.{true, false};
 ghost use Prim.Native.Nat.{_≤_, _<_};
 ghost use lib.Dec.{eqb};
-ghost use lib.ListN.{length};
-ghost use Rattle.disk_geometry.specs.Geometry.{lawful, bytes, slots};
+ghost use Rattle.disk_geometry.specs.Geometry.{lawful, slots};
 ghost use Rattle.disk_volume.specs.Name.{strip};
 ghost use Rattle.disk_volume.specs.Record.{recordBlock};
+ghost use Rattle.disk_volume.specs.CodeLent.{VolumeAnd, IsName, IsEntry};
 ghost use Rattle.call_answers.specs.Refusal.{isNone, firstMet};
 ghost use Rattle.call_decide.specs.Write.{writeTests};
 ghost use Rattle.call_decide.specs.CodePlan.{Decided, ownOr, blockFor, fileTests, roomTests};
@@ -26,8 +26,11 @@ pub struct WritePlan {
 
 // The slot of the group's own entry, or else the lowest that has what is wanted.
 fn own_or(g: Geometry, volume: &[u8], user: u8, name: &[u8], own: usize, wanted: Wanted) -> usize
-    requires { ⌜ (lawful g ≡ true) × ((length (now volume) ≡ bytes g) × (length (now name) ≡ 11)) ⌝ }
-    ensures { λ r. ⌜ (r ≡ ownOr g (now (volume .entry)) user (strip (now (name .entry))) own wanted) × (r ≤ slots g) ⌝ }
+    requires { ⌜ VolumeAnd g (now volume) (IsName (now name)) ⌝ }
+    ensures { λ r. ⌜
+        (r ≡ ownOr g (now (volume .entry)) user (strip (now (name .entry))) own wanted)
+        × (r ≤ slots g)
+        ⌝ }
 {
     if own < g.slots() {
         return own;
@@ -37,7 +40,7 @@ fn own_or(g: Geometry, volume: &[u8], user: u8, name: &[u8], own: usize, wanted:
 
 // 3 and 38, where the file's entry is sought in slot `from`.
 fn file_why(g: Geometry, volume: &[u8], user: u8, name: &[u8], from: usize) -> Refusal
-    requires { ⌜ (lawful g ≡ true) × ((length (now volume) ≡ bytes g) × (length (now name) ≡ 11)) ⌝ }
+    requires { ⌜ VolumeAnd g (now volume) (IsName (now name)) ⌝ }
     ensures { λ r. ⌜ r ≡ firstMet (fileTests g (now (volume .entry)) user (strip (now (name .entry))) from) ⌝ }
 {
     let slots = g.slots();
@@ -50,7 +53,7 @@ fn file_why(g: Geometry, volume: &[u8], user: u8, name: &[u8], from: usize) -> R
 
 // 41, 5 and 2, for record n of entry e in this slot, with its block.
 fn room(g: Geometry, held: [u64; 4], e: &[u8], slot: usize, n: usize) -> WritePlan
-    requires { ⌜ (lawful g ≡ true) × (length (now e) ≡ 32) ⌝ }
+    requires { ⌜ (lawful g ≡ true) × IsEntry (now e) ⌝ }
     ensures { λ r. ⌜ r .why ≡ firstMet (roomTests g held (now (e .entry)) slot n) ⌝ }
     ensures { λ r. ⌜ r .slot ≡ slot ⌝ }
     ensures { λ r. ⌜ r .block ≡ blockFor g held (now (e .entry)) n ⌝ }
@@ -90,12 +93,19 @@ pub fn decide(
     n: usize,
     e: &mut [u8],
 ) -> WritePlan
-    requires { ⌜ (lawful g ≡ true) × ((length (now volume) ≡ bytes g) × (length (now name) ≡ 11)) ⌝ }
-    requires { ⌜ length (now e) ≡ 32 ⌝ }
-    ensures { λ r. ⌜ r .why ≡ firstMet (writeTests g held (now (volume .entry)) user (strip (now (name .entry))) n) ⌝ }
-    ensures { λ r. ⌜ (isNone (r .why) ≡ true → Decided g held (now (volume .entry)) user (strip (now (name .entry))) n (r .slot) (r .block) (r .fresh) (now (e .exit))) ⌝ }
+    requires { ⌜ VolumeAnd g (now volume) (IsName (now name)) ⌝ }
+    requires { ⌜ IsEntry (now e) ⌝ }
+    ensures { λ r. ⌜
+        r .why
+        ≡ firstMet (writeTests g held (now (volume .entry)) user (strip (now (name .entry))) n)
+        ⌝ }
+    ensures { λ r. ⌜
+        (isNone (r .why) ≡ true
+        → Decided g held (now (volume .entry)) user (strip (now (name .entry))) n
+        (r .slot) (r .block) (r .fresh) (now (e .exit)))
+        ⌝ }
 {
-    let group = g.group(n / 128);
+    let group = g.group(n / Geometry::EXTENT_RECORDS);
     let own = directory::find(g, volume, user, name, Wanted::Group(group));
     let from = own_or(g, volume, user, name, own, Wanted::File);
     let why = file_why(g, volume, user, name, from);

@@ -19,7 +19,8 @@ deleteTests g v u pattern =
     ∷ test ReadOnly (ltb (findSlot g v u pattern ReadOnlyMatch) (slots g))
     ∷ []
 
--- the held blocks without the block of place p, without those of an entry, of slot i if it matches, of all slots that match
+-- the held blocks without the block of place p, without those of an entry, of slot i if it matches, of all slots that
+-- match; what comes of it is said in `Freed`
 unfoldable pub freePlace : Geometry → Entry → List ℕ → ℕ → List ℕ
 freePlace g e held p = cond (inside g (blockIn g e p)) (release held (blockIn g e p)) held
 

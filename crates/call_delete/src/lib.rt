@@ -1,15 +1,15 @@
 // Delete: the tests that look at the directory, and the blocks of the entries that match.
 ghost use mathlib.Core.Path.{_≡_};
-ghost use mathlib.Core.Bool.{true, cond};
+ghost use mathlib.Core.Bool.{cond};
 ghost use mathlib.Core.List.{[]};
 ghost use Prim.Native.Nat.{_<_};
-ghost use lib.ListN.{length};
-ghost use Rattle.disk_geometry.specs.Geometry.{lawful, bytes, slots, places};
+ghost use Rattle.disk_geometry.specs.Geometry.{slots, places};
 ghost use Rattle.disk_volume.specs.Name.{strip};
 ghost use Rattle.disk_volume.specs.Directory.{mapSlots};
+ghost use Rattle.disk_volume.specs.CodeLent.{IsVolume, VolumeAnd, IsName, IsEntry};
 ghost use Rattle.call_answers.specs.Refusal.{isNone, first, firstMet};
 ghost use Rattle.call_sweep.specs.declared.Edit.the-variants.{Erase};
-ghost use Rattle.call_sweep.specs.Sweep.{changed};
+ghost use Rattle.call_sweep.specs.CodeEdit.{lentChange};
 ghost use Rattle.call_delete.specs.Delete.{deleteTests, freePlace, freeEntry, freeSlot, freeMatches};
 use call_answers::Refusal;
 use call_sweep::Edit;
@@ -26,7 +26,7 @@ pub struct Deleted {
 
 // Why the entries that match can't be deleted. A read-only match is sought from the first match on.
 fn delete_why(g: Geometry, volume: &[u8], user: u8, pattern: &[u8]) -> Refusal
-    requires { ⌜ (lawful g ≡ true) × ((length (now volume) ≡ bytes g) × (length (now pattern) ≡ 11)) ⌝ }
+    requires { ⌜ VolumeAnd g (now volume) (IsName (now pattern)) ⌝ }
     ensures { λ r. ⌜ r ≡ firstMet (deleteTests g (now (volume .entry)) user (strip (now (pattern .entry)))) ⌝ }
 {
     let slots = g.slots();
@@ -46,7 +46,7 @@ fn delete_why(g: Geometry, volume: &[u8], user: u8, pattern: &[u8]) -> Refusal
 
 // The held blocks without the block of place p; numbers outside D to T-1 are passed over.
 fn free_place(g: Geometry, e: &[u8], held: [u64; 4], p: usize) -> [u64; 4]
-    requires { ⌜ (p < places g) × (length (now e) ≡ 32) ⌝ }
+    requires { ⌜ (p < places g) × IsEntry (now e) ⌝ }
     ensures { λ r. ⌜ r ≡ freePlace g (now (e .entry)) held p ⌝ }
 {
     let b = entry::block_in(g, e, p);
@@ -58,7 +58,7 @@ fn free_place(g: Geometry, e: &[u8], held: [u64; 4], p: usize) -> [u64; 4]
 
 // The held blocks without those of the entry.
 fn free_entry(g: Geometry, e: &[u8], held: [u64; 4]) -> [u64; 4]
-    requires { ⌜ length (now e) ≡ 32 ⌝ }
+    requires { ⌜ IsEntry (now e) ⌝ }
     ensures { λ r. ⌜ r ≡ freeEntry g (now (e .entry)) held ⌝ }
 {
     let n = g.places();
@@ -81,20 +81,26 @@ fn free_slot(
     held: [u64; 4],
     i: usize,
 ) -> [u64; 4]
-    requires { ⌜ (lawful g ≡ true) × (length (now volume) ≡ bytes g) ⌝ }
-    requires { ⌜ (i < slots g) × (length (now pattern) ≡ 11) ⌝ }
+    requires { ⌜ IsVolume g (now volume) ⌝ }
+    requires { ⌜ (i < slots g) × IsName (now pattern) ⌝ }
     ensures { λ r. ⌜ r ≡ freeSlot g (now (volume .entry)) user (strip (now (pattern .entry))) held i ⌝ }
 {
     let at = g.slot_start(i);
-    if !entry::has(g, &volume[at..at + 32], user, pattern, Wanted::Match) {
+    if !entry::has(
+        g,
+        &volume[at..at + Geometry::ENTRY_BYTES],
+        user,
+        pattern,
+        Wanted::Match,
+    ) {
         return held;
     }
-    free_entry(g, &volume[at..at + 32], held)
+    free_entry(g, &volume[at..at + Geometry::ENTRY_BYTES], held)
 }
 
 // The held blocks without those of the entries that match.
 fn free_matches(g: Geometry, volume: &[u8], user: u8, pattern: &[u8], held: [u64; 4]) -> [u64; 4]
-    requires { ⌜ (lawful g ≡ true) × ((length (now volume) ≡ bytes g) × (length (now pattern) ≡ 11)) ⌝ }
+    requires { ⌜ VolumeAnd g (now volume) (IsName (now pattern)) ⌝ }
     ensures { λ r. ⌜ r ≡ freeMatches g (now (volume .entry)) user (strip (now (pattern .entry))) held ⌝ }
 {
     let slots = g.slots();
@@ -117,10 +123,23 @@ pub fn delete_matches(
     held: [u64; 4],
     before: Refusal,
 ) -> Deleted
-    requires { ⌜ (lawful g ≡ true) × ((length (now volume) ≡ bytes g) × (length (now pattern) ≡ 11)) ⌝ }
-    ensures { λ r. ⌜ r .why ≡ first before (firstMet (deleteTests g (now (volume .entry)) user (strip (now (pattern .entry))))) ⌝ }
-    ensures { λ r. ⌜ r .held ≡ cond (isNone (r .why)) (freeMatches g (now (volume .entry)) user (strip (now (pattern .entry))) held) held ⌝ }
-    ensures { λ r. ⌜ now (volume .exit) ≡ cond (isNone (r .why)) (mapSlots g (changed Erase user (strip (now (pattern .entry))) []) (now (volume .entry))) (now (volume .entry)) ⌝ }
+    requires { ⌜ VolumeAnd g (now volume) (IsName (now pattern)) ⌝ }
+    ensures { λ r. ⌜
+        r .why
+        ≡ first before (firstMet (deleteTests g (now (volume .entry)) user (strip (now (pattern .entry)))))
+        ⌝ }
+    ensures { λ r. ⌜
+        r .held
+        ≡ cond (isNone (r .why))
+        (freeMatches g (now (volume .entry)) user (strip (now (pattern .entry))) held)
+        held
+        ⌝ }
+    ensures { λ r. ⌜
+        now (volume .exit)
+        ≡ cond (isNone (r .why))
+        (mapSlots g (lentChange Erase user (now (pattern .entry)) []) (now (volume .entry)))
+        (now (volume .entry))
+        ⌝ }
 {
     let why = call_answers::first_of(before, delete_why(g, volume, user, pattern));
     if !call_answers::is_none(why) {

@@ -2,18 +2,19 @@
 -- s1 0 and a map of zeros"; how it counts a further record, and the block of its place.
 use mathlib.Core.Bool.{cond}
 use mathlib.Core.List.{List, _++_}
-use Prim.Native.Nat.{ℕ, _+_, _/_, _%_, max}
+use Prim.Native.Nat.{ℕ, _+_, _-_, _/_, _%_, max}
 use lib.Dec.{ltb}
 use lib.ListN.{set, replicate}
 use Rattle.lists.specs.Bytes.{byte, part}
 use Rattle.disk_geometry.specs.declared.Geometry.{Geometry}
-use Rattle.disk_geometry.specs.Geometry.{slots, placeOf}
+use Rattle.disk_geometry.specs.Geometry.{entryBytes, extentRecords, slots, placeOf}
+use Rattle.disk_volume.specs.Fields.{USER, EX, S2, RC}
 use Rattle.disk_volume.specs.Entry.{Entry, extent, withBlock}
 use Rattle.disk_volume.specs.Directory.{slotAt}
 
--- a new entry with bytes 0 to 11 of another
+-- a new entry with bytes 0 to 11 of another, all that stands before ex
 unfoldable pub likeEntry : Entry → Entry
-likeEntry e = part e 0 12 ++ replicate 20 0
+likeEntry e = part e USER EX ++ replicate (entryBytes - EX) 0
 
 -- the group's own entry in slot `from`, or else a new one like the entry there
 unfoldable pub baseOf : Geometry → List ℕ → ℕ → ℕ → Entry
@@ -23,8 +24,10 @@ baseOf g v own from = cond (ltb own (slots g)) (slotAt g v from) (likeEntry (slo
 -- equal, rc is the larger of both; if below, it stays." A new entry has extent 0 and rc 0, which needs no case of its own.
 unfoldable pub grown : Entry → ℕ → Entry
 grown e n =
-    cond (ltb (extent e) (n / 128)) (set (set (set e 12 (n / 128 % 32)) 14 (n / 128 / 32)) 15 (n % 128 + 1))
-    (cond (ltb (n / 128) (extent e)) e (set e 15 (max (byte e 15) (n % 128 + 1))))
+    let x = n / extentRecords in
+    let count = n % extentRecords + 1 in
+    cond (ltb (extent e) x) (set (set (set e EX (x % 32)) S2 (x / 32)) RC count)
+    (cond (ltb x (extent e)) e (set e RC (max (byte e RC) count)))
 
 -- the entry after record n went to block b
 unfoldable pub writtenEntry : Geometry → Entry → ℕ → ℕ → Entry

@@ -2,57 +2,59 @@
 ghost use mathlib.Core.Path.{_≡_};
 ghost use mathlib.Core.Bool.{true};
 ghost use Prim.Native.Nat.{_+_, _≤_, _<_};
-ghost use lib.ListN.{length};
-ghost use Rattle.disk_geometry.specs.Geometry.{lawful, bytes, slots, places, blocks};
+ghost use Rattle.disk_geometry.specs.Geometry.{lawful, slots, places, blocks};
 ghost use Rattle.disk_volume.specs.Entry.{withBlock};
+ghost use Rattle.disk_volume.specs.CodeLent.{IsVolume, IsEntry};
+ghost use Rattle.call_fcb.specs.Fcb.{fileRecords};
 ghost use Rattle.call_entry.specs.Alloc.{nearestBelow, alloc};
 ghost use Rattle.call_entry.specs.Grown.{baseOf, grown, writtenEntry};
 use disk_geometry::Geometry;
 use disk_volume::entry;
+use disk_volume::fields;
 
 // Copies the entry of slot `from` to e; where it is not the group's own, only its user and name.
 pub fn base_entry(g: Geometry, volume: &[u8], own: usize, from: usize, e: &mut [u8])
-    requires { ⌜ (lawful g ≡ true) × (length (now volume) ≡ bytes g) ⌝ }
-    requires { ⌜ (from < slots g) × (length (now e) ≡ 32) ⌝ }
+    requires { ⌜ IsVolume g (now volume) ⌝ }
+    requires { ⌜ (from < slots g) × IsEntry (now e) ⌝ }
     ensures { λ _. ⌜ now (e .exit) ≡ baseOf g (now (volume .entry)) own from ⌝ }
 {
     let at = g.slot_start(from);
-    lists::copy(e, &volume[at..at + 32]);
+    lists::copy(e, &volume[at..at + Geometry::ENTRY_BYTES]);
     if g.slots() <= own {
-        lists::fill(&mut e[12..32], 0);
+        lists::fill(&mut e[fields::EX..Geometry::ENTRY_BYTES], 0);
     }
 }
 
 // Lets the entry count record n of its group.
 pub fn grow(e: &mut [u8], n: usize)
-    requires { ⌜ (length (now e) ≡ 32) × (n < 65536) ⌝ }
+    requires { ⌜ IsEntry (now e) × (n < fileRecords) ⌝ }
     ensures { λ _. ⌜ now (e .exit) ≡ grown (now (e .entry)) n ⌝ }
 {
     let own = entry::extent_of(e);
-    let x = n / 128;
-    let count = (n % 128 + 1) as u8;
+    let x = n / Geometry::EXTENT_RECORDS;
+    let count = (n % Geometry::EXTENT_RECORDS + 1) as u8;
     if own < x {
-        e[12] = (x % 32) as u8;
-        e[14] = (x / 32) as u8;
-        e[15] = count;
+        e[fields::EX] = (x % 32) as u8;
+        e[fields::S2] = (x / 32) as u8;
+        e[fields::RC] = count;
         return;
     }
-    if (own == x) & (e[15] < count) {
-        e[15] = count;
+    if (own == x) & (e[fields::RC] < count) {
+        e[fields::RC] = count;
     }
 }
 
 // Lays block number b into place p of the entry's map.
 pub fn with_block(g: Geometry, e: &mut [u8], p: usize, b: usize)
-    requires { ⌜ (p < places g) × ((length (now e) ≡ 32) × (b < 256)) ⌝ }
+    requires { ⌜ (p < places g) × (IsEntry (now e) × (b < 256)) ⌝ }
     ensures { λ _. ⌜ now (e .exit) ≡ withBlock g (now (e .entry)) p b ⌝ }
 {
-    e[16 + p] = b as u8;
+    e[fields::MAP + p] = b as u8;
 }
 
 // Lets the entry say that record n went to block b.
 pub fn write_entry(g: Geometry, e: &mut [u8], n: usize, b: usize)
-    requires { ⌜ (lawful g ≡ true) × ((length (now e) ≡ 32) × ((n < 65536) × (b < 256))) ⌝ }
+    requires { ⌜ (lawful g ≡ true) × (IsEntry (now e) × ((n < fileRecords) × (b < 256))) ⌝ }
     ensures { λ _. ⌜ now (e .exit) ≡ writtenEntry g (now (e .entry)) n b ⌝ }
 {
     grow(e, n);
@@ -62,7 +64,7 @@ pub fn write_entry(g: Geometry, e: &mut [u8], n: usize, b: usize)
 
 // The block in the nearest used place below place p of the entry, 0 where none is used.
 fn nearest_below(g: Geometry, e: &[u8], p: usize) -> usize
-    requires { ⌜ (p < places g) × (length (now e) ≡ 32) ⌝ }
+    requires { ⌜ (p < places g) × IsEntry (now e) ⌝ }
     ensures { λ r. ⌜ r ≡ nearestBelow g (now (e .entry)) p ⌝ }
 {
     let mut q = p;
@@ -78,7 +80,7 @@ fn nearest_below(g: Geometry, e: &[u8], p: usize) -> usize
 
 // The block that place p of the entry is given, T where none is free; nothing else knows the rule.
 pub fn alloc(g: Geometry, held: [u64; 4], e: &[u8], p: usize) -> usize
-    requires { ⌜ (lawful g ≡ true) × ((p < places g) × (length (now e) ≡ 32)) ⌝ }
+    requires { ⌜ (lawful g ≡ true) × ((p < places g) × IsEntry (now e)) ⌝ }
     ensures { λ r. ⌜ (r ≡ alloc g held (now (e .entry)) p) × (r ≤ blocks g) ⌝ }
 {
     let near = nearest_below(g, e, p);

@@ -5,6 +5,8 @@ use Prim.Native.Nat.{ℕ, _+_, _*_, _/_, _%_}
 use lib.Dec.{leb}
 use lib.ListN.{set, replicate}
 use Rattle.lists.specs.Bytes.{byte, part, put}
+use Rattle.disk_geometry.specs.Geometry.{extentRecords}
+use Rattle.disk_volume.specs.Fields.{NAME, EX, S1, S2, RC, MAP, nameBytes, mapBytes}
 use Rattle.disk_volume.specs.Name.{nameAt}
 use Rattle.disk_volume.specs.Entry.{Entry, extent, countOf}
 
@@ -37,39 +39,50 @@ fileRecords = 65536
 
 -- rename's new name
 abbrev pub newName : List ℕ → List ℕ
-newName fcb = nameAt fcb 17
+newName fcb = nameAt fcb NEWNAME
 
 -- "The sequential position is 128 times (32 times s2 plus ex), plus cr"
 unfoldable pub position : List ℕ → ℕ
-position fcb = 128 * extent fcb + byte fcb 32
+position fcb = extentRecords * extent fcb + byte fcb CR
 
 -- the record that the random calls mean
 unfoldable pub random : List ℕ → ℕ
-random fcb = byte fcb 33 + 256 * byte fcb 34
+random fcb = byte fcb R0 + 256 * byte fcb R1
 
 -- "with ex at most 31, s2 at most 15, cr at most 128"
 abbrev pub exFits : List ℕ → Bool
-exFits fcb = leb (byte fcb 12) 31
+exFits fcb = leb (byte fcb EX) 31
 
 abbrev pub extentFits : List ℕ → Bool
-extentFits fcb = leb (byte fcb 12) 31 && leb (byte fcb 14) 15
+extentFits fcb = leb (byte fcb EX) 31 && leb (byte fcb S2) 15
 
 abbrev pub positionFits : List ℕ → Bool
-positionFits fcb = leb (byte fcb 12) 31 && leb (byte fcb 14) 15 && leb (byte fcb 32) 128
+positionFits fcb = leb (byte fcb EX) 31 && leb (byte fcb S2) 15 && leb (byte fcb CR) 128
+
+-- bytes 1..11 as the entry has them, and the map
+abbrev pub nameFrom : Entry → List ℕ → List ℕ
+nameFrom e fcb = put fcb NAME nameBytes (part e NAME nameBytes)
+
+abbrev pub mapFrom : Entry → List ℕ → List ℕ
+mapFrom e fcb = put fcb MAP mapBytes (part e MAP mapBytes)
+
+-- ex and s2 of extent x, which is "32 times s2 plus ex"
+abbrev pub withExtent : List ℕ → ℕ → List ℕ
+withExtent fcb x = set (set fcb EX (x % 32)) S2 (x / 32)
 
 -- "Set to n means ex, s2 from extent n div 128, rc its count, map as in its entry"; cr beside it
 unfoldable pub setTo : List ℕ → Entry → ℕ → ℕ → List ℕ
 setTo fcb e n cr =
-    put (set (set (set (set fcb 12 (n / 128 % 32)) 14 (n / 128 / 32)) 15 (countOf e (n / 128))) 32 cr) 16 16 (part e 16 16)
+    mapFrom e (set (set (withExtent fcb (n / extentRecords)) RC (countOf e (n / extentRecords))) CR cr)
 
 -- "Bytes 1..11 and 16..31 come from the entry, s1 and s2 become 0, rc the count of ex."
 unfoldable pub opened : List ℕ → Entry → List ℕ
-opened fcb e = put (put (set (set (set fcb 13 0) 14 0) 15 (countOf e (byte fcb 12))) 1 11 (part e 1 11)) 16 16 (part e 16 16)
+opened fcb e = mapFrom e (nameFrom e (set (set (set fcb S1 0) S2 0) RC (countOf e (byte fcb EX))))
 
--- "Control block 1..11 likewise, 12..31 become 0": the name without top bits
+-- "Control block 1..11 likewise, 12..31 become 0": the name without top bits, and twenty bytes
 unfoldable pub made : List ℕ → List ℕ → List ℕ
-made fcb name = put (put fcb 1 11 name) 12 20 (replicate 20 0)
+made fcb name = put (put fcb NAME nameBytes name) EX 20 (replicate 20 0)
 
 -- "in r0 r1 r2, low byte first"
 unfoldable pub withRandom : List ℕ → ℕ → List ℕ
-withRandom fcb n = set (set (set fcb 33 (n % 256)) 34 (n / 256 % 256)) 35 (n / 65536)
+withRandom fcb n = set (set (set fcb R0 (n % 256)) R1 (n / 256 % 256)) R2 (n / 65536)

@@ -1,8 +1,17 @@
 // The control block: its position, and what calls set in it.
 ghost use mathlib.Core.Path.{_≡_};
 ghost use Prim.Native.Nat.{_<_};
-ghost use lib.ListN.{length};
-ghost use Rattle.call_fcb.specs.Fcb.{position, random, setTo, opened, made, withRandom};
+ghost use Rattle.disk_volume.specs.CodeLent.{IsFcb, IsEntry, IsName};
+ghost use Rattle.call_fcb.specs.Fcb.{fileRecords, position, random, setTo, opened, made, withRandom};
+use disk_geometry::Geometry;
+use disk_volume::fields::EX;
+use disk_volume::fields::MAP;
+use disk_volume::fields::MAP_END;
+use disk_volume::fields::NAME;
+use disk_volume::fields::NAME_END;
+use disk_volume::fields::RC;
+use disk_volume::fields::S1;
+use disk_volume::fields::S2;
 
 // The fields that an entry does not have; the others stand where an entry has them.
 pub const DR: usize = 0;
@@ -25,63 +34,64 @@ pub const FCB_BYTES: usize = 36;
 
 pub const FILE_RECORDS: usize = 65536;
 
-// The sequential position.
+// Answers the sequential position of the control block.
 pub fn position_of(fcb: &[u8]) -> usize
-    requires { ⌜ length (now fcb) ≡ 36 ⌝ }
+    requires { ⌜ IsFcb (now fcb) ⌝ }
     ensures { λ r. ⌜ (r ≡ position (now (fcb .entry))) × (r < 1100000) ⌝ }
 {
-    128 * disk_volume::entry::extent_of(fcb) + lists::wide(fcb[32])
+    Geometry::EXTENT_RECORDS * disk_volume::entry::extent_of(fcb) + lists::wide(fcb[CR])
 }
 
-// The record that a random call means.
+// Answers the record that a random call means.
 pub fn random_of(fcb: &[u8]) -> usize
-    requires { ⌜ length (now fcb) ≡ 36 ⌝ }
-    ensures { λ r. ⌜ (r ≡ random (now (fcb .entry))) × (r < 65536) ⌝ }
+    requires { ⌜ IsFcb (now fcb) ⌝ }
+    ensures { λ r. ⌜ (r ≡ random (now (fcb .entry))) × (r < fileRecords) ⌝ }
 {
-    lists::wide(fcb[33]) + 256 * lists::wide(fcb[34])
+    lists::wide(fcb[R0]) + 256 * lists::wide(fcb[R1])
 }
 
 // Sets the control block to record n of the entry e, with this cr.
 pub fn set_to(fcb: &mut [u8], e: &[u8], n: usize, cr: u8)
-    requires { ⌜ (length (now fcb) ≡ 36) × ((length (now e) ≡ 32) × (n < 65536)) ⌝ }
+    requires { ⌜ IsFcb (now fcb) × (IsEntry (now e) × (n < fileRecords)) ⌝ }
     ensures { λ _. ⌜ now (fcb .exit) ≡ setTo (now (fcb .entry)) (now (e .entry)) n cr ⌝ }
 {
-    let count = disk_volume::entry::count_of(e, n / 128);
-    fcb[12] = (n / 128 % 32) as u8;
-    fcb[14] = (n / 128 / 32) as u8;
-    fcb[15] = count;
-    fcb[32] = cr;
-    lists::copy(&mut fcb[16..32], &e[16..32]);
+    let extent = n / Geometry::EXTENT_RECORDS;
+    let count = disk_volume::entry::count_of(e, extent);
+    fcb[EX] = (extent % 32) as u8;
+    fcb[S2] = (extent / 32) as u8;
+    fcb[RC] = count;
+    fcb[CR] = cr;
+    lists::copy(&mut fcb[MAP..MAP_END], &e[MAP..MAP_END]);
 }
 
 // Shows the entry e in the control block, as open does.
 pub fn set_open(fcb: &mut [u8], e: &[u8])
-    requires { ⌜ (length (now fcb) ≡ 36) × (length (now e) ≡ 32) ⌝ }
+    requires { ⌜ IsFcb (now fcb) × IsEntry (now e) ⌝ }
     ensures { λ _. ⌜ now (fcb .exit) ≡ opened (now (fcb .entry)) (now (e .entry)) ⌝ }
 {
-    let count = disk_volume::entry::count_of(e, lists::wide(fcb[12]));
-    fcb[13] = 0;
-    fcb[14] = 0;
-    fcb[15] = count;
-    lists::copy(&mut fcb[1..12], &e[1..12]);
-    lists::copy(&mut fcb[16..32], &e[16..32]);
+    let count = disk_volume::entry::count_of(e, lists::wide(fcb[EX]));
+    fcb[S1] = 0;
+    fcb[S2] = 0;
+    fcb[RC] = count;
+    lists::copy(&mut fcb[NAME..NAME_END], &e[NAME..NAME_END]);
+    lists::copy(&mut fcb[MAP..MAP_END], &e[MAP..MAP_END]);
 }
 
 // Lays a made file's name into the control block, and clears what follows it up to the map's end.
 pub fn set_made(fcb: &mut [u8], name: &[u8])
-    requires { ⌜ (length (now fcb) ≡ 36) × (length (now name) ≡ 11) ⌝ }
+    requires { ⌜ IsFcb (now fcb) × IsName (now name) ⌝ }
     ensures { λ _. ⌜ now (fcb .exit) ≡ made (now (fcb .entry)) (now (name .entry)) ⌝ }
 {
-    lists::copy(&mut fcb[1..12], name);
-    lists::fill(&mut fcb[12..32], 0);
+    lists::copy(&mut fcb[NAME..NAME_END], name);
+    lists::fill(&mut fcb[EX..MAP_END], 0);
 }
 
 // Lays a number into r0 r1 r2, low byte first.
 pub fn set_random(fcb: &mut [u8], n: usize)
-    requires { ⌜ (length (now fcb) ≡ 36) × (n < 16777216) ⌝ }
+    requires { ⌜ IsFcb (now fcb) × (n < 16777216) ⌝ }
     ensures { λ _. ⌜ now (fcb .exit) ≡ withRandom (now (fcb .entry)) n ⌝ }
 {
-    fcb[33] = (n % 256) as u8;
-    fcb[34] = (n / 256 % 256) as u8;
-    fcb[35] = (n / 65536) as u8;
+    fcb[R0] = (n % 256) as u8;
+    fcb[R1] = (n / 256 % 256) as u8;
+    fcb[R2] = (n / 65536) as u8;
 }

@@ -1,19 +1,19 @@
 // Open and close: the entry that the control block means.
 ghost use mathlib.Core.Path.{_≡_};
-ghost use mathlib.Core.Bool.{true, not, cond};
-ghost use mathlib.Core.List.{[], _∷_};
+ghost use mathlib.Core.Bool.{true};
 ghost use Prim.Native.Nat.{_≤_, _<_};
-ghost use lib.Dec.{leb};
-ghost use lib.ListN.{length};
-ghost use Rattle.disk_geometry.specs.Geometry.{lawful, bytes, slots};
-ghost use Rattle.disk_volume.specs.Directory.{slotAt};
-ghost use Rattle.call_fcb.specs.Fcb.{exFits, extentFits, opened};
-ghost use Rattle.call_answers.specs.declared.Refusal.the-variants.{Position, NoMatch};
-ghost use Rattle.call_answers.specs.Refusal.{test, isNone, firstMet};
+ghost use Rattle.disk_geometry.specs.Geometry.{lawful, slots};
+ghost use Rattle.disk_volume.specs.CodeLent.{VolumeAnd, IsFcb};
+ghost use Rattle.call_answers.specs.Refusal.{isNone};
 ghost use Rattle.call_open.specs.Open.{openSlot, closeSlot};
+ghost use Rattle.call_open.specs.CodeFound.{slotWhy, openWhy, closeWhy, openedOr};
 use call_answers::Refusal;
 use disk_geometry::Geometry;
 use disk_volume::Wanted;
+use disk_volume::fields::EX;
+use disk_volume::fields::NAME;
+use disk_volume::fields::NAME_END;
+use disk_volume::fields::S2;
 
 // What open and close hand back: why they are refused, and the slot of the entry that is meant.
 pub struct Found {
@@ -23,17 +23,17 @@ pub struct Found {
 
 // The slot that open means, the number of slots where there is none.
 fn slot_to_open(g: Geometry, volume: &[u8], fcb: &[u8], user: u8) -> usize
-    requires { ⌜ (lawful g ≡ true) × ((length (now volume) ≡ bytes g) × (length (now fcb) ≡ 36)) ⌝ }
+    requires { ⌜ VolumeAnd g (now volume) (IsFcb (now fcb)) ⌝ }
     ensures { λ r. ⌜ (r ≡ openSlot g (now (volume .entry)) user (now (fcb .entry))) × (r ≤ slots g) ⌝ }
 {
-    let k = g.group(lists::wide(fcb[12]));
-    disk_volume::directory::find(g, volume, user, &fcb[1..12], Wanted::MatchGroup(k))
+    let k = g.group(lists::wide(fcb[EX]));
+    disk_volume::directory::find(g, volume, user, &fcb[NAME..NAME_END], Wanted::MatchGroup(k))
 }
 
 // Why the slot that is meant is refused: the position does not fit, or the slot is none.
 fn slot_why(g: Geometry, fits: bool, slot: usize) -> Refusal
     requires { ⌜ lawful g ≡ true ⌝ }
-    ensures { λ r. ⌜ r ≡ firstMet (test Position (not fits) ∷ test NoMatch (leb (slots g) slot) ∷ []) ⌝ }
+    ensures { λ r. ⌜ r ≡ slotWhy g fits slot ⌝ }
     ensures { λ r. ⌜ (isNone r ≡ true → slot < slots g) ⌝ }
 {
     let unfit = call_answers::refuse(Refusal::Position, !fits);
@@ -41,39 +41,39 @@ fn slot_why(g: Geometry, fits: bool, slot: usize) -> Refusal
     call_answers::first_of(unfit, no_match)
 }
 
-// Opens: shows the entry in the control block, or refuses.
+// Opens: shows the entry in the control block, or refuses. Answers why, and the slot that is meant.
 pub fn open_file(g: Geometry, volume: &[u8], fcb: &mut [u8], user: u8) -> Found
-    requires { ⌜ (lawful g ≡ true) × ((length (now volume) ≡ bytes g) × (length (now fcb) ≡ 36)) ⌝ }
-    ensures { λ r. ⌜ r .why ≡ firstMet (test Position (not (exFits (now (fcb .entry)))) ∷ test NoMatch (leb (slots g) (openSlot g (now (volume .entry)) user (now (fcb .entry)))) ∷ []) ⌝ }
+    requires { ⌜ VolumeAnd g (now volume) (IsFcb (now fcb)) ⌝ }
+    ensures { λ r. ⌜ r .why ≡ openWhy g (now (volume .entry)) user (now (fcb .entry)) ⌝ }
     ensures { λ r. ⌜ r .slot ≡ openSlot g (now (volume .entry)) user (now (fcb .entry)) ⌝ }
-    ensures { λ r. ⌜ now (fcb .exit) ≡ cond (isNone (r .why)) (opened (now (fcb .entry)) (slotAt g (now (volume .entry)) (r .slot))) (now (fcb .entry)) ⌝ }
+    ensures { λ r. ⌜ now (fcb .exit) ≡ openedOr g (now (volume .entry)) r (now (fcb .entry)) ⌝ }
 {
     let slot = slot_to_open(g, volume, fcb, user);
-    let why = slot_why(g, fcb[12] <= 31, slot);
+    let why = slot_why(g, fcb[EX] <= 31, slot);
     if call_answers::is_none(why) {
         let at = g.slot_start(slot);
-        call_fcb::set_open(fcb, &volume[at..at + 32]);
+        call_fcb::set_open(fcb, &volume[at..at + Geometry::ENTRY_BYTES]);
     }
     Found { why, slot }
 }
 
 // The slot that close means, the number of slots where there is none.
 fn slot_to_close(g: Geometry, volume: &[u8], fcb: &[u8], user: u8) -> usize
-    requires { ⌜ (lawful g ≡ true) × ((length (now volume) ≡ bytes g) × (length (now fcb) ≡ 36)) ⌝ }
+    requires { ⌜ VolumeAnd g (now volume) (IsFcb (now fcb)) ⌝ }
     ensures { λ r. ⌜ (r ≡ closeSlot g (now (volume .entry)) user (now (fcb .entry))) × (r ≤ slots g) ⌝ }
 {
     let k = g.group(disk_volume::entry::extent_of(fcb));
-    disk_volume::directory::find(g, volume, user, &fcb[1..12], Wanted::Group(k))
+    disk_volume::directory::find(g, volume, user, &fcb[NAME..NAME_END], Wanted::Group(k))
 }
 
-// Closes: the entry that is meant is there, or the call is refused.
+// Closes: the entry that is meant is there, or the call is refused. Answers why, and the slot that is meant.
 pub fn close_file(g: Geometry, volume: &[u8], fcb: &[u8], user: u8) -> Found
-    requires { ⌜ (lawful g ≡ true) × ((length (now volume) ≡ bytes g) × (length (now fcb) ≡ 36)) ⌝ }
-    ensures { λ r. ⌜ r .why ≡ firstMet (test Position (not (extentFits (now (fcb .entry)))) ∷ test NoMatch (leb (slots g) (closeSlot g (now (volume .entry)) user (now (fcb .entry)))) ∷ []) ⌝ }
+    requires { ⌜ VolumeAnd g (now volume) (IsFcb (now fcb)) ⌝ }
+    ensures { λ r. ⌜ r .why ≡ closeWhy g (now (volume .entry)) user (now (fcb .entry)) ⌝ }
     ensures { λ r. ⌜ r .slot ≡ closeSlot g (now (volume .entry)) user (now (fcb .entry)) ⌝ }
 {
     let slot = slot_to_close(g, volume, fcb, user);
-    let fits = (fcb[12] <= 31) & (fcb[14] <= 15);
+    let fits = (fcb[EX] <= 31) & (fcb[S2] <= 15);
     let why = slot_why(g, fits, slot);
     Found { why, slot }
 }

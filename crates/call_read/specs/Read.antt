@@ -6,8 +6,10 @@ use lib.Dec.{leb}
 use Rattle.disk_geometry.specs.declared.Geometry.{Geometry}
 use Rattle.disk_volume.specs.declared.Wanted.the-variants.{File}
 use Rattle.disk_geometry.specs.Geometry.{slots, inside}
+use Rattle.disk_volume.specs.Name.{nameOf}
 use Rattle.disk_volume.specs.Directory.{slotAt, findSlot}
 use Rattle.disk_volume.specs.Record.{recordSlot, recordBlock, recordAt, present}
+use Rattle.call_fcb.specs.Fcb.{setTo}
 use Rattle.call_answers.specs.declared.Refusal.{Refusal}
 use Rattle.call_answers.specs.declared.Refusal.the-variants.{NoFile, Absent, Outside}
 use Rattle.call_answers.specs.Refusal.{Test, test}
@@ -24,6 +26,10 @@ readTests g v u name n missing =
     ∷ test Absent (not (present g v u name n))
     ∷ test Outside (not (inside g (readBlock g v u name n)))
     ∷ []
+
+-- the control block, "set to n", with this cr
+abbrev pub readFcb : Geometry → List ℕ → ℕ → List ℕ → ℕ → ℕ → List ℕ
+readFcb g v u fcb n cr = setTo fcb (slotAt g v (recordSlot g v u (nameOf fcb) n)) n cr
 
 -- the record's bytes
 unfoldable pub readBytes : Geometry → List ℕ → ℕ → List ℕ → ℕ → List ℕ

@@ -1,2 +1,3 @@
--- The call that gives a file another name.
+-- The calls that give a file another name and other attributes.
 pub mod Rename
+pub mod CodeNewName

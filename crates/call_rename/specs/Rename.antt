@@ -1,4 +1,4 @@
--- Rename: the tests that look at the directory.
+-- Rename and attributes: the tests that look at the directory.
 use mathlib.Core.List.{List, [], _∷_}
 use Prim.Native.Nat.{ℕ}
 use lib.Dec.{leb, ltb}
@@ -15,3 +15,6 @@ renameTests g v u name new =
     ∷ test ReadOnly (ltb (findSlot g v u name ReadOnlyFile) (slots g))
     ∷ test Exists (ltb (findSlot g v u new File) (slots g))
     ∷ []
+
+abbrev pub attributeTests : Geometry → List ℕ → ℕ → List ℕ → List Test
+attributeTests g v u name = test NoMatch (leb (slots g) (findSlot g v u name File)) ∷ []

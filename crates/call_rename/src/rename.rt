@@ -1,20 +1,14 @@
 // Rename and attributes: the tests of the new name and of the directory, and the changes in the file's entries.
 ghost use mathlib.Core.Path.{_≡_};
-ghost use mathlib.Core.Bool.{true, false, not, cond};
-ghost use mathlib.Core.List.{[], _∷_};
-ghost use lib.Dec.{leb};
-ghost use lib.ListN.{length};
-ghost use Rattle.disk_volume.specs.declared.Wanted.the-variants.{File};
-ghost use Rattle.disk_geometry.specs.Geometry.{lawful, bytes, slots};
-ghost use Rattle.disk_volume.specs.Name.{strip, goodName};
-ghost use Rattle.call_typing.specs.Typing.{typeable};
-ghost use Rattle.disk_volume.specs.Directory.{findSlot, mapSlots};
-ghost use Rattle.call_fcb.specs.Fcb.{newName};
-ghost use Rattle.call_answers.specs.declared.Refusal.the-variants.{Name, Untypeable, NoMatch};
-ghost use Rattle.call_answers.specs.Refusal.{test, isNone, first, firstMet};
+ghost use mathlib.Core.Bool.{cond};
+ghost use Rattle.disk_volume.specs.Name.{strip};
+ghost use Rattle.disk_volume.specs.Directory.{mapSlots};
+ghost use Rattle.disk_volume.specs.CodeLent.{IsVolume, VolumeAnd, IsName, IsFcb};
+ghost use Rattle.call_answers.specs.Refusal.{isNone, first, firstMet};
 ghost use Rattle.call_sweep.specs.declared.Edit.the-variants.{Rename, Attributes};
-ghost use Rattle.call_sweep.specs.Sweep.{changed};
-ghost use Rattle.call_rename.specs.Rename.{renameTests};
+ghost use Rattle.call_sweep.specs.CodeEdit.{lentChange};
+ghost use Rattle.call_rename.specs.Rename.{renameTests, attributeTests};
+ghost use Rattle.call_rename.specs.CodeNewName.{newNameTests};
 use call_answers::Refusal;
 use call_sweep::Edit;
 use disk_geometry::Geometry;
@@ -24,22 +18,28 @@ use disk_volume::names;
 
 // Why the control block's new name can't be a file's, whatever the directory holds: 39, then 45.
 pub fn new_name_why(fcb: &[u8]) -> Refusal
-    requires { ⌜ length (now fcb) ≡ 36 ⌝ }
-    ensures { λ r. ⌜ r ≡ firstMet (test Name (not (goodName false (newName (now (fcb .entry))))) ∷ test Untypeable (not (typeable (newName (now (fcb .entry))))) ∷ []) ⌝ }
+    requires { ⌜ IsFcb (now fcb) ⌝ }
+    ensures { λ r. ⌜ r ≡ firstMet (newNameTests (now (fcb .entry))) ⌝ }
 {
-    let bad = call_answers::refuse(Refusal::Name, !names::good_name(false, &fcb[17..28]));
+    let bad = call_answers::refuse(
+        Refusal::Name,
+        !names::good_name(false, &fcb[call_fcb::NEW_NAME..call_fcb::NEW_NAME_END]),
+    );
     let untypeable = call_answers::refuse(
         Refusal::Untypeable,
-        !call_typing::typeable_name(&fcb[17..28]),
+        !call_typing::typeable_name(&fcb[call_fcb::NEW_NAME..call_fcb::NEW_NAME_END]),
     );
     call_answers::first_of(bad, untypeable)
 }
 
 // Why the file can't be renamed. A read-only entry is sought from the file's first on.
 fn rename_why(g: Geometry, volume: &[u8], user: u8, name: &[u8], new: &[u8]) -> Refusal
-    requires { ⌜ (lawful g ≡ true) × (length (now volume) ≡ bytes g) ⌝ }
-    requires { ⌜ (length (now name) ≡ 11) × (length (now new) ≡ 11) ⌝ }
-    ensures { λ r. ⌜ r ≡ firstMet (renameTests g (now (volume .entry)) user (strip (now (name .entry))) (strip (now (new .entry)))) ⌝ }
+    requires { ⌜ IsVolume g (now volume) ⌝ }
+    requires { ⌜ IsName (now name) × IsName (now new) ⌝ }
+    ensures { λ r. ⌜
+        r
+        ≡ firstMet (renameTests g (now (volume .entry)) user (strip (now (name .entry))) (strip (now (new .entry))))
+        ⌝ }
 {
     let slots = g.slots();
     let first = directory::find(g, volume, user, name, Wanted::File);
@@ -60,10 +60,19 @@ pub fn rename_file(
     new: &[u8],
     before: Refusal,
 ) -> Refusal
-    requires { ⌜ (lawful g ≡ true) × (length (now volume) ≡ bytes g) ⌝ }
-    requires { ⌜ (length (now name) ≡ 11) × (length (now new) ≡ 11) ⌝ }
-    ensures { λ r. ⌜ r ≡ first before (firstMet (renameTests g (now (volume .entry)) user (strip (now (name .entry))) (strip (now (new .entry))))) ⌝ }
-    ensures { λ r. ⌜ now (volume .exit) ≡ cond (isNone r) (mapSlots g (changed Rename user (strip (now (name .entry))) (now (new .entry))) (now (volume .entry))) (now (volume .entry)) ⌝ }
+    requires { ⌜ IsVolume g (now volume) ⌝ }
+    requires { ⌜ IsName (now name) × IsName (now new) ⌝ }
+    ensures { λ r. ⌜
+        r
+        ≡ first before
+        (firstMet (renameTests g (now (volume .entry)) user (strip (now (name .entry))) (strip (now (new .entry)))))
+        ⌝ }
+    ensures { λ r. ⌜
+        now (volume .exit)
+        ≡ cond (isNone r)
+        (mapSlots g (lentChange Rename user (now (name .entry)) (now (new .entry))) (now (volume .entry)))
+        (now (volume .entry))
+        ⌝ }
 {
     let why = call_answers::first_of(before, rename_why(g, volume, user, name, new));
     if call_answers::is_none(why) {
@@ -81,9 +90,17 @@ pub fn attribute_file(
     name: &[u8],
     before: Refusal,
 ) -> Refusal
-    requires { ⌜ (lawful g ≡ true) × ((length (now volume) ≡ bytes g) × (length (now name) ≡ 11)) ⌝ }
-    ensures { λ r. ⌜ r ≡ first before (firstMet (test NoMatch (leb (slots g) (findSlot g (now (volume .entry)) user (strip (now (name .entry))) File)) ∷ [])) ⌝ }
-    ensures { λ r. ⌜ now (volume .exit) ≡ cond (isNone r) (mapSlots g (changed Attributes user (strip (now (name .entry))) (now (name .entry))) (now (volume .entry))) (now (volume .entry)) ⌝ }
+    requires { ⌜ VolumeAnd g (now volume) (IsName (now name)) ⌝ }
+    ensures { λ r. ⌜
+        r
+        ≡ first before (firstMet (attributeTests g (now (volume .entry)) user (strip (now (name .entry)))))
+        ⌝ }
+    ensures { λ r. ⌜
+        now (volume .exit)
+        ≡ cond (isNone r)
+        (mapSlots g (lentChange Attributes user (now (name .entry)) (now (name .entry))) (now (volume .entry)))
+        (now (volume .entry))
+        ⌝ }
 {
     let slot = directory::find(g, volume, user, name, Wanted::File);
     let no_match = call_answers::refuse(Refusal::NoMatch, g.slots() <= slot);

@@ -1,2 +1,3 @@
 -- Search.
 pub mod Search
+pub mod CodeHit

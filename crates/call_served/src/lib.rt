@@ -32,7 +32,7 @@ pub enum Call {
     Unserved,
 }
 
-// The call of a function's number.
+// Answers the call of a function's number, Unserved where there is none.
 pub fn call_of(function: u8) -> Call
     ensures { λ r. ⌜ r ≡ callOf function ⌝ }
 {

@@ -1,2 +1,3 @@
 -- Size.
 pub mod Size
+pub mod CodeMeasure

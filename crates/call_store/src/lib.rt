@@ -1,12 +1,10 @@
 // A write carried out: its stores, with no test in between.
 ghost use mathlib.Core.Path.{_≡_};
-ghost use mathlib.Core.Bool.{true};
 ghost use Prim.Native.Nat.{_<_};
-ghost use lib.ListN.{length};
-ghost use Rattle.disk_geometry.specs.Geometry.{lawful, bytes, slots, blocks};
-ghost use Rattle.disk_volume.specs.Directory.{putSlot};
-ghost use Rattle.disk_volume.specs.Record.{putFilled};
-ghost use Rattle.call_fcb.specs.Fcb.{setTo};
+ghost use Rattle.disk_geometry.specs.Geometry.{slots, blocks};
+ghost use Rattle.disk_volume.specs.CodeLent.{IsVolume, IsEntry, IsFcb, IsRecord};
+ghost use Rattle.call_fcb.specs.Fcb.{fileRecords, setTo};
+ghost use Rattle.call_store.specs.CodeStores.{dataThenEntry};
 use disk_geometry::Geometry;
 use disk_volume::directory;
 
@@ -23,10 +21,13 @@ fn store(
     block: usize,
     n: usize,
 )
-    requires { ⌜ (lawful g ≡ true) × (length (now volume) ≡ bytes g) ⌝ }
-    requires { ⌜ (length (now buffer) ≡ 128) × (length (now e) ≡ 32) ⌝ }
+    requires { ⌜ IsVolume g (now volume) ⌝ }
+    requires { ⌜ IsRecord (now buffer) × IsEntry (now e) ⌝ }
     requires { ⌜ (slot < slots g) × (block < blocks g) ⌝ }
-    ensures { λ _. ⌜ now (volume .exit) ≡ putSlot g (putFilled g fills (now (volume .entry)) block n (now (buffer .entry))) slot (now (e .entry)) ⌝ }
+    ensures { λ _. ⌜
+        now (volume .exit)
+        ≡ dataThenEntry g fills (now (volume .entry)) block n (now (buffer .entry)) slot (now (e .entry))
+        ⌝ }
 {
     data::put_filled(g, fills, volume, block, n, buffer);
     directory::put_slot(g, volume, slot, e);
@@ -45,10 +46,13 @@ pub fn carry_out(
     n: usize,
     cr: u8,
 )
-    requires { ⌜ (lawful g ≡ true) × (length (now volume) ≡ bytes g) ⌝ }
-    requires { ⌜ (length (now fcb) ≡ 36) × ((length (now buffer) ≡ 128) × (length (now e) ≡ 32)) ⌝ }
-    requires { ⌜ (slot < slots g) × ((block < blocks g) × (n < 65536)) ⌝ }
-    ensures { λ _. ⌜ now (volume .exit) ≡ putSlot g (putFilled g fills (now (volume .entry)) block n (now (buffer .entry))) slot (now (e .entry)) ⌝ }
+    requires { ⌜ IsVolume g (now volume) ⌝ }
+    requires { ⌜ IsFcb (now fcb) × (IsRecord (now buffer) × IsEntry (now e)) ⌝ }
+    requires { ⌜ (slot < slots g) × ((block < blocks g) × (n < fileRecords)) ⌝ }
+    ensures { λ _. ⌜
+        now (volume .exit)
+        ≡ dataThenEntry g fills (now (volume .entry)) block n (now (buffer .entry)) slot (now (e .entry))
+        ⌝ }
     ensures { λ _. ⌜ now (fcb .exit) ≡ setTo (now (fcb .entry)) (now (e .entry)) n cr ⌝ }
 {
     store(g, fills, volume, buffer, e, slot, block, n);

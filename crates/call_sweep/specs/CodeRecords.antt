@@ -5,16 +5,16 @@ use Prim.Native.Nat.{ℕ, _*_}
 use Rattle.lists.specs.Bounded.{fold}
 use Rattle.lists.specs.Bytes.{part, put}
 use Rattle.disk_geometry.specs.declared.Geometry.{Geometry}
-use Rattle.disk_geometry.specs.Geometry.{start}
+use Rattle.disk_geometry.specs.Geometry.{start, recordBytes, entryBytes, recordSlots}
 use Rattle.disk_volume.specs.Entry.{Entry}
 
 -- piece k of a directory record changed by f, and each of its four pieces
 unfoldable pub mapPiece : (Entry → Entry) → List ℕ → ℕ → List ℕ
-mapPiece f l k = put l (k * 32) 32 (f (part l (k * 32) 32))
+mapPiece f l k = put l (k * entryBytes) entryBytes (f (part l (k * entryBytes) entryBytes))
 
 abbrev pub mapPieces : (Entry → Entry) → List ℕ → List ℕ
-mapPieces f l = fold (mapPiece f) l 0 4
+mapPieces f l = fold (mapPiece f) l 0 recordSlots
 
 -- record r of the directory so changed
 unfoldable pub mapRecord : Geometry → (Entry → Entry) → List ℕ → ℕ → List ℕ
-mapRecord g f v r = put v (start g r) 128 (mapPieces f (part v (start g r) 128))
+mapRecord g f v r = put v (start g r) recordBytes (mapPieces f (part v (start g r) recordBytes))

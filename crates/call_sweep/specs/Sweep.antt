@@ -4,6 +4,7 @@ use mathlib.Core.List.{List, [], _∷_, _++_}
 use Prim.Native.Nat.{ℕ, _+_, _%_}
 use lib.ListN.{set, take}
 use Rattle.lists.specs.Bytes.{byte, put}
+use Rattle.disk_volume.specs.Fields.{USER, NAME, T1, T2, nameBytes, EMPTY, nameT1, nameT2}
 use Rattle.disk_volume.specs.Name.{strip, topBit}
 use Rattle.disk_volume.specs.Entry.{Entry, ofFile, matches}
 use Rattle.call_sweep.specs.declared.Edit.{Edit}
@@ -11,7 +12,7 @@ use Rattle.call_sweep.specs.declared.Edit.the-variants.{Erase, Rename, A
 
 -- "byte 0 of all matching entries .. becomes E5H"
 abbrev pub erased : Entry → Entry
-erased e = set e 0 229
+erased e = set e USER EMPTY
 
 -- a byte with another's top bit
 abbrev pub withTopBit : ℕ → ℕ → ℕ
@@ -20,11 +21,17 @@ withTopBit x top = x % 128 + topBit top
 -- "all entries of the file take the new one without top bits and keep their attribute bits": those of bytes 9 and 10
 unfoldable pub renamed : Entry → List ℕ → Entry
 renamed e name =
-    put e 1 11 (strip (take 8 name) ++ (withTopBit (byte name 8) (byte e 9) ∷ withTopBit (byte name 9) (byte e 10) ∷ byte name 10 % 128 ∷ []))
+    put e NAME nameBytes
+    (strip (take nameT1 name)
+    ++ (withTopBit (byte name nameT1) (byte e T1)
+    ∷ withTopBit (byte name nameT2) (byte e T2)
+    ∷ byte name (nameT2 + 1) % 128
+    ∷ []))
 
 -- "top bits of control block bytes 9 and 10 go to all entries of the file"
 unfoldable pub attributed : Entry → List ℕ → Entry
-attributed e name = set (set e 9 (withTopBit (byte e 9) (byte name 8))) 10 (withTopBit (byte e 10) (byte name 9))
+attributed e name =
+    set (set e T1 (withTopBit (byte e T1) (byte name nameT1))) T2 (withTopBit (byte e T2) (byte name nameT2))
 
 -- an entry after the change: by user and name (or pattern) of the file, and by the eleven bytes to go into it
 unfoldable pub changed : Edit → ℕ → List ℕ → List ℕ → Entry → Entry

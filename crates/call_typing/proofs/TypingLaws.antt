@@ -10,17 +10,17 @@ use Rattle.lists.specs.Bounded.{everyFrom}
 use Rattle.lists.specs.Bytes.{byte, part, all}
 use Rattle.lists.proofs.BoundedLaws.{every-ext}
 use Rattle.disk_volume.specs.Name.{strip}
-use Rattle.call_typing.specs.Typing.{blank, blankBefore}
+use Rattle.call_typing.specs.Typing.{isBlank, blankBefore}
 use Rattle.disk_volume.proofs.NameLaws.{shift}
 
 -- what the loop asks at place k: no blank just before a non-blank
 abbrev pub lastAt : List ℕ → ℕ → Bool
-lastAt l k = not (blank (byte l (k - 1) % 128) && not (blank (byte l k % 128)))
+lastAt l k = not (isBlank (byte l (k - 1) % 128) && not (isBlank (byte l k % 128)))
 
 -- a blank in front decides by the byte behind it, any other byte does not count
-in-front : (x y : ℕ) (ys : List ℕ) → not (blankBefore (x ∷ y ∷ ys)) ≡ cond (not (blank x && not (blank y))) (not (blankBefore (y ∷ ys))) false
+in-front : (x y : ℕ) (ys : List ℕ) → not (blankBefore (x ∷ y ∷ ys)) ≡ cond (not (isBlank x && not (isBlank y))) (not (blankBefore (y ∷ ys))) false
 unfolding blankBefore all
-in-front x y ys = go (blank x) (blank y) (all blank ys)
+in-front x y ys = go (isBlank x) (isBlank y) (all isBlank ys)
   where
     go : (a b c : Bool) → not (cond (a && not (cond b c false)) true (cond (b && not c) true (blankBefore ys)))
         ≡ cond (not (a && not b)) (not (cond (b && not c) true (blankBefore ys))) false
@@ -32,7 +32,7 @@ in-front x y ys = go (blank x) (blank y) (all blank ys)
 pub last-places : (l : List ℕ) → not (blankBefore (strip l)) ≡ everyFrom (lastAt l) 1 (length l - 1)
 unfolding everyFrom strip
 last-places [] = unfold blankBefore in refl
-last-places (x ∷ []) = unfold blankBefore all in rw (and-false (blank (x % 128)))
+last-places (x ∷ []) = unfold blankBefore all in rw (and-false (isBlank (x % 128)))
 last-places (x ∷ y ∷ ys) =
     let behind : everyFrom (λ k. lastAt (x ∷ y ∷ ys) (suc k)) 1 (length ys) ≡ everyFrom (lastAt (y ∷ ys)) 1 (length ys)
     = every-ext (λ k. lastAt (x ∷ y ∷ ys) (suc k)) (lastAt (y ∷ ys)) 1 (length ys) (λ k a b. one-less k a) in

@@ -1,10 +1,18 @@
 // Names that can be typed: eleven bytes, tested without their top bits.
 ghost use mathlib.Core.Path.{_≡_};
 ghost use mathlib.Core.Bool.{not};
-ghost use lib.ListN.{length};
 ghost use Rattle.lists.specs.Bytes.{all};
+ghost use Rattle.disk_volume.specs.CodeLent.{IsName};
 ghost use Rattle.disk_volume.specs.Name.{strip};
 ghost use Rattle.call_typing.specs.Typing.{typeableByte, blankBefore, typeable};
+use disk_volume::fields::NAME;
+use disk_volume::fields::NAME_BYTES;
+use disk_volume::fields::TYPE;
+use disk_volume::names::BLANK;
+use disk_volume::names::TOP_BIT;
+
+// Where the type begins within the eleven bytes.
+const TYPE_START: usize = TYPE - NAME;
 
 // Can the byte be typed in a name?
 fn typeable_byte(x: u8) -> bool
@@ -26,12 +34,12 @@ fn typeable_byte(x: u8) -> bool
 
 // Can each byte of the name be typed?
 fn typeable_bytes(name: &[u8]) -> bool
-    requires { ⌜ length (now name) ≡ 11 ⌝ }
+    requires { ⌜ IsName (now name) ⌝ }
     ensures { λ r. ⌜ r ≡ all typeableByte (strip (now (name .entry))) ⌝ }
 {
     let mut k = 0;
-    while k < 11 {
-        if !typeable_byte(name[k] % 128) {
+    while k < NAME_BYTES {
+        if !typeable_byte(name[k] % TOP_BIT) {
             return false;
         }
         k += 1;
@@ -45,7 +53,7 @@ fn blanks_last(field: &[u8]) -> bool
 {
     let mut k = 1;
     while k < field.len() {
-        if (field[k - 1] % 128 == b' ') & (field[k] % 128 != b' ') {
+        if (field[k - 1] % TOP_BIT == BLANK) & (field[k] % TOP_BIT != BLANK) {
             return false;
         }
         k += 1;
@@ -53,10 +61,12 @@ fn blanks_last(field: &[u8]) -> bool
     true
 }
 
-// Can the name be typed? Name and type are looked at apart.
+// Answers whether the name can be typed; name and type are looked at apart.
 pub fn typeable_name(name: &[u8]) -> bool
-    requires { ⌜ length (now name) ≡ 11 ⌝ }
+    requires { ⌜ IsName (now name) ⌝ }
     ensures { λ r. ⌜ r ≡ typeable (strip (now (name .entry))) ⌝ }
 {
-    typeable_bytes(name) & blanks_last(&name[0..8]) & blanks_last(&name[8..11])
+    typeable_bytes(name)
+        & blanks_last(&name[0..TYPE_START])
+        & blanks_last(&name[TYPE_START..NAME_BYTES])
 }

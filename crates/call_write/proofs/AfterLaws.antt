@@ -16,7 +16,7 @@ use Rattle.lists.proofs.BoundedLaws.{low-is}
 use Rattle.disk_volume.specs.Directory.{slotAt, putSlot, slotFits, findSlot}
 use Rattle.disk_volume.specs.Entry.{extent, ofFile, ofGroup, countOf}
 use Rattle.disk_geometry.specs.Geometry.{lawful, bytes, records, slots, slotStart, groupOf}
-use Rattle.disk_volume.specs.Record.{recordSlot, recordBlock, counted, present, recordAt, OffBlock}
+use Rattle.disk_volume.specs.Record.{recordSlot, recordBlock, counted, present, recordAt, putFilled, OffBlock}
 use Rattle.disk_geometry.specs.declared.Geometry.{Geometry}
 use Rattle.disk_volume.specs.declared.Wanted.the-variants.{Empty, File, Group}
 use Rattle.disk_volume.proofs.DirectoryLaws.{slot-inside, slot-length, putSlot-length, slot-putSlot, slot-putSlot-other, record-putSlot}
@@ -26,8 +26,8 @@ use Rattle.call_entry.specs.Grown.{likeEntry, grown}
 use Rattle.call_entry.proofs.GrowLaws.{length-like, head-like, like-extent, grown-extent, grown-counts, head-written, written-extent, written-count, written-block}
 use Rattle.call_entry.proofs.HeadLaws.{head-ofFile}
 use Rattle.call_store.proofs.FillLaws.{putFilled-length, record-putFilled, record-putFilled-within, record-putFilled-other, slot-putFilled, byte-putFilled}
-use Rattle.call_decide.specs.Write.{hasGroup, writeSlot, baseEntry, fillsBlock, writeBlock, writeTests}
-use Rattle.call_decide.specs.CodePlan.{entryAfter, dataAfter, volumeAfter}
+use Rattle.call_decide.specs.Write.{hasGroup, writeSlot, baseEntry, fillsBlock, writeBlock, entryAfter, writeTests}
+use Rattle.call_write.specs.CodeAfter.{volumeAfter}
 use Rattle.lists.proofs.BoolLaws.{and-left, and-right}
 use Rattle.disk_volume.proofs.FindLaws.{found-fits, found-first}
 use Rattle.call_decide.proofs.WriteLaws.{length-base, write-passed, length-entryAfter}
@@ -114,33 +114,37 @@ module _ (g : Geometry) (held v : List ℕ) (u : ℕ) (name : List ℕ) (n : ℕ
 
   -- ---- the volume
   module _ (fills : Bool) (r : List ℕ) (r128 : length r ≡ 128) where
-    stored-size : length (dataAfter g held v u name n fills r) ≡ bytes g
+    -- the volume with the data alone, before the entry is laid
+    abbrev data-laid : List ℕ
+    data-laid = putFilled g (fillsBlock g v u name n fills) v (writeBlock g held v u name n) n r
+
+    stored-size : length data-laid ≡ bytes g
     stored-size =
         putFilled-length g good (writeBlock g held v u name n) n (write-passed g held v u name n passed .block-high) r r128 v size (fillsBlock g v u name n fills)
         ∙ size
 
     pub after-size : length (volumeAfter g held v u name n fills r) ≡ bytes g
     after-size =
-        putSlot-length g good (dataAfter g held v u name n fills r) stored-size (writeSlot g v u name n) (write-passed g held v u name n passed .slot-in)
+        putSlot-length g good data-laid stored-size (writeSlot g v u name n) (write-passed g held v u name n passed .slot-in)
         (entryAfter g held v u name n) after-32
         ∙ stored-size
 
     pub after-slot : slotAt g (volumeAfter g held v u name n fills r) (writeSlot g v u name n) ≡ entryAfter g held v u name n
     after-slot =
-        slot-putSlot g good (dataAfter g held v u name n fills r) stored-size (writeSlot g v u name n) (write-passed g held v u name n passed .slot-in)
+        slot-putSlot g good data-laid stored-size (writeSlot g v u name n) (write-passed g held v u name n passed .slot-in)
         (entryAfter g held v u name n) after-32
 
     pub after-slot-other : (j : ℕ) → j < slots g → j ≢ writeSlot g v u name n → slotAt g (volumeAfter g held v u name n fills r) j ≡ slotAt g v j
     after-slot-other j h ne =
         let p = write-passed g held v u name n passed in
-        slot-putSlot-other g good (dataAfter g held v u name n fills r) stored-size (writeSlot g v u name n) (p .slot-in) (entryAfter g held v u name n) after-32 j h ne
+        slot-putSlot-other g good data-laid stored-size (writeSlot g v u name n) (p .slot-in) (entryAfter g held v u name n) after-32 j h ne
         ∙ slot-putFilled g good (writeBlock g held v u name n) n (p .block-high) r r128 v size (fillsBlock g v u name n fills) (p .block-low) j h
 
     -- the record's bytes, and those of every other
     entry-apart : (b m : ℕ) → g .«directory_blocks» ≤ b → b < g .blocks
-        → recordAt g (volumeAfter g held v u name n fills r) b m ≡ recordAt g (dataAfter g held v u name n fills r) b m
+        → recordAt g (volumeAfter g held v u name n fills r) b m ≡ recordAt g data-laid b m
     entry-apart b m low high =
-        record-putSlot g good (dataAfter g held v u name n fills r) stored-size (writeSlot g v u name n) (write-passed g held v u name n passed .slot-in)
+        record-putSlot g good data-laid stored-size (writeSlot g v u name n) (write-passed g held v u name n passed .slot-in)
         (entryAfter g held v u name n) after-32 b m low high
 
     pub after-record : recordAt g (volumeAfter g held v u name n fills r) (writeBlock g held v u name n) n ≡ r
@@ -171,8 +175,8 @@ module _ (g : Geometry) (held v : List ℕ) (u : ℕ) (name : List ℕ) (n : ℕ
     unfolding putSlot
     after-byte x out =
         let p = write-passed g held v u name n passed in
-        byte-both (dataAfter g held v u name n fills r) v (slotStart g (writeSlot g v u name n)) 32 (entryAfter g held v u name n)
-        (slot-inside g good (dataAfter g held v u name n fills r) stored-size (writeSlot g v u name n) (p .slot-in))
+        byte-both data-laid v (slotStart g (writeSlot g v u name n)) 32 (entryAfter g held v u name n)
+        (slot-inside g good data-laid stored-size (writeSlot g v u name n) (p .slot-in))
         (slot-inside g good v size (writeSlot g v u name n) (p .slot-in)) after-32 x
         (byte-putFilled g good (writeBlock g held v u name n) n (p .block-high) r r128 v size (fillsBlock g v u name n fills) x out)
 

@@ -1,17 +1,17 @@
 // The write of a record: decided first, by reading alone, and then carried out by stores with no test in between.
 ghost use mathlib.Core.Path.{_≡_};
-ghost use mathlib.Core.Bool.{true, cond};
+ghost use mathlib.Core.Bool.{cond};
 ghost use Prim.Native.Nat.{_<_};
-ghost use lib.ListN.{length};
-ghost use Rattle.disk_geometry.specs.Geometry.{lawful, bytes};
 ghost use Rattle.disk_volume.specs.Name.{nameOf};
+ghost use Rattle.disk_volume.specs.CodeLent.{IsVolume, IsFcb, IsRecord};
 ghost use Rattle.disk_held.specs.Held.{hold};
-ghost use Rattle.call_fcb.specs.Fcb.{setTo};
+ghost use Rattle.call_fcb.specs.Fcb.{fileRecords, setTo};
 ghost use Rattle.call_answers.specs.Refusal.{isNone, firstMet};
-ghost use Rattle.call_decide.specs.Write.{writeTests};
-ghost use Rattle.call_decide.specs.CodePlan.{entryAfter, volumeAfter, heldAfter};
+ghost use Rattle.call_decide.specs.Write.{entryAfter, writeTests};
+ghost use Rattle.call_write.specs.CodeAfter.{volumeAfter, heldAfter};
 use call_answers::Refusal;
 use disk_geometry::Geometry;
+use disk_volume::fields;
 
 // What a write hands back: why it is refused, and the held blocks.
 pub struct Written {
@@ -43,15 +43,40 @@ pub fn write_record(
     n: usize,
     cr: u8,
 ) -> Written
-    requires { ⌜ (lawful g ≡ true) × (length (now volume) ≡ bytes g) ⌝ }
-    requires { ⌜ (length (now fcb) ≡ 36) × ((length (now buffer) ≡ 128) × (n < 65536)) ⌝ }
-    ensures { λ r. ⌜ r .why ≡ firstMet (writeTests g held (now (volume .entry)) user (nameOf (now (fcb .entry))) n) ⌝ }
-    ensures { λ r. ⌜ now (volume .exit) ≡ cond (isNone (r .why)) (volumeAfter g held (now (volume .entry)) user (nameOf (now (fcb .entry))) n fills (now (buffer .entry))) (now (volume .entry)) ⌝ }
-    ensures { λ r. ⌜ now (fcb .exit) ≡ cond (isNone (r .why)) (setTo (now (fcb .entry)) (entryAfter g held (now (volume .entry)) user (nameOf (now (fcb .entry))) n) n cr) (now (fcb .entry)) ⌝ }
-    ensures { λ r. ⌜ r .held ≡ cond (isNone (r .why)) (heldAfter g held (now (volume .entry)) user (nameOf (now (fcb .entry))) n) held ⌝ }
+    requires { ⌜ IsVolume g (now volume) ⌝ }
+    requires { ⌜ IsFcb (now fcb) × (IsRecord (now buffer) × (n < fileRecords)) ⌝ }
+    ensures { λ r. ⌜
+        r .why ≡ firstMet (writeTests g held (now (volume .entry)) user (nameOf (now (fcb .entry))) n)
+        ⌝ }
+    ensures { λ r. ⌜
+        now (volume .exit)
+        ≡ cond (isNone (r .why))
+        (volumeAfter g held (now (volume .entry)) user (nameOf (now (fcb .entry))) n fills (now (buffer .entry)))
+        (now (volume .entry))
+        ⌝ }
+    ensures { λ r. ⌜
+        now (fcb .exit)
+        ≡ cond (isNone (r .why))
+        (setTo (now (fcb .entry)) (entryAfter g held (now (volume .entry)) user (nameOf (now (fcb .entry))) n) n cr)
+        (now (fcb .entry))
+        ⌝ }
+    ensures { λ r. ⌜
+        r .held
+        ≡ cond (isNone (r .why))
+        (heldAfter g held (now (volume .entry)) user (nameOf (now (fcb .entry))) n)
+        held
+        ⌝ }
 {
-    let mut e = [0u8; 32];
-    let plan = call_decide::decide(g, volume, user, &fcb[1..12], held, n, &mut e);
+    let mut e = [0u8; Geometry::ENTRY_BYTES];
+    let plan = call_decide::decide(
+        g,
+        volume,
+        user,
+        &fcb[fields::NAME..fields::NAME_END],
+        held,
+        n,
+        &mut e,
+    );
     let why = plan.why;
     if !call_answers::is_none(why) {
         return Written { why, held };

@@ -32,7 +32,8 @@ use Rattle.filecalls.specs.Read.{sequentialTests, randomTests, readDone, readSe
 use Rattle.filecalls.specs.Write.{directoryTests, writeChange, writeDone, writeSequentialAct, writeDirectAct, writeRandomAct, writeZeroFillAct}
 use Rattle.filecalls.specs.Small.{protectTests, protectAct, userTests, userAct, setRandomTests, setRandomAct}
 use Rattle.filecalls.proofs.StateLaws.{is-open}
-use Rattle.filecalls.specs.Several.{readOne, writeOne, onPiece, several}
+use Rattle.filecalls.specs.Leaves.{readSequentialLeaves, writeSequentialLeaves}
+use Rattle.filecalls.specs.Several.{onPiece, several}
 use Rattle.filecalls.proofs.SeveralLaws.{several-keeps}
 use Rattle.churawel.proofs.LastingLaws.{Lasts, Lasting, does, lasting-unless, outcome-lasts, held-lasts, protects-lasts, user-lasts, search-lasts, words-free, words-of, or-parts, hit-low, first-pattern}
 
@@ -145,15 +146,15 @@ module _ (d : Drive) (v f b : List ℕ) (l : Lasts d) where
       go false e h = does (becomes-lasts (low-code p small h e))
 
 -- ---- several records: each single call leaves a state that lasts
-pub read-several-lasts : (d : Drive) (v f b : List ℕ) (k : ℕ) → Lasts d → Lasts (several readOne d v f b k .drive)
+pub read-several-lasts : (d : Drive) (v f b : List ℕ) (k : ℕ) → Lasts d → Lasts (several readSequentialLeaves d v f b k .drive)
 unfolding onPiece
 read-several-lasts =
-    several-keeps readOne (λ d v f b. Lasts d) (λ i d v f b l. outcome-lasts d v f _ (readSequentialAct d v f _) l (read-sequential-lasting d v f _ l))
+    several-keeps readSequentialLeaves (λ d v f b. Lasts d) (λ i d v f b l. outcome-lasts d v f _ (readSequentialAct d v f _) l (read-sequential-lasting d v f _ l))
 
-pub write-several-lasts : (d : Drive) (v f b : List ℕ) (k : ℕ) → Lasts d → Lasts (several writeOne d v f b k .drive)
+pub write-several-lasts : (d : Drive) (v f b : List ℕ) (k : ℕ) → Lasts d → Lasts (several writeSequentialLeaves d v f b k .drive)
 unfolding onPiece
 write-several-lasts =
-    several-keeps writeOne (λ d v f b. Lasts d) (λ i d v f b l. outcome-lasts d v f _ (writeSequentialAct d v f _) l (write-sequential-lasting d v f _ l))
+    several-keeps writeSequentialLeaves (λ d v f b. Lasts d) (λ i d v f b l. outcome-lasts d v f _ (writeSequentialAct d v f _) l (write-sequential-lasting d v f _ l))
 
 -- ---- the searches
 -- a search that is within the rules stays so at another slot

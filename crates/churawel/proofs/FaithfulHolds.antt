@@ -1,34 +1,32 @@
 -- The drive's bytes carry the state from call to call, and a refusal alters no lent byte: the statements of
 -- `specs/Faithful`.
 use mathlib.Core.Path.{_≡_, refl, sym, ap, _∙_}
-use mathlib.Core.Bool.{Bool, true, false, cond, true≢false, false≢true}
+use mathlib.Core.Bool.{Bool, true, false, true≢false, false≢true}
 use mathlib.Core.Logic.{_⊎_, inl, inr, ⊎-elim}
 use mathlib.Core.List.{List, []}
 use Prim.Native.Nat.{ℕ, _<_}
 use native.Mathlib.Omega.{arith}
-use lib.Dec.{eqb}
 use lib.ListN.{length}
 use borrow.Author.Tests.{not-false, eq-eqb}
 use Rattle.disk_geometry.specs.declared.Geometry.{Geometry}
 use Rattle.disk_geometry.specs.Geometry.{lawful}
 use Rattle.disk_geometry.proofs.GeometryLaws.{bounds}
-use Rattle.call_answers.specs.declared.Refusal.{Refusal}
 use Rattle.call_answers.specs.declared.Refusal.the-variants.{Closed}
 use Rattle.call_answers.specs.declared.Answer.the-variants as answer
-use Rattle.call_answers.specs.Refusal.{isNone, refusalNumber, firstMet}
+use Rattle.call_answers.specs.Refusal.{isNone, firstMet}
 use Rattle.call_answers.specs.Answer.{succeeded}
 use Rattle.call_answers.proofs.Ladder.{unmet}
 use Rattle.disk_held.specs.Held.{freeCount}
 use Rattle.disk_held.proofs.WordsLaws.{Words, words-none}
-use Rattle.disk_rules.specs.GoodSlot.{lowestBad}
 use Rattle.disk_rules.specs.Named.{heldOf}
 use Rattle.disk_rules.proofs.NamedLaws.{words-held}
 use Rattle.filecalls.specs.declared.Drive.{Drive}
 use Rattle.filecalls.specs.declared.Reply.{Reply}
 use Rattle.filecalls.specs.State.{isOpen, closed, loggedIn}
 use Rattle.filecalls.specs.LogIn.{logInTests, refusedLogIn, logIn}
+use Rattle.filecalls.proofs.LogInLaws.{refused-fails}
 use Rattle.filecalls.proofs.OutcomeLaws.{sameAll, outcome-refused}
-use Rattle.filecalls.specs.Several.{readOne, writeOne}
+use Rattle.filecalls.specs.Leaves.{readSequentialLeaves, writeSequentialLeaves}
 use Rattle.filecalls.proofs.SeveralLaws.{leaves-all, read-refuses, write-refuses}
 use Rattle.call_served.specs.declared.Call.{Call}
 use Rattle.call_served.specs.declared.Call.the-variants.{LogIn, Open, Close, SearchFirst, SearchNext, Delete, Make, Rename, Protect, Attributes, User, Size, SetRandom, Moves, Unserved}
@@ -84,17 +82,9 @@ module _ (g : Geometry) (v : List ℕ) where
   taken h = rw h
 
   turned-away : isNone (firstMet (logInTests g v)) ≡ false
-      → logIn g v ≡ record { answer = refusedLogIn (firstMet (logInTests g v)) (lowestBad g v); drive = closed }
+      → logIn g v ≡ record { answer = refusedLogIn g v; drive = closed }
   unfolding logIn
   turned-away h = rw h
-
-  refused-fails : (why : Refusal) (slot : ℕ) → succeeded (refusedLogIn why slot) ≡ false
-  unfolding refusedLogIn
-  refused-fails why slot = go (eqb (refusalNumber why) 36)
-    where
-      go : (t : Bool) → succeeded (cond t (answer.BadSlot slot) (answer.Refused why)) ≡ false
-      go true = refl
-      go false = refl
 
 pub log-in-carried : LogInCarried
 log-in-carried g v = go (isNone (firstMet (logInTests g v))) refl
@@ -108,7 +98,7 @@ log-in-opens g v s = go (isNone (firstMet (logInTests g v))) refl
   where
     go : (t : Bool) → isNone (firstMet (logInTests g v)) ≡ t → isOpen (logIn g v .drive) ≡ true
     go true h = unfold isOpen in rw (taken g v h, accepted g v h)
-    go false h = absurd (false≢true (sym (refused-fails g v (firstMet (logInTests g v)) (lowestBad g v)) ∙ ap (λ (r : Reply). succeeded (r .answer)) (sym (turned-away g v h)) ∙ s))
+    go false h = absurd (false≢true (sym (refused-fails g v) ∙ ap (λ (r : Reply). succeeded (r .answer)) (sym (turned-away g v h)) ∙ s))
 
 -- ---- every call logs in, or leaves a state that lasts
 module _ (g : Geometry) (p : ℕ) (small : p < 256) (d : Drive) (l : Lasts d) (v f b : List ℕ) where
@@ -185,8 +175,8 @@ module _ (g : Geometry) (p : ℕ) (d : Drive) (v f b : List ℕ) where
   call-refused Size n e = ap (keepsBuffer b) (outcome-refused d v f [] _ e)
   call-refused SetRandom n e = ap (keepsVolume v) (ap (keepsBuffer b) (outcome-refused d [] f [] _ e))
   call-refused (Moves WriteZeroFill) n e = outcome-refused d v f b _ e
-  call-refused (Moves ReadSeveral) n e = leaves-all readOne read-refuses d v f b p e
-  call-refused (Moves WriteSeveral) n e = leaves-all writeOne write-refuses d v f b p e
+  call-refused (Moves ReadSeveral) n e = leaves-all readSequentialLeaves read-refuses d v f b p e
+  call-refused (Moves WriteSeveral) n e = leaves-all writeSequentialLeaves write-refuses d v f b p e
   call-refused Unserved n e = outcome-refused d v f b _ e
 
 step-refused : (g : Geometry) (c : Asked) (d : Drive) (v : List ℕ) → (callOf (c .function) ≡ LogIn → ⊥) → succeeded (step g c d v .answer) ≡ false

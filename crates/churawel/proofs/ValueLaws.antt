@@ -4,15 +4,13 @@ use mathlib.Core.Bool.{Bool, true, false, not, cond}
 use mathlib.Core.List.{List, []}
 use Prim.Native.Nat.{ℕ, _-_, _≤_, _<_}
 use native.Mathlib.Omega.{arith}
-use lib.Dec.{eqb}
 use Rattle.lists.proofs.BoundedLaws.{low-le}
 use Rattle.disk_geometry.specs.declared.Geometry.{Geometry}
 use Rattle.disk_geometry.specs.Geometry.{lawful, slots}
 use Rattle.disk_geometry.proofs.GeometryLaws.{bounds}
-use Rattle.call_answers.specs.declared.Refusal.{Refusal}
 use Rattle.call_answers.specs.declared.Refusal.the-variants.{Closed}
 use Rattle.call_answers.specs.declared.Answer.the-variants as answer
-use Rattle.call_answers.specs.Refusal.{isNone, refusalNumber, firstMet}
+use Rattle.call_answers.specs.Refusal.{isNone, firstMet}
 use Rattle.call_answers.specs.Answer.{valueOf}
 use Rattle.disk_held.specs.Held.{holds, freeCount}
 use Rattle.disk_held.proofs.CountLaws.{count-not}
@@ -23,7 +21,8 @@ use Rattle.filecalls.specs.declared.Reply.{Reply}
 use Rattle.filecalls.specs.State.{closed, loggedIn}
 use Rattle.filecalls.specs.Outcome.{Act, deny, done, outcome}
 use Rattle.filecalls.specs.LogIn.{logInTests, refusedLogIn, logIn}
-use Rattle.filecalls.specs.Several.{readOne, writeOne}
+use Rattle.filecalls.proofs.LogInLaws.{refused-value}
+use Rattle.filecalls.specs.Leaves.{readSequentialLeaves, writeSequentialLeaves}
 use Rattle.filecalls.proofs.SeveralLaws.{done-most}
 use Rattle.call_served.specs.declared.Call.{Call}
 use Rattle.call_served.specs.declared.Call.the-variants.{LogIn, Open, Close, SearchFirst, SearchNext, Delete, Make, Rename, Protect, Attributes, User, Size, SetRandom, Moves, Unserved}
@@ -40,15 +39,6 @@ bad-le : (g : Geometry) (v : List ℕ) → lowestBad g v ≤ slots g
 unfolding lowestBad
 bad-le g v = omega (arith, low-le (λ i. not (goodSlot g v i)) 0 (slots g))
 
--- a refused log-in's value is the slot or 0
-refused-value : (why : Refusal) (slot : ℕ) → slot < 65536 → valueOf (refusedLogIn why slot) < 65536
-unfolding refusedLogIn
-refused-value why slot h = go (eqb (refusalNumber why) 36)
-  where
-    go : (t : Bool) → valueOf (cond t (answer.BadSlot slot) (answer.Refused why)) < 65536
-    go true = h
-    go false = omega arith
-
 module _ (g : Geometry) (v : List ℕ) where
   unlawful : lawful g ≡ false → logIn g v .answer ≡ answer.Refused Closed
   unfolding logIn logInTests firstMet refusedLogIn
@@ -60,9 +50,9 @@ module _ (g : Geometry) (v : List ℕ) where
     where
       go : (t : Bool)
           → valueOf (cond {A = Reply} t (record { answer = answer.Ready (freeCount (heldOf g v) (g .«directory_blocks») (g .blocks)); drive = loggedIn g (heldOf g v) })
-          (record { answer = refusedLogIn (firstMet (logInTests g v)) (lowestBad g v); drive = closed }) .answer) < 65536
+          (record { answer = refusedLogIn g v; drive = closed }) .answer) < 65536
       go true = omega (arith, free-le (heldOf g v) (g .«directory_blocks») (g .blocks), bounds g e .blocks-high)
-      go false = refused-value (firstMet (logInTests g v)) (lowestBad g v) (omega (arith, bad-le g v, bounds g e .slots-high))
+      go false = omega (arith, refused-value g v, bad-le g v, bounds g e .slots-high)
 
   pub log-in-value : valueOf (logIn g v .answer) < 65536
   log-in-value = go (lawful g) refl
@@ -97,8 +87,8 @@ call-value g (Moves WriteRandom) p d v f b = act-value d v f b _
 call-value g Size p d v f b = act-value d v f [] _
 call-value g SetRandom p d v f b = act-value d [] f [] _
 call-value g (Moves WriteZeroFill) p d v f b = act-value d v f b _
-call-value g (Moves ReadSeveral) p d v f b = omega (arith, done-most readOne d v f b p)
-call-value g (Moves WriteSeveral) p d v f b = omega (arith, done-most writeOne d v f b p)
+call-value g (Moves ReadSeveral) p d v f b = omega (arith, done-most readSequentialLeaves d v f b p)
+call-value g (Moves WriteSeveral) p d v f b = omega (arith, done-most writeSequentialLeaves d v f b p)
 call-value g Unserved p d v f b = act-value d v f b _
 
 pub step-value : (g : Geometry) (c : Asked) (d : Drive) (v : List ℕ) → valueOf (step g c d v .answer) < 65536

@@ -14,7 +14,7 @@ use Rattle.call_served.specs.declared.Call.the-variants.{LogIn}
 use Rattle.bdos.specs.Step.{step}
 use Rattle.call_served.specs.Asked.{Asked, asked}
 use Rattle.call_served.specs.Calls.{callOf}
-use Rattle.drive_bytes.specs.Layout.{decoded}
+use Rattle.drive_bytes.specs.Layout.{driveBytes, decoded}
 use Rattle.drive_bytes.specs.RoundTrip.{Carried}
 use Rattle.numbers.specs.Numbers.{Bytes}
 use Rattle.churawel.specs.Seam.{answered, sealed, atSeam, logInAtSeam}
@@ -24,7 +24,8 @@ abbrev pub LogInCarried : Type 0
 LogInCarried = (g : Geometry) (v : List ℕ) → Carried (logIn g v .drive)
 
 abbrev pub LogInOpens : Type 0
-LogInOpens = (g : Geometry) (v : List ℕ) → succeeded (logIn g v .answer) ≡ true → isOpen (logIn g v .drive) ≡ true
+LogInOpens =
+    (g : Geometry) (v : List ℕ) → succeeded (logIn g v .answer) ≡ true → isOpen (logIn g v .drive) ≡ true
 
 -- a call on an open state that is carried leaves one that is carried, open again unless the call logs in
 abbrev pub CallCarried : Type 0
@@ -34,12 +35,13 @@ CallCarried =
 
 abbrev pub CallStaysOpen : Type 0
 CallStaysOpen =
-    (d : Drive) → Carried d → isOpen d ≡ true → (c : Asked) → c .parameter < 256 → (v : List ℕ) → (callOf (c .function) ≡ LogIn → ⊥)
-    → isOpen (step (d .geometry) c d v .drive) ≡ true
+    (d : Drive) → Carried d → isOpen d ≡ true → (c : Asked) → c .parameter < 256 → (v : List ℕ)
+    → (callOf (c .function) ≡ LogIn → ⊥) → isOpen (step (d .geometry) c d v .drive) ≡ true
 
 -- so the drive's bytes are read back as the state that was returned
 abbrev pub LogInFaithful : Type 0
-LogInFaithful = (g : Geometry) (v s : List ℕ) → length s ≡ 64 → decoded (logInAtSeam g v s .drive) ≡ logIn g v .drive
+LogInFaithful =
+    (g : Geometry) (v s : List ℕ) → length s ≡ driveBytes → decoded (logInAtSeam g v s .drive) ≡ logIn g v .drive
 
 abbrev pub CallFaithful : Type 0
 CallFaithful =
@@ -51,14 +53,17 @@ abbrev pub RefusedLeavesAll : Type 0
 RefusedLeavesAll =
     (n p : ℕ) (s v fcb b : List ℕ) → Bytes s → isOpen (decoded s) ≡ true → (callOf n ≡ LogIn → ⊥)
     → succeeded (step (decoded s .geometry) (asked n p fcb b) (decoded s) v .answer) ≡ false
-    → atSeam n p s v fcb b ≡ sealed (answered (step (decoded s .geometry) (asked n p fcb b) (decoded s) v .answer)) s v fcb b
+    → atSeam n p s v fcb b
+    ≡ sealed (answered (step (decoded s .geometry) (asked n p fcb b) (decoded s) v .answer)) s v fcb b
 
 -- a refused log-in leaves "64 zero bytes", and so does function 13 or 37 that is refused
 abbrev pub RefusedLogInCloses : Type 0
 RefusedLogInCloses =
-    (g : Geometry) (v s : List ℕ) → length s ≡ 64 → succeeded (logIn g v .answer) ≡ false → logInAtSeam g v s .drive ≡ replicate 64 0
+    (g : Geometry) (v s : List ℕ) → length s ≡ driveBytes → succeeded (logIn g v .answer) ≡ false
+    → logInAtSeam g v s .drive ≡ replicate driveBytes 0
 
 abbrev pub RefusedResetCloses : Type 0
 RefusedResetCloses =
     (n p : ℕ) (s v fcb b : List ℕ) → isOpen (decoded s) ≡ true → callOf n ≡ LogIn
-    → succeeded (step (decoded s .geometry) (asked n p fcb b) (decoded s) v .answer) ≡ false → atSeam n p s v fcb b .drive ≡ replicate 64 0
+    → succeeded (step (decoded s .geometry) (asked n p fcb b) (decoded s) v .answer) ≡ false
+    → atSeam n p s v fcb b .drive ≡ replicate driveBytes 0

@@ -14,7 +14,7 @@ use Rattle.filecalls.specs.Outcome.{Outcome}
 use Rattle.filecalls.specs.LogIn.{logIn}
 use Rattle.bdos.specs.Step.{step}
 use Rattle.call_served.specs.Asked.{asked}
-use Rattle.drive_bytes.specs.Layout.{encoded, decoded}
+use Rattle.drive_bytes.specs.Layout.{driveBytes, encoded, decoded}
 
 -- "the answer's number in the low 16 bits, log-in's count or slot in the high 16"
 unfoldable pub answered : Answer → ℕ
@@ -43,9 +43,11 @@ refusedClosed s v fcb b = sealed (answered (Refused Closed)) s v fcb b
 -- drive's own, so that 13 and 37 log in anew with it.
 unfoldable pub atSeam : ℕ → ℕ → List ℕ → List ℕ → List ℕ → List ℕ → Sealed
 atSeam n p s v fcb b =
-    cond (isOpen (decoded s)) (through (step (decoded s .geometry) (asked n p fcb b) (decoded s) v)) (refusedClosed s v fcb b)
+    cond (isOpen (decoded s)) (through (step (decoded s .geometry) (asked n p fcb b) (decoded s) v))
+    (refusedClosed s v fcb b)
 
 -- log-in: by geometry, and the bytes of volume and drive; it is lent neither control block nor buffer
 unfoldable pub logInAtSeam : Geometry → List ℕ → List ℕ → Sealed
 logInAtSeam g v s =
-    cond (eqb (length s) 64) (sealed (answered (logIn g v .answer)) (encoded (logIn g v .drive)) v [] []) (refusedClosed s v [] [])
+    cond (eqb (length s) driveBytes) (sealed (answered (logIn g v .answer)) (encoded (logIn g v .drive)) v [] [])
+    (refusedClosed s v [] [])

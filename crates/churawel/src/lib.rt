@@ -44,7 +44,10 @@ pub extern "C" fn churawel_log_in(
     volume: &[u8],
     drive: &mut [u8],
 ) -> u32
-    ensures { λ r. ⌜ sealed r (now (drive .exit)) (now (volume .entry)) [] [] ≡ logInAtSeam (geometryOf «block_bytes» blocks «directory_blocks») (now (volume .entry)) (now (drive .entry)) ⌝ }
+    ensures { λ r. ⌜
+        sealed r (now (drive .exit)) (now (volume .entry)) [] []
+        ≡ logInAtSeam (geometryOf «block_bytes» blocks «directory_blocks») (now (volume .entry)) (now (drive .entry))
+        ⌝ }
 {
     if drive.len() != DRIVE_BYTES {
         return seal(Answer::Refused(Refusal::Closed));
@@ -71,7 +74,10 @@ pub extern "C" fn churawel_call(
     fcb: &mut [u8],
     buffer: &mut [u8],
 ) -> u32
-    ensures { λ r. ⌜ sealed r (now (drive .exit)) (now (volume .exit)) (now (fcb .exit)) (now (buffer .exit)) ≡ atSeam function parameter (now (drive .entry)) (now (volume .entry)) (now (fcb .entry)) (now (buffer .entry)) ⌝ }
+    ensures { λ r. ⌜
+        sealed r (now (drive .exit)) (now (volume .exit)) (now (fcb .exit)) (now (buffer .exit))
+        ≡ atSeam function parameter (now (drive .entry)) (now (volume .entry)) (now (fcb .entry)) (now (buffer .entry))
+        ⌝ }
 {
     let d = drive_bytes::decode(drive);
     if !d.is_open() {

@@ -29,7 +29,7 @@ use Rattle.disk_rules.proofs.AcceptedLaws.{good-entry, place-named, one-place}
 use Rattle.call_decide.specs.Write.{hasGroup, writeSlot, baseEntry, needsBlock, writeBlock, writeTests}
 use Rattle.call_entry.specs.Grown.{likeEntry}
 use Rattle.call_entry.specs.Alloc.{alloc}
-use Rattle.call_decide.specs.CodePlan.{volumeAfter, heldAfter}
+use Rattle.call_write.specs.CodeAfter.{volumeAfter, heldAfter}
 use Rattle.call_entry.proofs.AllocLaws.{alloc-given}
 use Rattle.call_write.proofs.AfterLaws.{after-block, after-slot, after-slot-other}
 use Rattle.call_entry.proofs.GrowLaws.{written-other}

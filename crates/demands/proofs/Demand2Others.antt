@@ -22,8 +22,8 @@ use Rattle.disk_volume.proofs.FindLaws.{found-fits, found-first, find-is}
 use Rattle.disk_geometry.proofs.GeometryLaws.{place-lt}
 use Rattle.call_read.specs.Read.{readBlock, readBytes}
 use Rattle.call_answers.specs.Refusal.{isNone, firstMet}
-use Rattle.call_decide.specs.Write.{hasGroup, writeSlot, baseEntry, needsBlock, writeBlock, writeTests}
-use Rattle.call_decide.specs.CodePlan.{entryAfter, volumeAfter}
+use Rattle.call_decide.specs.Write.{hasGroup, writeSlot, baseEntry, needsBlock, writeBlock, entryAfter, writeTests}
+use Rattle.call_write.specs.CodeAfter.{volumeAfter}
 use Rattle.call_write.proofs.AfterLaws.{after-group, after-block, after-slot, after-slot-other, after-record, after-record-other, after-record-within, after-recordSlot}
 use Rattle.call_entry.proofs.GrowLaws.{written-count, written-other}
 use Rattle.call_decide.proofs.WriteLaws.{write-passed, length-base}

@@ -14,7 +14,7 @@ use Rattle.disk_volume.specs.Record.{present}
 use Rattle.call_fcb.specs.Fcb.{position, setTo}
 use Rattle.call_answers.specs.Refusal.{isNone, firstMet}
 use Rattle.call_answers.specs.Answer.{succeeded}
-use Rattle.call_decide.specs.CodePlan.{entryAfter}
+use Rattle.call_decide.specs.Write.{entryAfter}
 use Rattle.call_decide.proofs.WriteLaws.{length-entryAfter}
 use Rattle.filecalls.specs.declared.Drive.{Drive}
 use Rattle.filecalls.specs.Outcome.{Outcome}

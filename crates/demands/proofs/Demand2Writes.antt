@@ -19,8 +19,8 @@ use Rattle.call_fcb.specs.Fcb.{position, random, setTo}
 use Rattle.call_answers.specs.declared.Refusal.the-variants.{Protected}
 use Rattle.call_answers.specs.Refusal.{Test, isNone, firstMet}
 use Rattle.call_answers.proofs.Ladder.{unmet}
-use Rattle.call_decide.specs.Write.{writeTests}
-use Rattle.call_decide.specs.CodePlan.{entryAfter, volumeAfter, heldAfter}
+use Rattle.call_decide.specs.Write.{entryAfter, writeTests}
+use Rattle.call_write.specs.CodeAfter.{volumeAfter, heldAfter}
 use Rattle.call_write.proofs.AfterLaws.{after-present}
 use Rattle.call_entry.proofs.HeadLaws.{head, head-set}
 use Rattle.filecalls.specs.declared.Drive.{Drive}

@@ -26,10 +26,10 @@ use Rattle.disk_held.specs.Held.{holds, hold}
 use Rattle.disk_held.proofs.HoldLaws.{length-hold, holds-hold-same, holds-hold-other}
 use Rattle.call_answers.specs.Refusal.{isNone, firstMet}
 use Rattle.disk_rules.proofs.TwinLaws.{Twins}
-use Rattle.call_decide.specs.Write.{hasGroup, writeSlot, baseEntry, needsBlock, writeBlock, writeTests}
+use Rattle.call_decide.specs.Write.{hasGroup, writeSlot, baseEntry, needsBlock, writeBlock, entryAfter, writeTests}
 use Rattle.call_entry.specs.Grown.{likeEntry}
 use Rattle.call_entry.specs.Alloc.{alloc}
-use Rattle.call_decide.specs.CodePlan.{entryAfter, volumeAfter, heldAfter}
+use Rattle.call_write.specs.CodeAfter.{volumeAfter, heldAfter}
 use Rattle.call_entry.proofs.AllocLaws.{alloc-given}
 use Rattle.call_entry.proofs.GrowLaws.{written-block, written-other}
 use Rattle.call_decide.proofs.WriteLaws.{length-base, write-passed}

@@ -21,8 +21,8 @@ use Rattle.call_answers.specs.declared.Answer.the-variants.{Done, Refused}
 use Rattle.call_answers.specs.Refusal.{Test, isNone, firstMet}
 use Rattle.call_answers.specs.Answer.{succeeded}
 use Rattle.call_read.specs.Read.{readBlock, readBytes}
-use Rattle.call_decide.specs.Write.{writeSlot}
-use Rattle.call_decide.specs.CodePlan.{entryAfter, volumeAfter, heldAfter}
+use Rattle.call_decide.specs.Write.{writeSlot, entryAfter}
+use Rattle.call_write.specs.CodeAfter.{volumeAfter, heldAfter}
 use Rattle.call_write.proofs.AfterLaws.{after-size, after-byte, after-block, after-slot, after-recordSlot, after-record-within}
 use Rattle.filecalls.specs.declared.Drive.{Drive}
 use Rattle.filecalls.specs.Outcome.{Outcome, outcome, withHeld}

@@ -4,7 +4,8 @@ use Prim.Native.Nat.{ℕ, _+_, _*_, _/_, _%_}
 use lib.Dec.{leb, ltb, eqb}
 use Rattle.disk_geometry.specs.declared.Geometry.{Geometry}
 
--- bytes of a record and of an entry, records of an extent, slots of a directory record
+-- bytes of a record and of an entry, records of an extent, slots of a directory record, bytes of a block for each extent of
+-- its entry
 abbrev pub recordBytes : ℕ
 recordBytes = 128
 
@@ -16,6 +17,9 @@ extentRecords = 128
 
 abbrev pub recordSlots : ℕ
 recordSlots = 4
+
+abbrev pub extentBlockBytes : ℕ
+extentBlockBytes = 1024
 
 -- B, T and D
 abbrev pub blockBytes : Geometry → ℕ
@@ -46,21 +50,21 @@ bytes g = blocks g * blockBytes g
 
 -- "R = B/128 records a block, X = B/1,024 extents an entry"
 abbrev pub records : Geometry → ℕ
-records g = blockBytes g / 128
+records g = blockBytes g / recordBytes
 
 abbrev pub extents : Geometry → ℕ
-extents g = blockBytes g / 1024
+extents g = blockBytes g / extentBlockBytes
 
 -- where logical record q of the volume begins: nothing else knows how records lie
 unfoldable pub start : Geometry → ℕ → ℕ
-start g q = q * 128
+start g q = q * recordBytes
 
 -- "Slots are the directory's 32-byte pieces, numbered from 0": four in each of its records
 abbrev pub slots : Geometry → ℕ
-slots g = 4 * (directoryBlocks g * records g)
+slots g = recordSlots * (directoryBlocks g * records g)
 
 unfoldable pub slotStart : Geometry → ℕ → ℕ
-slotStart g i = start g (i / 4) + i % 4 * 32
+slotStart g i = start g (i / recordSlots) + i % recordSlots * entryBytes
 
 -- "Its bytes begin at block times B plus (n mod R) times 128": record n in block b
 unfoldable pub recordStart : Geometry → ℕ → ℕ → ℕ
@@ -75,7 +79,7 @@ unfoldable pub places : Geometry → ℕ
 places g = 16
 
 unfoldable pub placeOf : Geometry → ℕ → ℕ
-placeOf g n = n % (128 * extents g) / records g
+placeOf g n = n % (extentRecords * extents g) / records g
 
 -- "from D to T-1"
 unfoldable pub inside : Geometry → ℕ → Bool

@@ -11,7 +11,11 @@ use Rattle.disk_geometry.specs.declared.Geometry.{Geometry}
 
 -- what a column of these rows has for the geometry's block size, 0 for another size
 abbrev column : ℕ → ℕ → ℕ → Geometry → ℕ
-column one two four g = cond (eqb (blockBytes g) 1024) one (cond (eqb (blockBytes g) 2048) two (cond (eqb (blockBytes g) 4096) four 0))
+column one two four g =
+    cond (eqb (blockBytes g) 1024) one
+    (cond (eqb (blockBytes g) 2048) two
+    (cond (eqb (blockBytes g) 4096) four
+    0))
 
 unfoldable pub bsh : Geometry → ℕ
 bsh = column 3 4 5

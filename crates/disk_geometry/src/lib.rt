@@ -2,7 +2,7 @@
 ghost use mathlib.Core.Path.{_≡_};
 ghost use mathlib.Core.Bool.{true};
 ghost use Prim.Native.Nat.{_+_, _*_, _/_, _%_, _≤_, _<_};
-ghost use Rattle.disk_geometry.specs.Geometry.{lawful, bytes, records, extents, start, slots, slotStart, recordStart, groupOf, places, placeOf, inside, blocks};
+ghost use Rattle.disk_geometry.specs.Geometry.{recordBytes, entryBytes, recordSlots, lawful, bytes, records, extents, start, slots, slotStart, recordStart, groupOf, places, placeOf, inside, blocks};
 ghost use Rattle.disk_geometry.specs.Shift.{bsh, blm};
 
 // How the volume is cut up: B, T and D of the paper.
@@ -13,7 +13,8 @@ pub struct Geometry {
 }
 
 impl Geometry {
-    // Bytes of a record and of an entry, records of an extent, slots of a directory record.
+    // Bytes of a record and of an entry, records of an extent, slots of a directory record, bytes of a block for each
+    // extent of its entry.
     pub const RECORD_BYTES: usize = 128;
 
     pub const ENTRY_BYTES: usize = 32;
@@ -22,8 +23,7 @@ impl Geometry {
 
     pub const RECORD_SLOTS: usize = 4;
 
-    // Block bytes for each extent of an entry: X is B/1,024.
-    pub const BYTES_AN_EXTENT: usize = 1024;
+    pub const EXTENT_BLOCK_BYTES: usize = 1024;
 
     // Is the geometry within the rules?
     pub fn is_lawful(self) -> bool
@@ -82,7 +82,7 @@ impl Geometry {
     pub fn extents(self) -> usize
         ensures { λ r. ⌜ r ≡ extents self ⌝ }
     {
-        self.block_bytes / Geometry::BYTES_AN_EXTENT
+        self.block_bytes / Geometry::EXTENT_BLOCK_BYTES
     }
 
     // How many slots the directory has.
@@ -90,13 +90,13 @@ impl Geometry {
         requires { ⌜ lawful self ≡ true ⌝ }
         ensures { λ r. ⌜ (r ≡ slots self) × (r ≤ 2048) ⌝ }
     {
-        4 * (self.directory_blocks * self.records())
+        Geometry::RECORD_SLOTS * (self.directory_blocks * self.records())
     }
 
     // Where logical record q begins.
     pub fn start(self, q: usize) -> usize
         requires { ⌜ (lawful self ≡ true) × (q < blocks self * records self) ⌝ }
-        ensures { λ r. ⌜ (r ≡ start self q) × (r + 128 ≤ bytes self) ⌝ }
+        ensures { λ r. ⌜ (r ≡ start self q) × (r + recordBytes ≤ bytes self) ⌝ }
     {
         q * Geometry::RECORD_BYTES
     }
@@ -104,23 +104,23 @@ impl Geometry {
     // Where the directory record begins that holds slot i.
     pub fn slot_record(self, i: usize) -> usize
         requires { ⌜ (lawful self ≡ true) × (i < slots self) ⌝ }
-        ensures { λ r. ⌜ (r ≡ start self (i / 4)) × (r + 128 ≤ bytes self) ⌝ }
+        ensures { λ r. ⌜ (r ≡ start self (i / recordSlots)) × (r + recordBytes ≤ bytes self) ⌝ }
     {
-        self.start(i / 4)
+        self.start(i / Geometry::RECORD_SLOTS)
     }
 
     // Where slot i begins.
     pub fn slot_start(self, i: usize) -> usize
         requires { ⌜ (lawful self ≡ true) × (i < slots self) ⌝ }
-        ensures { λ r. ⌜ (r ≡ slotStart self i) × (r + 32 ≤ bytes self) ⌝ }
+        ensures { λ r. ⌜ (r ≡ slotStart self i) × (r + entryBytes ≤ bytes self) ⌝ }
     {
-        self.slot_record(i) + i % 4 * Geometry::ENTRY_BYTES
+        self.slot_record(i) + i % Geometry::RECORD_SLOTS * Geometry::ENTRY_BYTES
     }
 
     // Where record n begins that lies in block b.
     pub fn record_start(self, b: usize, n: usize) -> usize
         requires { ⌜ (lawful self ≡ true) × (b < blocks self) ⌝ }
-        ensures { λ r. ⌜ (r ≡ recordStart self b n) × (r + 128 ≤ bytes self) ⌝ }
+        ensures { λ r. ⌜ (r ≡ recordStart self b n) × (r + recordBytes ≤ bytes self) ⌝ }
     {
         self.start((b << self.bsh()) + (n & self.blm()))
     }
@@ -145,7 +145,7 @@ impl Geometry {
         requires { ⌜ lawful self ≡ true ⌝ }
         ensures { λ r. ⌜ (r ≡ placeOf self n) × (r < places self) ⌝ }
     {
-        (n % (128 * self.extents())) >> self.bsh()
+        (n % (Geometry::EXTENT_RECORDS * self.extents())) >> self.bsh()
     }
 
     // Is the block one from D to T-1?

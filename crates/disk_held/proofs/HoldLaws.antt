@@ -1,14 +1,15 @@
 -- What holding and releasing a block does to each block: "the state doesn't hold it". Nobody above opens the bits.
 use mathlib.Core.Path.{_≡_, refl, sym, ap, _∙_}
-use mathlib.Core.Bool.{true, false, cond}
+use mathlib.Core.Bool.{true, false, cond, or-true, or-false, and-true, and-false}
 use mathlib.Core.List.{List}
 use Prim.Native.Nat.{ℕ, zero, suc, _+_, _*_, _/_, _%_, _^_, _<_}
 use native.Mathlib.Decide.{ℕ-discrete}
 use native.Mathlib.Omega.{arith}
+use borrow.Author.Tests.{eq-eqb, ne-eqb}
 use lib.Dec.{eqb}
 use lib.ListN.{length, getD, set, length-set}
 use lib.Seq.{getD-set-same, getD-set-other}
-use Rattle.disk_held.specs.Held.{digit, holds, hold, release}
+use Rattle.disk_held.specs.Held.{digit, holds, hold, release, HoldSays, ReleaseSays}
 use Rattle.disk_held.proofs.Bits.{set-bit-same, set-bit-other, clear-bit-same, clear-bit-other}
 
 pub length-hold : (held : List ℕ) (b : ℕ) → length (hold held b) ≡ length held
@@ -75,3 +76,16 @@ module _ (held : List ℕ) (four : length held ≡ 4) (b : ℕ) (low : b < 256) 
   pub holds-release-other : (c : ℕ) → (c ≡ b → ⊥) → holds (release held b) c ≡ holds held c
   unfolding holds release
   holds-release-other c n = ap (λ (x : ℕ). eqb x 1) (digit-set-other held four b low _ (clear-bit-other (getD held (b / 64) 0) (b % 64)) c n)
+
+-- ---- so the two sentences hold
+pub hold-says : HoldSays
+hold-says held four b low c = elim (ℕ-discrete c b) [
+  | yes e ↦ rw (e, holds-hold-same held four b low, eq-eqb b b refl, or-true)
+  | no n ↦ rw (holds-hold-other held four b low c n, ne-eqb c b n, or-false)
+]
+
+pub release-says : ReleaseSays
+release-says held four b low c = elim (ℕ-discrete c b) [
+  | yes e ↦ rw (e, holds-release-same held four b low, eq-eqb b b refl, and-false)
+  | no n ↦ rw (holds-release-other held four b low c n, ne-eqb c b n, and-true)
+]

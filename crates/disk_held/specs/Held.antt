@@ -1,10 +1,11 @@
 -- The held blocks of a state: a bit for each of 256 blocks, in four words of 64 bits, block 0 lowest.
-use mathlib.Core.Bool.{Bool, not, cond}
+use mathlib.Core.Path.{_≡_}
+use mathlib.Core.Bool.{Bool, not, cond, _&&_, _||_}
 use mathlib.Core.List.{List, [], _∷_}
-use Prim.Native.Nat.{ℕ, zero, suc, _+_, _-_, _*_, _/_, _%_, _^_}
+use Prim.Native.Nat.{ℕ, zero, suc, _+_, _-_, _*_, _/_, _%_, _^_, _<_}
 use lib.Bits.{bitOr, bitXor}
 use lib.Dec.{eqb}
-use lib.ListN.{getD, set}
+use lib.ListN.{length, getD, set}
 use Rattle.lists.specs.Bounded.{lowFrom, countFrom}
 
 -- the state holds block b
@@ -14,12 +15,24 @@ digit held b = getD held (b / 64) 0 / 2 ^ (b % 64) % 2
 unfoldable pub holds : List ℕ → ℕ → Bool
 holds held b = eqb (digit held b) 1
 
--- block b is held from now on, and no longer
+-- block b is held from now on, and no longer: by the bits of its word
 unfoldable pub hold : List ℕ → ℕ → List ℕ
 hold held b = set held (b / 64) (bitOr (getD held (b / 64) 0) (2 ^ (b % 64)))
 
 unfoldable pub release : List ℕ → ℕ → List ℕ
 release held b = set held (b / 64) (bitXor (bitOr (getD held (b / 64) 0) (2 ^ (b % 64))) (2 ^ (b % 64)))
+
+-- the same in a sentence, of four words and of a block below 256: afterwards a block is held exactly if it was held or is b,
+-- and exactly if it was held and is not b
+abbrev pub HoldSays : Type 0
+HoldSays =
+    (held : List ℕ) → length held ≡ 4 → (b : ℕ) → b < 256
+    → (c : ℕ) → holds (hold held b) c ≡ (holds held c || eqb c b)
+
+abbrev pub ReleaseSays : Type 0
+ReleaseSays =
+    (held : List ℕ) → length held ≡ 4 → (b : ℕ) → b < 256
+    → (c : ℕ) → holds (release held b) c ≡ (holds held c && not (eqb c b))
 
 -- the words of a set of blocks, given by its test: k blocks from a on in one word, and all
 unfoldable pub wordOf : (ℕ → Bool) → ℕ → ℕ → ℕ

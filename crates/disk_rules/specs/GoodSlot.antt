@@ -10,17 +10,22 @@ use Rattle.lists.specs.Bounded.{lowest, any, every}
 use Rattle.lists.specs.Bytes.{byte}
 use Rattle.disk_geometry.specs.declared.Geometry.{Geometry}
 use Rattle.disk_geometry.specs.Geometry.{slots, groupOf, inside, places}
-use Rattle.disk_volume.specs.Name.{nameOf, goodName}
+use Rattle.disk_volume.specs.Fields.{USER, NAME, EX, S1, S2, RC, nameBytes, nameT1, nameT2}
+use Rattle.disk_volume.specs.Name.{TOPBIT, nameOf, goodName}
 use Rattle.disk_volume.specs.Entry.{Entry, isEmpty, extent, blockIn, ofGroup}
 use Rattle.disk_volume.specs.Directory.{slotAt}
 
 -- the bytes other than name and map
 unfoldable pub goodFields : Entry → Bool
-goodFields e = leb (byte e 0) 15 && leb (byte e 12) 31 && eqb (byte e 13) 0 && leb (byte e 14) 15 && leb (byte e 15) 128
+goodFields e = leb (byte e USER) 15 && leb (byte e EX) 31 && eqb (byte e S1) 0 && leb (byte e S2) 15 && leb (byte e RC) 128
 
 -- "only bytes 9 and 10 may carry a top bit"
 unfoldable pub goodTopBits : Entry → Bool
-goodTopBits e = every 11 (λ k. ltb (byte e (1 + k)) 128 || eqb k 8 || eqb k 9)
+goodTopBits e = every nameBytes (λ k. ltb (byte e (NAME + k)) TOPBIT || eqb k nameT1 || eqb k nameT2)
+
+-- what the entry alone shows, but its map
+abbrev pub goodEntry : Entry → Bool
+goodEntry e = goodFields e && goodName false (nameOf e) && goodTopBits e
 
 -- the entry's map has block b in one of the first k places; the entry has it
 unfoldable pub inPlaces : Geometry → Entry → ℕ → ℕ → Bool
@@ -36,24 +41,22 @@ namedBelow g v n b = any n (λ j. namesBlock g (slotAt g v j) b)
 -- place p of the entry in slot i: 0, or a block from D to T-1 that is in no lower place and in no lower slot
 unfoldable pub goodPlace : Geometry → List ℕ → ℕ → ℕ → Bool
 goodPlace g v i p =
-    eqb (blockIn g (slotAt g v i) p) 0
-    || (inside g (blockIn g (slotAt g v i) p)
-    && not (inPlaces g (slotAt g v i) p (blockIn g (slotAt g v i) p))
-    && not (namedBelow g v i (blockIn g (slotAt g v i) p)))
+    let e = slotAt g v i in
+    let b = blockIn g e p in
+    eqb b 0 || (inside g b && not (inPlaces g e p b) && not (namedBelow g v i b))
 
--- the entry in slot i has the same user, name and group as one in a lower slot
+-- entry f has "the same user, name and group" as entry e
+abbrev pub twin : Geometry → Entry → Entry → Bool
+twin g e f = ofGroup g (byte e USER) (nameOf e) (groupOf g (extent e)) f
+
+-- a lower slot has the same user, name and group as slot i
 unfoldable pub seenBelow : Geometry → List ℕ → ℕ → Bool
-seenBelow g v i =
-    any i (λ j. ofGroup g (byte (slotAt g v i) 0) (nameOf (slotAt g v i)) (groupOf g (extent (slotAt g v i))) (slotAt g v j))
+seenBelow g v i = any i (λ j. twin g (slotAt g v i) (slotAt g v j))
 
 unfoldable pub goodSlot : Geometry → List ℕ → ℕ → Bool
 goodSlot g v i =
-    isEmpty (slotAt g v i)
-    || (goodFields (slotAt g v i)
-    && goodName false (nameOf (slotAt g v i))
-    && goodTopBits (slotAt g v i)
-    && every (places g) (goodPlace g v i)
-    && not (seenBelow g v i))
+    let e = slotAt g v i in
+    isEmpty e || (goodEntry e && every (places g) (goodPlace g v i) && not (seenBelow g v i))
 
 -- "Log-in accepts exactly when all slots are good", else it answers "the lowest bad slot": the number of slots where
 -- there is none

@@ -20,6 +20,11 @@ pub const T1: usize = 9;
 
 pub const T2: usize = 10;
 
+// The same bytes within the eleven of name and type.
+pub const NAME_T1: usize = T1 - NAME;
+
+pub const NAME_T2: usize = T2 - NAME;
+
 // How many bytes name and type have together, and the map; the first byte behind each.
 pub const NAME_BYTES: usize = 11;
 

@@ -4,6 +4,7 @@ ghost use Rattle.drive_bytes.specs.Layout.{decoded, encodedIn};
 use filecalls::Drive;
 
 mod lay;
+mod layout;
 mod load;
 
 // How many bytes a drive has.

@@ -2,6 +2,7 @@
 pub mod StateLaws
 pub mod OutcomeLaws
 pub mod LentLaws
+pub mod LogInLaws
 pub mod WriteLaws
 pub mod SearchLaws
 pub mod NamingLaws

@@ -14,9 +14,9 @@ use Rattle.filecalls.specs.Outcome.{Outcome, left}
 use Rattle.filecalls.specs.Read.{readSequentialAct}
 use Rattle.filecalls.specs.Write.{writeSequentialAct}
 use Rattle.filecalls.proofs.OutcomeLaws.{sameAll, outcome-refused, refuses, clears}
-use Rattle.filecalls.specs.Several.{severalTests}
 use Rattle.filecalls.proofs.SeveralLent.{lent-pieces}
-use Rattle.filecalls.specs.Several.{Single, readOne, writeOne, ended, onPiece, singles, several}
+use Rattle.filecalls.specs.Leaves.{readSequentialLeaves, writeSequentialLeaves}
+use Rattle.filecalls.specs.Several.{Single, severalTests, ended, onPiece, singles, several}
 use Rattle.filecalls.proofs.SinglesLaws.{chosen, Holds, Refuses, singles-keep, count-most, none-done}
 
 -- the tests of what is lent refuse, or leave the records to the single calls
@@ -66,8 +66,8 @@ leaves-all single refuses d v f b k =
     several-chosen (λ o. succeeded (o .answer) ≡ false → o ≡ sameAll o d v f b) single d v f b k
     (λ h. none-done single refuses k d v f b (omega (arith, lent-pieces d v f b k h .buffer))) (λ h s. refl)
 
-pub read-refuses : Refuses readOne
+pub read-refuses : Refuses readSequentialLeaves
 read-refuses d v f b = outcome-refused d v f b (readSequentialAct d v f b)
 
-pub write-refuses : Refuses writeOne
+pub write-refuses : Refuses writeSequentialLeaves
 write-refuses d v f b = outcome-refused d v f b (writeSequentialAct d v f b)

@@ -15,10 +15,10 @@ use Rattle.call_answers.proofs.Ladder.{ladder-stop, ladder-pass, unmet}
 use Rattle.filecalls.specs.declared.Drive.{Drive}
 use Rattle.filecalls.specs.State.{isOpen}
 use Rattle.filecalls.specs.Tests.{driveCode, badName}
-use Rattle.filecalls.specs.CodeReady.{Open, Lent}
+use Rattle.filecalls.specs.CodeReady.{OpenState, Lent}
 use Rattle.filecalls.specs.CodeLadder.{lentTests, namedTests, plainTests}
 
-pub is-open : (d : Drive) → isOpen d ≡ true → Open d
+pub is-open : (d : Drive) → isOpen d ≡ true → OpenState d
 unfolding isOpen
 is-open d e =
     let p = and-parts (lawful (d .geometry) && leb (d .user) 15) _ e in

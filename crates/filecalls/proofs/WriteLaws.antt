@@ -10,8 +10,8 @@ use Rattle.call_answers.specs.declared.Refusal.{Refusal}
 use Rattle.call_answers.specs.declared.Refusal.the-variants.{Protected}
 use Rattle.call_answers.specs.declared.Answer.the-variants.{Done, Refused}
 use Rattle.call_answers.specs.Refusal.{Test, isNone, firstMet}
-use Rattle.call_decide.specs.Write.{needsBlock, writeBlock, writeTests}
-use Rattle.call_decide.specs.CodePlan.{entryAfter, volumeAfter, heldAfter}
+use Rattle.call_decide.specs.Write.{needsBlock, writeBlock, entryAfter, writeTests}
+use Rattle.call_write.specs.CodeAfter.{volumeAfter, heldAfter}
 use Rattle.filecalls.specs.declared.Drive.{Drive}
 use Rattle.filecalls.specs.declared.Reply.{Reply}
 use Rattle.filecalls.specs.Outcome.{keeps, takes, deny, unless, outcome, left, withHeld, changedState, stored, storedAll}
@@ -19,7 +19,7 @@ use Rattle.filecalls.specs.Write.{writeEntry, writeChange, writeDone, di
 use Rattle.filecalls.proofs.OutcomeLaws.{goes-by, says-no, denies, does}
 
 -- the state where block x is taken if t
-taken : (d : Drive) (v : List ℕ) (t : Bool) (x : ℕ)
+pub taken : (d : Drive) (v : List ℕ) (t : Bool) (x : ℕ)
     → changedState d v (cond t (takes x) keeps) ≡ withHeld d (cond t (hold (d .held) x) (d .held))
 unfolding changedState
 taken d v true x = refl

@@ -8,7 +8,8 @@ pub mod Search
 pub mod Names
 pub mod Read
 pub mod Write
-pub mod Several
 pub mod Small
+pub mod Leaves
+pub mod Several
 pub mod CodeReady
 pub mod CodeLadder

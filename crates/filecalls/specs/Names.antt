@@ -6,10 +6,11 @@ use Prim.Native.Nat.{ℕ, _%_}
 use lib.Dec.{leb, eqb}
 use Rattle.lists.specs.Bytes.{byte, part}
 use Rattle.disk_volume.specs.declared.Wanted.the-variants.{Empty, File}
-use Rattle.disk_geometry.specs.Geometry.{slots}
+use Rattle.disk_geometry.specs.Geometry.{slots, recordSlots}
+use Rattle.disk_volume.specs.Fields.{NAME, EX, nameBytes}
 use Rattle.disk_volume.specs.Name.{nameOf}
 use Rattle.disk_volume.specs.Directory.{findSlot}
-use Rattle.call_fcb.specs.Fcb.{newName, made}
+use Rattle.call_fcb.specs.Fcb.{NEWNAME, newName, made}
 use Rattle.call_answers.specs.declared.Refusal.the-variants.{NoMatch}
 use Rattle.call_answers.specs.Refusal.{Test, test}
 use Rattle.call_sweep.specs.declared.Edit.the-variants.{Erase, Rename, Attributes}
@@ -24,7 +25,7 @@ use Rattle.filecalls.specs.Outcome.{keeps, frees, entryTo, eachEntry, Ac
 -- "byte 0 of all matching entries of the user (3FH allowed) becomes E5H, their blocks are free"
 unfoldable pub deleteLadder : Drive → List ℕ → List ℕ → List Test
 deleteLadder d v fcb =
-    closedState d ∷ volumeLength d v ∷ fcbLength fcb ∷ driveCode fcb ∷ badName true fcb 1 ∷ protectedDrive d
+    closedState d ∷ volumeLength d v ∷ fcbLength fcb ∷ driveCode fcb ∷ badName true fcb NAME ∷ protectedDrive d
     ∷ deleteTests (d .geometry) v (d .user) (nameOf fcb)
 
 unfoldable pub deleteAct : Drive → List ℕ → List ℕ → Act
@@ -35,32 +36,37 @@ deleteAct d v fcb =
 -- "the lowest empty slot gets user, name without top bits, all else 0. Control block 1..11 likewise, 12..31 become 0."
 unfoldable pub makeLadder : Drive → List ℕ → List ℕ → List Test
 makeLadder d v fcb =
-    closedState d ∷ volumeLength d v ∷ fcbLength fcb ∷ driveCode fcb ∷ badName false fcb 1 ∷ untypeable fcb 1 ∷ tooLarge (eqb (byte fcb 12) 0) ∷ protectedDrive d
+    closedState d ∷ volumeLength d v ∷ fcbLength fcb ∷ driveCode fcb ∷ badName false fcb NAME
+    ∷ untypeable fcb NAME ∷ tooLarge (eqb (byte fcb EX) 0) ∷ protectedDrive d
     ∷ makeTests (d .geometry) v (d .user) (nameOf fcb)
 
 unfoldable pub makeAct : Drive → List ℕ → List ℕ → Act
 makeAct d v fcb =
     unless (makeLadder d v fcb)
-    (done (findSlot (d .geometry) v (d .user) (nameOf fcb) Empty % 4) keeps
-    (entryTo (findSlot (d .geometry) v (d .user) (nameOf fcb) Empty) (freshEntry (d .user) (nameOf fcb)) ∷ []) (made fcb (nameOf fcb)) [])
+    (done (findSlot (d .geometry) v (d .user) (nameOf fcb) Empty % recordSlots) keeps
+    (entryTo (findSlot (d .geometry) v (d .user) (nameOf fcb) Empty) (freshEntry (d .user) (nameOf fcb)) ∷ [])
+    (made fcb (nameOf fcb)) [])
 
 -- "old name in 1..11, new in 17..27; all entries of the file take the new one"
 unfoldable pub renameLadder : Drive → List ℕ → List ℕ → List Test
 renameLadder d v fcb =
-    closedState d ∷ volumeLength d v ∷ fcbLength fcb ∷ driveCode fcb ∷ badName false fcb 1 ∷ badName false fcb 17 ∷ untypeable fcb 17 ∷ protectedDrive d
+    closedState d ∷ volumeLength d v ∷ fcbLength fcb ∷ driveCode fcb ∷ badName false fcb NAME
+    ∷ badName false fcb NEWNAME ∷ untypeable fcb NEWNAME ∷ protectedDrive d
     ∷ renameTests (d .geometry) v (d .user) (nameOf fcb) (newName fcb)
 
 unfoldable pub renameAct : Drive → List ℕ → List ℕ → Act
 renameAct d v fcb =
-    unless (renameLadder d v fcb) (done 0 keeps (eachEntry (changed Rename (d .user) (nameOf fcb) (part fcb 17 11)) ∷ []) fcb [])
+    unless (renameLadder d v fcb)
+    (done 0 keeps (eachEntry (changed Rename (d .user) (nameOf fcb) (part fcb NEWNAME nameBytes)) ∷ []) fcb [])
 
 -- "top bits of control block bytes 9 and 10 go to all entries of the file"
 unfoldable pub attributesLadder : Drive → List ℕ → List ℕ → List Test
 attributesLadder d v fcb =
-    closedState d ∷ volumeLength d v ∷ fcbLength fcb ∷ driveCode fcb ∷ badName false fcb 1 ∷ protectedDrive d
+    closedState d ∷ volumeLength d v ∷ fcbLength fcb ∷ driveCode fcb ∷ badName false fcb NAME ∷ protectedDrive d
     ∷ test NoMatch (leb (slots (d .geometry)) (findSlot (d .geometry) v (d .user) (nameOf fcb) File))
     ∷ []
 
 unfoldable pub attributesAct : Drive → List ℕ → List ℕ → Act
 attributesAct d v fcb =
-    unless (attributesLadder d v fcb) (done 0 keeps (eachEntry (changed Attributes (d .user) (nameOf fcb) (part fcb 1 11)) ∷ []) fcb [])
+    unless (attributesLadder d v fcb)
+    (done 0 keeps (eachEntry (changed Attributes (d .user) (nameOf fcb) (part fcb NAME nameBytes)) ∷ []) fcb [])

@@ -8,6 +8,7 @@ use Prim.Native.Nat.{ℕ, zero, suc, _*_}
 use lib.Dec.{leb, eqb}
 use lib.ListN.{length}
 use Rattle.lists.specs.Bytes.{part, put}
+use Rattle.disk_geometry.specs.Geometry.{recordBytes}
 use Rattle.call_answers.specs.declared.Refusal.{Refusal}
 use Rattle.call_answers.specs.declared.Refusal.the-variants.{None, BadCount, BufferLength}
 use Rattle.call_answers.specs.declared.Answer.the-variants as answer
@@ -15,9 +16,7 @@ use Rattle.call_answers.specs.Refusal.{Test, test, isNone, firstMet}
 use Rattle.call_answers.specs.Answer.{succeeded, whyOf}
 use Rattle.filecalls.specs.declared.Drive.{Drive}
 use Rattle.filecalls.specs.Tests.{closedState, volumeLength, fcbLength}
-use Rattle.filecalls.specs.Outcome.{Outcome, outcome}
-use Rattle.filecalls.specs.Read.{readSequentialAct}
-use Rattle.filecalls.specs.Write.{writeSequentialAct}
+use Rattle.filecalls.specs.Outcome.{Outcome}
 
 -- "46 for k outside 1..16"
 abbrev pub badCount : ℕ → Test
@@ -25,21 +24,16 @@ badCount k = test BadCount (not (leb 1 k && leb k 16))
 
 -- "35 then asks for 128k"
 abbrev pub piecesLength : ℕ → List ℕ → Test
-piecesLength k b = test BufferLength (not (eqb (length b) (128 * k)))
+piecesLength k b = test BufferLength (not (eqb (length b) (recordBytes * k)))
 
 -- 32, 33, 34; "46 .., before 35"
 unfoldable pub severalTests : Drive → List ℕ → List ℕ → List ℕ → ℕ → List Test
 severalTests d v fcb b k = closedState d ∷ volumeLength d v ∷ fcbLength fcb ∷ badCount k ∷ piecesLength k b ∷ []
 
--- a single call: state, volume, control block and transfer buffer, and all that it leaves
+-- a single call, `readSequentialLeaves` or `writeSequentialLeaves`: of state, volume, control block and transfer buffer all
+-- that it leaves
 abbrev pub Single : Type 0
 Single = Drive → List ℕ → List ℕ → List ℕ → Outcome
-
-abbrev pub readOne : Single
-readOne d v fcb b = outcome d v fcb b (readSequentialAct d v fcb b)
-
-abbrev pub writeOne : Single
-writeOne d v fcb b = outcome d v fcb b (writeSequentialAct d v fcb b)
 
 -- n records are done, and why no more
 abbrev pub ended : ℕ → Refusal → Drive → List ℕ → List ℕ → List ℕ → Outcome
@@ -48,8 +42,9 @@ ended n why d v fcb b = record { answer = answer.Several n why; drive = d; volum
 -- "each record goes to its own piece of that buffer": the single call that is lent piece i
 unfoldable pub onPiece : Single → ℕ → Drive → List ℕ → List ℕ → List ℕ → Outcome
 onPiece single i d v fcb b =
-    let o : Outcome = single d v fcb (part b (128 * i) 128) in
-    record { answer = o .answer; drive = o .drive; volume = o .volume; fcb = o .fcb; buffer = put b (128 * i) 128 (o .buffer) }
+    let o : Outcome = single d v fcb (part b (recordBytes * i) recordBytes) in
+    let pieces : List ℕ = put b (recordBytes * i) recordBytes (o .buffer) in
+    record { answer = o .answer; drive = o .drive; volume = o .volume; fcb = o .fcb; buffer = pieces }
 
 -- k single calls in order from piece i on, "stopping at the first refused one"
 unfoldable pub singles : Single → ℕ → ℕ → Drive → List ℕ → List ℕ → List ℕ → Outcome

@@ -22,7 +22,8 @@ unfoldable pub userTests : Drive → ℕ → List Test
 userTests d code = closedState d ∷ test UserCode (ltb 15 code && ltb code 255) ∷ []
 
 unfoldable pub userAct : Drive → ℕ → Act
-userAct d code = unless (userTests d code) (cond (eqb code 255) (done (d .user) keeps [] [] []) (done 0 (becomes code) [] [] []))
+userAct d code =
+    unless (userTests d code) (cond (eqb code 255) (done (d .user) keeps [] [] []) (done 0 (becomes code) [] [] []))
 
 -- "the sequential position in r0 r1 r2"
 unfoldable pub setRandomTests : Drive → List ℕ → List Test

@@ -7,17 +7,20 @@ use lib.ListN.{replicate}
 use Rattle.lists.specs.Bytes.{byte}
 use Rattle.disk_geometry.specs.declared.Geometry.{Geometry}
 use Rattle.disk_geometry.specs.Geometry.{lawful, slots, geometryOf}
-use Rattle.disk_volume.specs.Name.{nameAt, goodName}
+use Rattle.disk_volume.specs.Fields.{nameBytes}
+use Rattle.disk_volume.specs.Name.{WILDCARD, nameAt, goodName}
 use Rattle.disk_held.specs.Held.{noneHeld}
 use Rattle.call_search.specs.declared.SearchKind.{SearchKind}
 use Rattle.call_search.specs.declared.SearchKind.the-variants.{Nothing, Pattern, Everything}
+use Rattle.call_search.specs.Search.{patternBytes}
 use Rattle.filecalls.specs.declared.KeptSearch.{KeptSearch}
 use Rattle.filecalls.specs.declared.Drive.{Drive}
 
 -- a kept search within the rules: its user is 0..15, its last hit is a slot, and its pattern passed 39 and 40; with dr
 -- 3FH the pattern is not examined
 abbrev pub goodPattern : List ℕ → Bool
-goodPattern pattern = goodName true (nameAt pattern 0) && (leb (byte pattern 11) 31 || eqb (byte pattern 11) 63)
+goodPattern pattern =
+    goodName true (nameAt pattern 0) && (leb (byte pattern nameBytes) 31 || eqb (byte pattern nameBytes) WILDCARD)
 
 abbrev pub goodKept : SearchKind → ℕ → ℕ → List ℕ → ℕ → Bool
 goodKept Nothing user last pattern n = true
@@ -31,7 +34,7 @@ isOpen d =
     && goodKept (d .search .kind) (d .search .user) (d .search .last) (d .search .pattern) (slots (d .geometry))
 
 abbrev pub noSearch : KeptSearch
-noSearch = record { kind = Nothing; user = 0; last = 0; pattern = replicate 12 0 }
+noSearch = record { kind = Nothing; user = 0; last = 0; pattern = replicate patternBytes 0 }
 
 -- "the closed state, one fixed value"
 abbrev pub closed : Drive

@@ -5,8 +5,9 @@ use Prim.Native.Nat.{ℕ}
 use lib.Dec.{ltb, eqb}
 use lib.ListN.{length}
 use Rattle.lists.specs.Bytes.{byte}
-use Rattle.disk_geometry.specs.Geometry.{bytes}
+use Rattle.disk_geometry.specs.Geometry.{bytes, recordBytes}
 use Rattle.disk_volume.specs.Name.{nameAt, goodName}
+use Rattle.call_fcb.specs.Fcb.{DR, fcbBytes}
 use Rattle.call_typing.specs.Typing.{typeable}
 use Rattle.call_answers.specs.declared.Refusal.the-variants.{Closed, VolumeLength, FcbLength, BufferLength, DriveCode, Name, Untypeable, Position, Beyond, Protected}
 use Rattle.call_answers.specs.Refusal.{Test, test}
@@ -22,14 +23,14 @@ abbrev pub volumeLength : Drive → List ℕ → Test
 volumeLength d v = test VolumeLength (not (eqb (length v) (bytes (d .geometry))))
 
 abbrev pub fcbLength : List ℕ → Test
-fcbLength fcb = test FcbLength (not (eqb (length fcb) 36))
+fcbLength fcb = test FcbLength (not (eqb (length fcb) fcbBytes))
 
 abbrev pub bufferLength : List ℕ → Test
-bufferLength b = test BufferLength (not (eqb (length b) 128))
+bufferLength b = test BufferLength (not (eqb (length b) recordBytes))
 
 -- 42: "dr not 0 or 1"
 abbrev pub driveCode : List ℕ → Test
-driveCode fcb = test DriveCode (ltb 1 (byte fcb 0))
+driveCode fcb = test DriveCode (ltb 1 (byte fcb DR))
 
 -- 39: "a name outside the inspection's byte rule; 3FH allowed in open, search, delete only": the name from byte a on
 abbrev pub badName : Bool → List ℕ → ℕ → Test

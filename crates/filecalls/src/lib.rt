@@ -1,5 +1,6 @@
 // The file calls: every call is a method of the drive state that takes the state and hands it back.
 use call_answers::Answer;
+use call_search::PATTERN_BYTES;
 use call_search::SearchKind;
 use disk_geometry::Geometry;
 
@@ -19,7 +20,7 @@ pub struct KeptSearch {
     pub kind: SearchKind,
     pub user: u8,
     pub last: usize,
-    pub pattern: [u8; 12],
+    pub pattern: [u8; PATTERN_BYTES],
 }
 
 // The drive's state.

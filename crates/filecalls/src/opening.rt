@@ -1,45 +1,55 @@
 // Open (15), close (16) and size (35).
 ghost use mathlib.Core.Path.{_≡_};
 ghost use mathlib.Core.List.{[]};
-ghost use Rattle.filecalls.specs.Outcome.{outcome, left};
-ghost use Rattle.filecalls.specs.Open.{openAct, closeAct, sizeAct};
+ghost use Rattle.filecalls.specs.Outcome.{left};
+ghost use Rattle.filecalls.specs.Leaves.{openLeaves, closeLeaves, sizeLeaves};
 use crate::Drive;
 use crate::Reply;
+use disk_geometry::Geometry;
 
 impl Drive {
     // Function 15: shows the entry that the control block means.
     pub fn open_file(self, volume: &[u8], fcb: &mut [u8]) -> Reply
-        ensures { λ r. ⌜ left r (now (volume .entry)) (now (fcb .exit)) [] ≡ outcome self (now (volume .entry)) (now (fcb .entry)) [] (openAct self (now (volume .entry)) (now (fcb .entry))) ⌝ }
+        ensures { λ r. ⌜
+            left r (now (volume .entry)) (now (fcb .exit)) []
+            ≡ openLeaves self (now (volume .entry)) (now (fcb .entry))
+            ⌝ }
     {
-        let why = self.named_why(volume, fcb, 128, true);
+        let why = self.named_why(volume, fcb, Geometry::RECORD_BYTES, true);
         if !call_answers::is_none(why) {
             return self.refused(why);
         }
         let g = self.geometry;
         let found = call_open::open_file(g, volume, fcb, self.user);
         let why = found.why;
-        self.answered(why, (found.slot % 4) as u8)
+        self.answered(why, (found.slot % Geometry::RECORD_SLOTS) as u8)
     }
 
     // Function 16: the group has an entry; nothing is changed.
     pub fn close_file(self, volume: &[u8], fcb: &[u8]) -> Reply
-        ensures { λ r. ⌜ left r (now (volume .entry)) (now (fcb .entry)) [] ≡ outcome self (now (volume .entry)) (now (fcb .entry)) [] (closeAct self (now (volume .entry)) (now (fcb .entry))) ⌝ }
+        ensures { λ r. ⌜
+            left r (now (volume .entry)) (now (fcb .entry)) []
+            ≡ closeLeaves self (now (volume .entry)) (now (fcb .entry))
+            ⌝ }
     {
-        let why = self.named_why(volume, fcb, 128, false);
+        let why = self.named_why(volume, fcb, Geometry::RECORD_BYTES, false);
         if !call_answers::is_none(why) {
             return self.refused(why);
         }
         let g = self.geometry;
         let found = call_open::close_file(g, volume, fcb, self.user);
         let why = found.why;
-        self.answered(why, (found.slot % 4) as u8)
+        self.answered(why, (found.slot % Geometry::RECORD_SLOTS) as u8)
     }
 
     // Function 35: the file's size in r0 r1 r2.
     pub fn file_size(self, volume: &[u8], fcb: &mut [u8]) -> Reply
-        ensures { λ r. ⌜ left r (now (volume .entry)) (now (fcb .exit)) [] ≡ outcome self (now (volume .entry)) (now (fcb .entry)) [] (sizeAct self (now (volume .entry)) (now (fcb .entry))) ⌝ }
+        ensures { λ r. ⌜
+            left r (now (volume .entry)) (now (fcb .exit)) []
+            ≡ sizeLeaves self (now (volume .entry)) (now (fcb .entry))
+            ⌝ }
     {
-        let why = self.named_why(volume, fcb, 128, false);
+        let why = self.named_why(volume, fcb, Geometry::RECORD_BYTES, false);
         if !call_answers::is_none(why) {
             return self.refused(why);
         }

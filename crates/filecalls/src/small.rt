@@ -2,12 +2,17 @@
 ghost use mathlib.Core.Path.{_≡_};
 ghost use mathlib.Core.List.{[]};
 ghost use Rattle.call_answers.specs.Refusal.{firstMet};
-ghost use Rattle.filecalls.specs.Outcome.{outcome, left};
-ghost use Rattle.filecalls.specs.Small.{setRandomTests, protectAct, userAct, setRandomAct};
+ghost use Rattle.filecalls.specs.Outcome.{left};
+ghost use Rattle.filecalls.specs.Small.{setRandomTests};
+ghost use Rattle.filecalls.specs.Leaves.{protectLeaves, userLeaves, setRandomLeaves};
 use crate::Drive;
 use crate::Reply;
-use call_answers::Answer;
 use call_answers::Refusal;
+use call_fcb::CR;
+use call_fcb::DR;
+use call_fcb::FCB_BYTES;
+use disk_volume::fields::EX;
+use disk_volume::fields::S2;
 
 impl Drive {
     // 32, 34, 42 and 40 of function 36, which is lent no volume.
@@ -17,19 +22,19 @@ impl Drive {
         if !self.is_open() {
             return Refusal::Closed;
         }
-        let whole = fcb.len() == 36;
+        let whole = fcb.len() == FCB_BYTES;
         if !whole {
             return Refusal::FcbLength;
         }
-        let fits = (fcb[12] <= 31) & (fcb[14] <= 15) & (fcb[32] <= 128);
-        let a = call_answers::refuse(Refusal::DriveCode, 1 < fcb[0]);
+        let fits = (fcb[EX] <= 31) & (fcb[S2] <= 15) & (fcb[CR] <= 128);
+        let a = call_answers::refuse(Refusal::DriveCode, 1 < fcb[DR]);
         let b = call_answers::refuse(Refusal::Position, !fits);
         call_answers::first_of(a, b)
     }
 
     // Function 28: protects the drive until the next log-in.
     pub fn protect(self) -> Reply
-        ensures { λ r. ⌜ left r [] [] [] ≡ outcome self [] [] [] (protectAct self) ⌝ }
+        ensures { λ r. ⌜ left r [] [] [] ≡ protectLeaves self ⌝ }
     {
         if !self.is_open() {
             return self.refused(Refusal::Closed);
@@ -41,7 +46,7 @@ impl Drive {
 
     // Function 32: sets the user, or answers the current one for 255.
     pub fn user_code(self, code: u8) -> Reply
-        ensures { λ r. ⌜ left r [] [] [] ≡ outcome self [] [] [] (userAct self code) ⌝ }
+        ensures { λ r. ⌜ left r [] [] [] ≡ userLeaves self code ⌝ }
     {
         if !self.is_open() {
             return self.refused(Refusal::Closed);
@@ -59,7 +64,7 @@ impl Drive {
 
     // Function 36: the sequential position in r0 r1 r2.
     pub fn set_random(self, fcb: &mut [u8]) -> Reply
-        ensures { λ r. ⌜ left r [] (now (fcb .exit)) [] ≡ outcome self [] (now (fcb .entry)) [] (setRandomAct self (now (fcb .entry))) ⌝ }
+        ensures { λ r. ⌜ left r [] (now (fcb .exit)) [] ≡ setRandomLeaves self (now (fcb .entry)) ⌝ }
     {
         let why = self.position_why(fcb);
         if !call_answers::is_none(why) {

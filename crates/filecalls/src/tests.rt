@@ -5,6 +5,16 @@ ghost use Rattle.call_answers.specs.Refusal.{firstMet};
 ghost use Rattle.filecalls.specs.CodeLadder.{lentTests, namedTests, sequentialLent, randomLent};
 use crate::Drive;
 use call_answers::Refusal;
+use call_fcb::CR;
+use call_fcb::DR;
+use call_fcb::FCB_BYTES;
+use call_fcb::FILE_RECORDS;
+use call_fcb::R2;
+use disk_geometry::Geometry;
+use disk_volume::fields::EX;
+use disk_volume::fields::NAME;
+use disk_volume::fields::NAME_END;
+use disk_volume::fields::S2;
 
 impl Drive {
     // 32, 33, 34, 35 by the lengths that are lent; a length that is not lent is given as the right one.
@@ -16,8 +26,8 @@ impl Drive {
         }
         let g = self.geometry;
         let a = call_answers::refuse(Refusal::VolumeLength, volume != g.bytes());
-        let b = call_answers::refuse(Refusal::FcbLength, fcb != 36);
-        let c = call_answers::refuse(Refusal::BufferLength, buffer != 128);
+        let b = call_answers::refuse(Refusal::FcbLength, fcb != FCB_BYTES);
+        let c = call_answers::refuse(Refusal::BufferLength, buffer != Geometry::RECORD_BYTES);
         call_answers::first_of(a, call_answers::first_of(b, c))
     }
 
@@ -35,10 +45,10 @@ impl Drive {
         if !call_answers::is_none(why) {
             return why;
         }
-        let a = call_answers::refuse(Refusal::DriveCode, 1 < fcb[0]);
+        let a = call_answers::refuse(Refusal::DriveCode, 1 < fcb[DR]);
         let b = call_answers::refuse(
             Refusal::Name,
-            !disk_volume::names::good_name(pattern, &fcb[1..12]),
+            !disk_volume::names::good_name(pattern, &fcb[NAME..NAME_END]),
         );
         call_answers::first_of(a, b)
     }
@@ -51,10 +61,10 @@ impl Drive {
         if !call_answers::is_none(why) {
             return why;
         }
-        let fits = (fcb[12] <= 31) & (fcb[14] <= 15) & (fcb[32] <= 128);
+        let fits = (fcb[EX] <= 31) & (fcb[S2] <= 15) & (fcb[CR] <= 128);
         let n = call_fcb::position_of(fcb);
         let a = call_answers::refuse(Refusal::Position, !fits);
-        let b = call_answers::refuse(Refusal::Beyond, n == 65536);
+        let b = call_answers::refuse(Refusal::Beyond, n == FILE_RECORDS);
         call_answers::first_of(a, b)
     }
 
@@ -66,6 +76,6 @@ impl Drive {
         if !call_answers::is_none(why) {
             return why;
         }
-        call_answers::refuse(Refusal::Beyond, fcb[35] != 0)
+        call_answers::refuse(Refusal::Beyond, fcb[R2] != 0)
     }
 }

@@ -18,6 +18,7 @@ use Rattle.text.proofs.TextLaws.{puts-room}
 use Rattle.call_answers.specs.declared.Refusal.the-variants.{VolumeLength}
 use Rattle.call_answers.specs.declared.Answer.{Answer}
 use Rattle.call_answers.specs.declared.Answer.the-variants.{Ready, BadSlot, Refused}
+use Rattle.call_answers.specs.Answer.{numberOf}
 use Rattle.call_answers.specs.Refusal.{firstMet}
 use Rattle.filecalls.specs.LogIn.{logIn, logInTests, refusedLogIn}
 use Rattle.listing.specs.Listing.{geometryV, listingFor, listing}
@@ -52,12 +53,12 @@ module _ (v : List ℕ) where
   unfolding listingFor
   bad-short =
       let slot = two-digits (lowestBad geometryV v) (omega (arith, lowest-bad-le geometryV v)) in
-      let number = two-digits 36 (omega arith) in
+      let number = two-digits (numberOf (BadSlot 0)) (omega arith) in
       simp length-append (omega (arith, slot, number))
 
   refused-short : length (listingFor (Refused VolumeLength) geometryV v) ≤ room
   unfolding listingFor
-  refused-short = simp length-append (omega (arith, two-digits 33 (omega arith)))
+  refused-short = simp length-append (omega (arith, two-digits (numberOf (Refused VolumeLength)) (omega arith)))
 
   listing-short : length (listing v) ≤ room
   unfolding listing listingFor

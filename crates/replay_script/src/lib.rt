@@ -2,17 +2,25 @@
 ghost use mathlib.Core.Path.{_≡_};
 ghost use lib.ListN.{length};
 ghost use Rattle.numbers.specs.Numbers.{three};
-ghost use Rattle.replay_script.specs.Script.{headerOf, AtMost, nextOf, isKnown, Within};
+ghost use Rattle.replay_script.specs.Script.{headerOf, nextOf, isKnown};
+ghost use Rattle.replay_script.specs.CodeNext.{AtMost, Within};
+use crate::layout::B_AT;
+use crate::layout::D_AT;
+use crate::layout::F_AT;
+use crate::layout::FCB_AT;
+use crate::layout::FUNCTION_AT;
+use crate::layout::HEAD_BYTES;
+use crate::layout::HEADER_BYTES;
+use crate::layout::L_AT;
+use crate::layout::LONGEST_VOLUME;
+use crate::layout::PARAMETER_AT;
+use crate::layout::T_AT;
+use crate::layout::TOUCH;
 use disk_geometry::Geometry;
 
+pub mod layout;
 pub mod lending;
 pub mod window;
-
-// The longest call: five bytes, 255 of control fcb, 65,535 of buffer.
-pub const LONGEST_CALL: usize = 65795;
-
-// The longest volume.
-pub const LONGEST_VOLUME: usize = 1048576;
 
 // What the header says: a geometry and the volume's length, or nothing of use.
 pub enum Header {
@@ -40,15 +48,15 @@ pub fn header_of(s: &[u8]) -> Header
     ensures { λ r. ⌜ r ≡ headerOf (now (s .entry)) ⌝ }
     ensures { λ r. ⌜ AtMost r ⌝ }
 {
-    let length = numbers::four_at(s, 6);
-    let good = (10 <= s.len()) & (length <= LONGEST_VOLUME);
+    let length = numbers::four_at(s, L_AT);
+    let good = (HEADER_BYTES <= s.len()) & (length <= LONGEST_VOLUME);
     if !good {
         return Header::Bad;
     }
     let geometry = Geometry {
-        block_bytes: numbers::two_at(s, 0),
-        blocks: numbers::two_at(s, 2),
-        directory_blocks: numbers::two_at(s, 4),
+        block_bytes: numbers::two_at(s, B_AT),
+        blocks: numbers::two_at(s, T_AT),
+        directory_blocks: numbers::two_at(s, D_AT),
     };
     Header::Good(geometry, length)
 }
@@ -57,7 +65,7 @@ pub fn header_of(s: &[u8]) -> Header
 fn is_known(function: u8) -> bool
     ensures { λ r. ⌜ r ≡ isKnown function ⌝ }
 {
-    (function == 0) | lending::is_served(function)
+    (function == TOUCH) | lending::is_served(function)
 }
 
 // What stands at the start of s.
@@ -68,11 +76,11 @@ pub fn next_of(s: &[u8]) -> Next
     if s.len() == 0 {
         return Next::End;
     }
-    let function = numbers::byte_at(s, 0);
-    let parameter = numbers::byte_at(s, 1);
-    let fcb = lists::wide(numbers::byte_at(s, 2));
-    let buffer = numbers::two_at(s, 3 + fcb);
-    let good = (5 + fcb + buffer <= s.len()) & is_known(function);
+    let function = numbers::byte_at(s, FUNCTION_AT);
+    let parameter = numbers::byte_at(s, PARAMETER_AT);
+    let fcb = lists::wide(numbers::byte_at(s, F_AT));
+    let buffer = numbers::two_at(s, FCB_AT + fcb);
+    let good = (HEAD_BYTES + fcb + buffer <= s.len()) & is_known(function);
     if !good {
         return Next::Bad;
     }

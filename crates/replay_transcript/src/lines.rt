@@ -1,10 +1,7 @@
 // The lines of a transcript, appended to a lent buffer.
 ghost use mathlib.Core.Path.{_≡_};
 ghost use Rattle.text.specs.Text.{text, puts};
-ghost use mathlib.Core.List.{_++_};
-ghost use Rattle.text.specs.Decimal.{decimal};
-ghost use Rattle.call_answers.specs.Answer.{numberOf, valueOf};
-ghost use Rattle.replay_transcript.specs.Lines.{blank, shown, callLine, badLine, endLine};
+ghost use Rattle.replay_transcript.specs.Lines.{shown, numbersOf, callLine, badLine, endLine};
 use crate::hex;
 use call_answers::Answer;
 use replay_script::lending;
@@ -22,7 +19,10 @@ fn put_shown(out: &mut [u8], at: usize, lent: bool, s: &[u8]) -> usize
 
 // The three numbers of a call.
 fn put_numbers(out: &mut [u8], at: usize, function: u8, answer: Answer) -> usize
-    ensures { λ r. ⌜ text (now (out .exit)) r ≡ puts (text (now (out .entry)) at) (decimal function ++ blank ++ decimal (numberOf answer) ++ blank ++ decimal (valueOf answer)) ⌝ }
+    ensures { λ r. ⌜
+        text (now (out .exit)) r
+        ≡ puts (text (now (out .entry)) at) (numbersOf function answer)
+        ⌝ }
 {
     let a = text::put_decimal(out, at, lists::wide(function));
     let b = text::put_byte(out, a, b' ');
@@ -40,7 +40,10 @@ pub fn put_call(
     fcb: &[u8],
     buffer: &[u8],
 ) -> usize
-    ensures { λ r. ⌜ text (now (out .exit)) r ≡ puts (text (now (out .entry)) at) (callLine function answer (now (fcb .entry)) (now (buffer .entry))) ⌝ }
+    ensures { λ r. ⌜
+        text (now (out .exit)) r
+        ≡ puts (text (now (out .entry)) at) (callLine function answer (now (fcb .entry)) (now (buffer .entry)))
+        ⌝ }
 {
     let a = put_numbers(out, at, function, answer);
     let b = text::put_byte(out, a, b' ');

@@ -1,14 +1,12 @@
 // The records that a run has changed, appended to a lent buffer.
 ghost use mathlib.Core.Path.{_≡_};
 ghost use Prim.Native.Nat.{_+_, _-_, _*_, min};
-ghost use mathlib.Core.List.{_++_};
 ghost use Rattle.text.specs.Text.{text, puts};
-ghost use Rattle.text.specs.Decimal.{decimal};
+ghost use Rattle.disk_geometry.specs.Geometry.{recordBytes};
 ghost use Rattle.disk_volume.specs.Name.{same};
-ghost use Rattle.replay_transcript.specs.Hex.{hex};
-ghost use Rattle.replay_transcript.specs.Lines.{blank, lineEnd};
-ghost use Rattle.replay_transcript.specs.Records.{recordsOf, recordWord, recordLine, recordLines};
+ghost use Rattle.replay_transcript.specs.Records.{recordsOf, changedLine, recordLine, recordLines};
 use crate::hex;
+use disk_geometry::Geometry;
 
 // Where a record lies.
 struct Piece {
@@ -20,23 +18,28 @@ struct Piece {
 pub fn records_of(n: usize) -> usize
     ensures { λ r. ⌜ r ≡ recordsOf n ⌝ }
 {
-    if n % 128 == 0 { n / 128 } else { n / 128 + 1 }
+    let whole = n / Geometry::RECORD_BYTES;
+    if n % Geometry::RECORD_BYTES == 0 {
+        whole
+    } else {
+        whole + 1
+    }
 }
 
 // Record q of a volume of n bytes: nothing, at the end, where there is none.
 fn piece_of(n: usize, q: usize) -> Piece
-    ensures { λ r. ⌜ (r .from ≡ min (128 * q) n) × (r .to ≡ min (128 * q + 128) n) ⌝ }
+    ensures { λ r. ⌜ (r .from ≡ min (recordBytes * q) n) × (r .to ≡ min (recordBytes * q + recordBytes) n) ⌝ }
 {
-    if n / 128 < q {
+    if n / Geometry::RECORD_BYTES < q {
         return Piece { from: n, to: n };
     }
-    let from = 128 * q;
-    if n - from < 128 {
+    let from = Geometry::RECORD_BYTES * q;
+    if n - from < Geometry::RECORD_BYTES {
         return Piece { from, to: n };
     }
     Piece {
         from,
-        to: from + 128,
+        to: from + Geometry::RECORD_BYTES,
     }
 }
 
@@ -59,7 +62,10 @@ fn same_bytes(a: &[u8], b: &[u8]) -> bool
 
 // A changed record.
 fn put_changed(out: &mut [u8], at: usize, q: usize, s: &[u8]) -> usize
-    ensures { λ r. ⌜ text (now (out .exit)) r ≡ puts (text (now (out .entry)) at) (recordWord ++ decimal q ++ blank ++ hex (now (s .entry)) ++ lineEnd) ⌝ }
+    ensures { λ r. ⌜
+        text (now (out .exit)) r
+        ≡ puts (text (now (out .entry)) at) (changedLine q (now (s .entry)))
+        ⌝ }
 {
     let a = text::put_bytes(out, at, b"RECORD ");
     let b = text::put_decimal(out, a, q);
@@ -70,7 +76,10 @@ fn put_changed(out: &mut [u8], at: usize, q: usize, s: &[u8]) -> usize
 
 // Record q, where it has changed.
 fn put_record(out: &mut [u8], at: usize, given: &[u8], volume: &[u8], q: usize) -> usize
-    ensures { λ r. ⌜ text (now (out .exit)) r ≡ puts (text (now (out .entry)) at) (recordLine (now (given .entry)) (now (volume .entry)) q) ⌝ }
+    ensures { λ r. ⌜
+        text (now (out .exit)) r
+        ≡ puts (text (now (out .entry)) at) (recordLine (now (given .entry)) (now (volume .entry)) q)
+        ⌝ }
 {
     let g = piece_of(given.len(), q);
     let v = piece_of(volume.len(), q);
@@ -93,7 +102,10 @@ pub fn put_records(
     from: usize,
     to: usize,
 ) -> usize
-    ensures { λ r. ⌜ text (now (out .exit)) r ≡ puts (text (now (out .entry)) at) (recordLines (now (given .entry)) (now (volume .entry)) from (to - from)) ⌝ }
+    ensures { λ r. ⌜
+        text (now (out .exit)) r
+        ≡ puts (text (now (out .entry)) at) (recordLines (now (given .entry)) (now (volume .entry)) from (to - from))
+        ⌝ }
 {
     let mut p = at;
     let mut q = from;

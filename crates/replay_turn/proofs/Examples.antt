@@ -1,4 +1,4 @@
--- Whole transcripts, evaluated. Texts are written in the codes of their letters, one line to a line.
+-- Whole transcripts, evaluated.
 use mathlib.Core.Path.{_≡_, refl}
 use mathlib.Core.List.{[], _∷_, _++_}
 use Rattle.lists.specs.Bytes.{part}
@@ -16,15 +16,14 @@ use Rattle.text.specs.Text.{putByte, puts}
 use Rattle.text.specs.Decimal.{decimalIn, decimal}
 use Rattle.replay_script.specs.Script.{headerOf, callLength, nextOf, callAt}
 use Rattle.replay_transcript.specs.Hex.{hex}
+use Rattle.text.specs.Letters.{letters}
 use Rattle.replay_transcript.specs.Lines.{shown, callLine, badLine, endLine}
 use Rattle.replay_transcript.specs.Records.{recordLine, recordLines}
 use Rattle.replay_turn.specs.Play.{laid, played}
 use Rattle.replay_turn.specs.Transcript.{runFrom, ended, transcript}
 
--- nothing at all: BAD SCRIPT 0, END 0
-no-script : transcript []
-    ≡ (66 ∷ 65 ∷ 68 ∷ 32 ∷ 83 ∷ 67 ∷ 82 ∷ 73 ∷ 80 ∷ 84 ∷ 32 ∷ 48 ∷ 10 ∷ [])
-    ++ (69 ∷ 78 ∷ 68 ∷ 32 ∷ 48 ∷ 10 ∷ [])
+-- nothing at all
+no-script : transcript [] ≡ letters "BAD SCRIPT 0\nEND 0\n"
 unfolding transcript headerOf badLine endLine decimal decimalIn
 no-script = refl
 
@@ -39,21 +38,13 @@ few-calls : transcript (
     ++ (18 ∷ 0 ∷ 1 ∷ 1 ∷ 2 ∷ 0 ∷ 2 ∷ 3 ∷ [])
     ++ (15 ∷ 0 ∷ [])
     )
-    -- 13 33 0 - -
-    ≡ (49 ∷ 51 ∷ 32 ∷ 51 ∷ 51 ∷ 32 ∷ 48 ∷ 32 ∷ 45 ∷ 32 ∷ 45 ∷ 10 ∷ [])
-    -- 0 0 0 - -
-    ++ (48 ∷ 32 ∷ 48 ∷ 32 ∷ 48 ∷ 32 ∷ 45 ∷ 32 ∷ 45 ∷ 10 ∷ [])
-    -- 36 32 0 =07 -
-    ++ (51 ∷ 54 ∷ 32 ∷ 51 ∷ 50 ∷ 32 ∷ 48 ∷ 32 ∷ 61 ∷ 48 ∷ 55 ∷ 32 ∷ 45 ∷ 10 ∷ [])
-    -- 17 32 0 = =AB
-    ++ (49 ∷ 55 ∷ 32 ∷ 51 ∷ 50 ∷ 32 ∷ 48 ∷ 32 ∷ 61 ∷ 32 ∷ 61 ∷ 65 ∷ 66 ∷ 10 ∷ [])
-    -- 18 32 0 - =0203
-    ++ (49 ∷ 56 ∷ 32 ∷ 51 ∷ 50 ∷ 32 ∷ 48 ∷ 32 ∷ 45 ∷ 32 ∷ 61 ∷ 48 ∷ 50 ∷ 48 ∷ 51 ∷ 10 ∷ [])
-    -- BAD SCRIPT 5
-    ++ (66 ∷ 65 ∷ 68 ∷ 32 ∷ 83 ∷ 67 ∷ 82 ∷ 73 ∷ 80 ∷ 84 ∷ 32 ∷ 53 ∷ 10 ∷ [])
-    -- RECORD 0 01020909
-    ++ (82 ∷ 69 ∷ 67 ∷ 79 ∷ 82 ∷ 68 ∷ 32 ∷ 48 ∷ 32 ∷ 48 ∷ 49 ∷ 48 ∷ 50 ∷ 48 ∷ 57 ∷ 48 ∷ 57 ∷ 10 ∷ [])
-    -- END 5
-    ++ (69 ∷ 78 ∷ 68 ∷ 32 ∷ 53 ∷ 10 ∷ [])
+    ≡ letters "13 33 0 - -\n"
+    ++ letters "0 0 0 - -\n"
+    ++ letters "36 32 0 =07 -\n"
+    ++ letters "17 32 0 = =AB\n"
+    ++ letters "18 32 0 - =0203\n"
+    ++ letters "BAD SCRIPT 5\n"
+    ++ letters "RECORD 0 01020909\n"
+    ++ letters "END 5\n"
 unfolding transcript headerOf runFrom ended nextOf callLength callAt played laid puts putByte step does carries callOf outcome unless firstMet logIn logInTests refusedLogIn lawful isOpen setRandomAct setRandomTests searchFirstAct firstTests searchNextAct nextTests callLine shown hex badLine endLine decimal decimalIn recordLines recordLine same part
 few-calls = refl

@@ -1,7 +1,7 @@
 -- What a call of the script does: function 0 lays bytes, every other number goes through the door.
 use mathlib.Core.Bool.{cond}
 use mathlib.Core.List.{List}
-use Prim.Native.Nat.{ℕ, _+_}
+use Prim.Native.Nat.{ℕ}
 use lib.Dec.{eqb}
 use lib.ListN.{drop}
 use Rattle.lists.specs.Bytes.{put}
@@ -15,17 +15,18 @@ use Rattle.text.specs.Text.{Text, text, puts}
 use Rattle.replay_script.specs.declared.Next.{Next}
 use Rattle.replay_script.specs.declared.Next.the-variants.{End, Bad, Call}
 use Rattle.numbers.specs.Numbers.{three}
+use Rattle.replay_script.specs.Layout.{bufferAt, touch, offsetBytes}
 use Rattle.replay_script.specs.Script.{nextOf, callAt}
 use Rattle.replay_transcript.specs.Lines.{callLine}
 
 -- "Function 0 is `something else touches the volume`: its F bytes are a 24-bit offset and the bytes to lay there";
 -- "function 0 ignores bytes beyond the volume". Fewer than three bytes lay nothing.
 unfoldable pub laid : List ℕ → List ℕ → List ℕ
-laid v fcb = puts (text v (three fcb 0)) (drop 3 fcb) .bytes
+laid v fcb = puts (text v (three fcb 0)) (drop offsetBytes fcb) .bytes
 
 unfoldable pub played : Geometry → Asked → Drive → List ℕ → Outcome
 played g c d v =
-    cond (eqb (c .function) 0)
+    cond (eqb (c .function) touch)
     (record { answer = Done 0; drive = d; volume = laid v (c .fcb); fcb = c .fcb; buffer = c .buffer })
     (step g c d v)
 
@@ -64,7 +65,7 @@ afterwards d v s t = record { drive = d; volume = v; script = s; text = t }
 abbrev pub afterBy : Next → List ℕ → Drive → List ℕ → Text → Called → After
 afterBy End s d v t o = afterwards d v s t
 afterBy Bad s d v t o = afterwards d v s t
-afterBy (Call h) s d v t o = afterwards (o .drive) (o .volume) (put s (5 + h .fcb) (h .buffer) (o .buffer)) (o .text)
+afterBy (Call h) s d v t o = afterwards (o .drive) (o .volume) (put s (bufferAt (h .fcb)) (h .buffer) (o .buffer)) (o .text)
 
 unfoldable pub after : Geometry → List ℕ → Drive → List ℕ → Text → After
 after g s d v t = afterBy (nextOf s) s d v t (called g (callAt s) d v t)

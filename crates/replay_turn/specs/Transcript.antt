@@ -10,6 +10,7 @@ use Rattle.filecalls.specs.declared.Drive.{Drive}
 use Rattle.filecalls.specs.State.{closed}
 use Rattle.replay_script.specs.declared.Header.{Header}
 use Rattle.replay_script.specs.declared.Next.{Next}
+use Rattle.replay_script.specs.Layout.{headerBytes}
 use Rattle.replay_script.specs.Script.{headerOf, callLength, nextOf, callAt}
 use Rattle.replay_transcript.specs.Lines.{badLine, endLine}
 use Rattle.replay_transcript.specs.Records.{recordsOf, recordLines}
@@ -43,12 +44,15 @@ unfoldable pub ended : List ℕ → Run → List ℕ
 ended given r = r .lines ++ recordLines given (r .volume) 0 (recordsOf (length (r .volume))) ++ endLine (r .calls)
 
 -- a header or a volume that is cut off, or too long: no volume was given
+abbrev pub noVolume : List ℕ
+noVolume = badLine 0 ++ endLine 0
+
 abbrev pub transcriptBy : Header → List ℕ → List ℕ
-transcriptBy header.Bad s = badLine 0 ++ endLine 0
+transcriptBy header.Bad s = noVolume
 transcriptBy (header.Good g l) s =
-    let given = part s 10 l in
-    let calls = drop (10 + l) s in
-    cond (leb (10 + l) (length s)) (ended given (runFrom g (length calls) 0 calls closed given)) (badLine 0 ++ endLine 0)
+    let given = part s headerBytes l in
+    let calls = drop (headerBytes + l) s in
+    cond (leb (headerBytes + l) (length s)) (ended given (runFrom g (length calls) 0 calls closed given)) noVolume
 
 unfoldable pub transcript : List ℕ → List ℕ
 transcript s = transcriptBy (headerOf s) s

@@ -1,19 +1,28 @@
 // The calls of a script are done one after the other, each with its line in the transcript.
 ghost use mathlib.Core.Path.{_≡_};
-ghost use Prim.Native.Nat.{_+_, _≤_};
+ghost use Prim.Native.Nat.{_≤_};
 ghost use lib.ListN.{length};
 ghost use Rattle.filecalls.specs.Outcome.{left};
 ghost use Rattle.call_served.specs.Asked.{asked};
 ghost use Rattle.text.specs.Text.{text};
 ghost use Rattle.replay_script.specs.declared.Next.the-variants.{Call};
-ghost use Rattle.replay_script.specs.Script.{nextOf, lentBy, usedBy, Within};
-ghost use Rattle.replay_turn.specs.Play.{laid, played, leaves, called, afterwards, afterBy, after};
+ghost use Rattle.replay_script.specs.Layout.{callBytes};
+ghost use Rattle.replay_script.specs.Script.{nextOf, askedBy};
+ghost use Rattle.replay_script.specs.CodeNext.{usedBy, Within};
+ghost use Rattle.replay_turn.specs.Play.{laid, played, leaves, called, afterwards, after};
+ghost use Rattle.replay_turn.specs.CodeCall.{afterCall};
 use call_answers::Answer;
 use disk_geometry::Geometry;
 use filecalls::Drive;
 use filecalls::Reply;
 use replay_script::Head;
 use replay_script::Next;
+use replay_script::layout::FCB_AT;
+use replay_script::layout::HEAD_BYTES;
+use replay_script::layout::K_BYTES;
+use replay_script::layout::LONGEST_FCB;
+use replay_script::layout::OFFSET_BYTES;
+use replay_script::layout::TOUCH;
 use replay_transcript::lines;
 
 // What a turn did: what stood next and how many bytes it took, the state after it, and the next place in the transcript.
@@ -28,8 +37,8 @@ pub struct Turn {
 fn lay(volume: &mut [u8], fcb: &[u8])
     ensures { λ _. ⌜ now (volume .exit) ≡ laid (now (volume .entry)) (now (fcb .entry)) ⌝ }
 {
-    if 3 <= fcb.len() {
-        text::put_bytes(volume, replay_script::offset_of(fcb), &fcb[3..]);
+    if OFFSET_BYTES <= fcb.len() {
+        text::put_bytes(volume, replay_script::offset_of(fcb), &fcb[OFFSET_BYTES..]);
     }
 }
 
@@ -43,9 +52,12 @@ fn play(
     fcb: &mut [u8],
     buffer: &mut [u8],
 ) -> Reply
-    ensures { λ r. ⌜ left r (now (volume .exit)) (now (fcb .exit)) (now (buffer .exit)) ≡ played g (asked function parameter (now (fcb .entry)) (now (buffer .entry))) drive (now (volume .entry)) ⌝ }
+    ensures { λ r. ⌜
+        left r (now (volume .exit)) (now (fcb .exit)) (now (buffer .exit))
+        ≡ played g (asked function parameter (now (fcb .entry)) (now (buffer .entry))) drive (now (volume .entry))
+        ⌝ }
 {
-    if function == 0 {
+    if function == TOUCH {
         lay(volume, fcb);
         return Reply {
             answer: Answer::Done(0),
@@ -72,7 +84,11 @@ fn serve(
     out: &mut [u8],
     at: usize,
 ) -> Served
-    ensures { λ r. ⌜ leaves (r .drive) (now (volume .exit)) (now (fcb .exit)) (now (buffer .exit)) (text (now (out .exit)) (r .at)) ≡ called g (asked (head .function) (head .parameter) (now (fcb .entry)) (now (buffer .entry))) drive (now (volume .entry)) (text (now (out .entry)) at) ⌝ }
+    ensures { λ r. ⌜
+        leaves (r .drive) (now (volume .exit)) (now (fcb .exit)) (now (buffer .exit)) (text (now (out .exit)) (r .at))
+        ≡ called g (askedBy head (now (fcb .entry)) (now (buffer .entry)))
+        drive (now (volume .entry)) (text (now (out .entry)) at)
+        ⌝ }
 {
     let function = head.function;
     let r = play(g, function, head.parameter, drive, volume, fcb, buffer);
@@ -93,14 +109,17 @@ fn call_here(
     out: &mut [u8],
     at: usize,
 ) -> Served
-    requires { ⌜ (length (now fcb) ≡ head .fcb) × (5 + head .fcb + head .buffer ≤ length (now s)) ⌝ }
-    ensures { λ r. ⌜ afterwards (r .drive) (now (volume .exit)) (now (s .exit)) (text (now (out .exit)) (r .at)) ≡ afterBy (Call head) (now (s .entry)) drive (now (volume .entry)) (text (now (out .entry)) at) (called g (lentBy head (now (s .entry))) drive (now (volume .entry)) (text (now (out .entry)) at)) ⌝ }
+    requires { ⌜ (length (now fcb) ≡ head .fcb) × (callBytes (head .fcb) (head .buffer) ≤ length (now s)) ⌝ }
+    ensures { λ r. ⌜
+        afterwards (r .drive) (now (volume .exit)) (now (s .exit)) (text (now (out .exit)) (r .at))
+        ≡ afterCall g head (now (s .entry)) drive (now (volume .entry)) (text (now (out .entry)) at)
+        ⌝ }
 {
-    let b = 3 + head.fcb;
-    let c = b + 2;
-    let d = c + head.buffer;
-    lists::copy(fcb, &s[3..b]);
-    serve(g, head, drive, volume, fcb, &mut s[c..d], out, at)
+    let k_at = FCB_AT + head.fcb;
+    let buffer_at = k_at + K_BYTES;
+    let end = buffer_at + head.buffer;
+    lists::copy(fcb, &s[FCB_AT..k_at]);
+    serve(g, head, drive, volume, fcb, &mut s[buffer_at..end], out, at)
 }
 
 // The same with room for the control block.
@@ -114,17 +133,20 @@ fn call_next(
     at: usize,
 ) -> Turn
     requires { ⌜ Within (length (now s)) (Call head) ⌝ }
-    ensures { λ r. ⌜ (r .next ≡ Call head) × (r .used ≡ 5 + head .fcb + head .buffer) ⌝ }
-    ensures { λ r. ⌜ afterwards (r .drive) (now (volume .exit)) (now (s .exit)) (text (now (out .exit)) (r .at)) ≡ afterBy (Call head) (now (s .entry)) drive (now (volume .entry)) (text (now (out .entry)) at) (called g (lentBy head (now (s .entry))) drive (now (volume .entry)) (text (now (out .entry)) at)) ⌝ }
+    ensures { λ r. ⌜ (r .next ≡ Call head) × (r .used ≡ callBytes (head .fcb) (head .buffer)) ⌝ }
+    ensures { λ r. ⌜
+        afterwards (r .drive) (now (volume .exit)) (now (s .exit)) (text (now (out .exit)) (r .at))
+        ≡ afterCall g head (now (s .entry)) drive (now (volume .entry)) (text (now (out .entry)) at)
+        ⌝ }
 {
-    let mut space = [0u8; 255];
+    let mut space = [0u8; LONGEST_FCB];
     let length = head.fcb;
     let served = call_here(g, head, drive, s, &mut space[0..length], volume, out, at);
     let next = Next::Call(head);
     let after = served.drive;
     Turn {
         next,
-        used: 5 + length + head.buffer,
+        used: HEAD_BYTES + length + head.buffer,
         drive: after,
         at: served.at,
     }
@@ -151,8 +173,14 @@ pub fn take_turn(
     out: &mut [u8],
     at: usize,
 ) -> Turn
-    ensures { λ r. ⌜ (r .next ≡ nextOf (now (s .entry))) × ((r .used ≡ usedBy (nextOf (now (s .entry)))) × (r .used ≤ length (now (s .entry)))) ⌝ }
-    ensures { λ r. ⌜ afterwards (r .drive) (now (volume .exit)) (now (s .exit)) (text (now (out .exit)) (r .at)) ≡ after g (now (s .entry)) drive (now (volume .entry)) (text (now (out .entry)) at) ⌝ }
+    ensures { λ r. ⌜
+        (r .next ≡ nextOf (now (s .entry)))
+        × ((r .used ≡ usedBy (nextOf (now (s .entry)))) × (r .used ≤ length (now (s .entry))))
+        ⌝ }
+    ensures { λ r. ⌜
+        afterwards (r .drive) (now (volume .exit)) (now (s .exit)) (text (now (out .exit)) (r .at))
+        ≡ after g (now (s .entry)) drive (now (volume .entry)) (text (now (out .entry)) at)
+        ⌝ }
 {
     let next = replay_script::next_of(s);
     match next {

@@ -4,7 +4,7 @@ use Rattle.call_store.proofs.carry_out.Statement.{statement}
 use Rattle.call_store.proofs.carry_out.Tie as tie
 
 store-requires : tie.Need-store-requires
-store-requires c κs = search needs
+store-requires c κs = (search needs, (search needs, (search needs, search needs)))
 
 set-to-requires : tie.Need-set-to-requires
 set-to-requires c κs = search needs

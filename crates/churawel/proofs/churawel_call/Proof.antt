@@ -30,7 +30,7 @@ encode-requires c κs = search needs
 seal-requires-2 : tie.Need-seal-requires-2
 seal-requires-2 c κs =
     let a = c .before .before .before .before .before .before .before .before .before .before .before .before .before .before .before .before .before .before .before .before .before .before .before .before .args in
-    call-value (a .function) (a .parameter) (a .drive .now) (a .volume .now) (a .fcb .now) (a .buffer .now) (c .before .before .before .before .before .before .before .before .before .before .before .before .before .before .before .before .before .before .decode .ensures) (c .before .before .before .before .before .before .before .before .before .before .before .before .before .before .before .before .before .is-open .ensures) (c .before .before .before .before .before .before .before .before .before .before .before .enter .ensures)
+    call-value _ _ (a .drive .now) (a .volume .now) (a .fcb .now) (a .buffer .now) (c .before .before .before .before .before .before .before .before .before .before .before .before .before .before .before .before .before .before .decode .ensures) (c .before .before .before .before .before .before .before .before .before .before .before .before .before .before .before .before .before .is-open .ensures) (c .before .before .before .before .before .before .before .before .before .before .before .enter .ensures)
 
 same-length-2 : tie.Need-same-length-2
 same-length-2 c = search needs

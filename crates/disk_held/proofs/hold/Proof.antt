@@ -1,4 +1,4 @@
--- `blocks::hold` meets its contract: 1 shifted by b's place in its word is the power of two that the definition sets.
+-- `disk_held::hold` meets its contract: 1 shifted by b's place in its word is the power of two that the definition sets.
 use Prim.Native.Nat.{_%_}
 use native.Mathlib.Omega.{arith}
 use borrow.Author.Needs.{needs}

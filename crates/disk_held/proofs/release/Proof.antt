@@ -1,4 +1,4 @@
--- `blocks::release` meets its contract: 1 shifted by b's place in its word is the power of two that the definition clears.
+-- `disk_held::release` meets its contract: 1 shifted by b's place in its word is the power of two that the definition clears.
 use Prim.Native.Nat.{_%_}
 use native.Mathlib.Omega.{arith}
 use borrow.Author.Needs.{needs}

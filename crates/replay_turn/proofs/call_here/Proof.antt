@@ -9,14 +9,14 @@ use borrow.Author.Needs.{needs}
 use Rattle.replay_turn.proofs.call_here.Statement.{statement}
 use Rattle.replay_turn.proofs.call_here.Tie as tie
 
-add-b : tie.Need-add-b
-add-b c = search needs
+add-k-at : tie.Need-add-k-at
+add-k-at c = search needs
 
-add-c : tie.Need-add-c
-add-c c = search needs
+add-buffer-at : tie.Need-add-buffer-at
+add-buffer-at c = search needs
 
-add-d : tie.Need-add-d
-add-d c = search needs
+add-end : tie.Need-add-end
+add-end c = search needs
 
 sub-copy : tie.Need-sub-copy
 sub-copy c = search needs
@@ -65,9 +65,9 @@ pub call-here-spec : {M : Type 1} → statement M
 call-here-spec =
     tie.close
     (tie.spec
-    add-b
-    add-c
-    add-d
+    add-k-at
+    add-buffer-at
+    add-end
     sub-copy
     part-copy-start
     part-copy-end

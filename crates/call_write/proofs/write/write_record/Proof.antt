@@ -11,7 +11,8 @@ use Rattle.disk_geometry.specs.Geometry.{slots}
 use Rattle.disk_volume.specs.Name.{nameAt, nameOf}
 use Rattle.disk_geometry.proofs.GeometryLaws.{bounds}
 use Rattle.call_answers.specs.Refusal.{isNone}
-use Rattle.call_decide.specs.CodePlan.{Decided, entryAfter}
+use Rattle.call_decide.specs.Write.{entryAfter}
+use Rattle.call_decide.specs.CodePlan.{Decided}
 use Rattle.call_decide.proofs.WriteLaws.{Passed, write-passed}
 use Rattle.call_write.proofs.write.write_record.Statement.{statement}
 use Rattle.call_write.proofs.write.write_record.Tie as tie

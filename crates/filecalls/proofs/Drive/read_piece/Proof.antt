@@ -4,7 +4,7 @@ use Prim.Native.Nat.{_+_, _*_, _-_}
 use native.Mathlib.Omega.{arith}
 use denote.Ref.{now}
 use Rattle.lists.specs.Bytes.{part, put}
-use Rattle.filecalls.specs.Several.{readOne}
+use Rattle.filecalls.specs.Leaves.{readSequentialLeaves}
 use Rattle.filecalls.proofs.PieceLaws.{piece-done}
 use borrow.Author.Needs.{needs}
 use Rattle.filecalls.proofs.Drive.read_piece.Statement.{statement}
@@ -39,7 +39,7 @@ unfolding part put
 returns c =
     let a = c .before .before .before .before .before .before .before .before .before .before .args in
     let z : 128 * a .i + 128 - 128 * a .i ≡ 128 = omega arith in
-    rw z (piece-done readOne (a .i) (a .self) (now (a .volume)) (now (a .fcb)) (now (a .buffer)) (rw z at (c .before .before .before .before .read-sequential .ensures)))
+    rw z (piece-done readSequentialLeaves (a .i) (a .self) (now (a .volume)) (now (a .fcb)) (now (a .buffer)) (rw z at (c .before .before .before .before .read-sequential .ensures)))
 
 pub read-piece-spec : {M : Type 1} → statement M
 read-piece-spec =

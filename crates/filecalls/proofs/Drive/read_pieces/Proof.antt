@@ -3,7 +3,8 @@ use mathlib.Core.Path.{_≡_, refl, sym, _∙_}
 use Prim.Native.Nat.{_-_, _≤_}
 use lib.ListN.{length}
 use borrow.Author.Tests.{not-true, not-false}
-use Rattle.filecalls.specs.Several.{readOne, singles}
+use Rattle.filecalls.specs.Leaves.{readSequentialLeaves}
+use Rattle.filecalls.specs.Several.{singles}
 use Rattle.filecalls.proofs.PieceLaws.{Left, left-start, left-next, left-stop, left-end}
 use borrow.Author.Needs.{needs}
 use Rattle.filecalls.proofs.Drive.read_pieces.Statement.{statement}
@@ -11,7 +12,7 @@ use Rattle.filecalls.proofs.Drive.read_pieces.Tie as tie
 
 abbrev Inv-loop : tie.InvT-loop
 Inv-loop volume f₀ buffer₀ k d₀ i₀ f buffer d i =
-    (i ≤ k) × ((length f ≡ length f₀) × ((length buffer ≡ length buffer₀) × Left readOne (singles readOne 0 k d₀ volume f₀ buffer₀) k d volume f buffer i))
+    (i ≤ k) × ((length f ≡ length f₀) × ((length buffer ≡ length buffer₀) × Left readSequentialLeaves (singles readSequentialLeaves 0 k d₀ volume f₀ buffer₀) k d volume f buffer i))
 
 abbrev μ-loop : tie.MeasureT-loop
 μ-loop volume f₀ buffer₀ k d₀ i₀ f buffer d i = k - i

@@ -4,7 +4,7 @@ use Prim.Native.Nat.{_+_, _*_, _-_}
 use native.Mathlib.Omega.{arith}
 use denote.Ref.{now}
 use Rattle.lists.specs.Bytes.{part}
-use Rattle.filecalls.specs.Several.{writeOne}
+use Rattle.filecalls.specs.Leaves.{writeSequentialLeaves}
 use Rattle.filecalls.proofs.PieceLaws.{piece-read}
 use borrow.Author.Needs.{needs}
 use Rattle.filecalls.proofs.Drive.write_piece.Statement.{statement}
@@ -39,7 +39,7 @@ unfolding part
 returns c =
     let a = c .before .before .before .before .before .before .before .before .before .before .before .args in
     let z : 128 * a .i + 128 - 128 * a .i ≡ 128 = omega arith in
-    piece-read writeOne (a .i) (a .self) (now (a .volume)) (now (a .fcb)) (now (a .buffer)) (c .before .before .before .before .before .before .before .before .before .before .before .pre) (rw z at (c .before .before .before .before .write-sequential .ensures))
+    piece-read writeSequentialLeaves (a .i) (a .self) (now (a .volume)) (now (a .fcb)) (now (a .buffer)) (c .before .before .before .before .before .before .before .before .before .before .before .pre) (rw z at (c .before .before .before .before .write-sequential .ensures))
 
 pub write-piece-spec : {M : Type 1} → statement M
 write-piece-spec =

@@ -3,7 +3,8 @@ use mathlib.Core.Path.{_≡_, refl, sym, _∙_}
 use Prim.Native.Nat.{_-_, _≤_}
 use lib.ListN.{length}
 use borrow.Author.Tests.{not-true, not-false}
-use Rattle.filecalls.specs.Several.{writeOne, singles}
+use Rattle.filecalls.specs.Leaves.{writeSequentialLeaves}
+use Rattle.filecalls.specs.Several.{singles}
 use Rattle.filecalls.proofs.PieceLaws.{Left, left-start, left-next, left-stop, left-end}
 use borrow.Author.Needs.{needs}
 use Rattle.filecalls.proofs.Drive.write_pieces.Statement.{statement}
@@ -11,7 +12,7 @@ use Rattle.filecalls.proofs.Drive.write_pieces.Tie as tie
 
 abbrev Inv-loop : tie.InvT-loop
 Inv-loop volume₀ f₀ buffer k d₀ i₀ volume f d i =
-    (i ≤ k) × ((length volume ≡ length volume₀) × ((length f ≡ length f₀) × Left writeOne (singles writeOne 0 k d₀ volume₀ f₀ buffer) k d volume f buffer i))
+    (i ≤ k) × ((length volume ≡ length volume₀) × ((length f ≡ length f₀) × Left writeSequentialLeaves (singles writeSequentialLeaves 0 k d₀ volume₀ f₀ buffer) k d volume f buffer i))
 
 abbrev μ-loop : tie.MeasureT-loop
 μ-loop volume₀ f₀ buffer k d₀ i₀ volume f d i = k - i

@@ -1,6 +1,6 @@
 -- Eight runs of bytes, one after the other; the numbers are those of the definition.
 use denote.Ref.{now}
-use Rattle.listing.proofs.ListingLaws.{wrote-number}
+use Rattle.text.proofs.TextLaws.{wrote-number}
 use Rattle.listing.specs.Listing.{nameText, blocksOf, line}
 use Rattle.text.proofs.TextLaws.{wrote, wrote-byte, then}
 use Rattle.call_size.specs.Size.{sizeOf}

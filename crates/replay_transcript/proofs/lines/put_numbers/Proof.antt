@@ -1,5 +1,5 @@
 -- Three numbers with blanks between them, one after the other.
-use Rattle.replay_transcript.proofs.LineLaws.{wrote-number}
+use Rattle.text.proofs.TextLaws.{wrote-number}
 use Rattle.text.proofs.TextLaws.{wrote-byte, then}
 use Rattle.call_answers.specs.Answer.{numberOf, valueOf}
 use mathlib.Core.Path.{_∙_}
