@@ -33,6 +33,7 @@ pub mod Agree
 pub mod Demand3Holds
 pub mod AlwaysHolds
 pub mod TieHolds
+pub mod AtSeamHolds
 pub mod SeveralHolds
 pub mod RenamingParts
 pub mod RenamingSweeps

@@ -6,6 +6,7 @@ pub mod Run
 pub mod Demand3
 pub mod Always
 pub mod Tie
+pub mod AtSeam
 pub mod WrongWays
 pub mod Several
 pub mod Renaming
