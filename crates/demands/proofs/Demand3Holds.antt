@@ -122,7 +122,7 @@ demand3 g law v size ok login first cs small d e =
 
 -- the volume has its length and passes inspection, so a further log-in accepts
 pub accepts-again : AcceptsAgain
-accepts-again g law v size ok login first cs small d e again last =
+accepts-again g law v size ok login first cs small d again last e =
     let kept = demand3 g law v size ok login first cs small d d in
     ap (λ (o : Outcome). o .answer) (starts g law _ (kept .length-kept ∙ size) (kept .inspected) again last e)
 

@@ -93,25 +93,29 @@ pub record Kept (way : Way) (g : Geometry) (v : List ℕ) (cs : List Asked) (d e
   pub others-bytes : (u : ℕ) (name : List ℕ) → u ≤ 15 → touched way cs d v u name ≡ false
       → (n : ℕ) → present g v u name n ≡ true → readBytes g w u name n ≡ readBytes g v u name n
 
--- the demand, of a way to do calls
-abbrev pub Demand3Of : (Geometry → Way) → Type 0
-Demand3Of way =
+-- "For any geometry within the rules, any volume of its length that passes inspection, and any list of calls .. that begins
+-- with log-in"
+abbrev pub OverRuns : (Geometry → List ℕ → List Asked → Type 0) → Type 0
+OverRuns Says =
     (g : Geometry) → lawful g ≡ true → (v : List ℕ) → length v ≡ bytes g → lowestBad g v ≡ slots g
     → (login : Asked) → callOf (login .function) ≡ LogIn → (cs : List Asked) → BytesLent cs
-    → (d e : Drive) → Kept (way g) g v (login ∷ cs) d e (answers (way g) (login ∷ cs) d v) (final (way g) (login ∷ cs) d v)
+    → Says g v (login ∷ cs)
 
--- the demand
+-- the demand, of a way to do calls
+abbrev pub Demand3Of : (Geometry → Way) → Type 0
+Demand3Of way = OverRuns (λ g v cs. (d e : Drive) → Kept (way g) g v cs d e (answers (way g) cs d v) (final (way g) cs d v))
+
 abbrev pub Demand3 : Type 0
 Demand3 = Demand3Of step
 
--- And so a further log-in accepts, with any number of log-in and from any state
+-- And so a further log-in accepts, by function 13 or 37 and from any state
+abbrev pub Accepts : Geometry → List ℕ → Type 0
+Accepts g w =
+    (again : Asked) → callOf (again .function) ≡ LogIn → (e : Drive)
+    → step g again e w .answer ≡ Ready (freeCount (heldOf g w) (directoryBlocks g) (blocks g))
+
 abbrev pub AcceptsAgain : Type 0
-AcceptsAgain =
-    (g : Geometry) → lawful g ≡ true → (v : List ℕ) → length v ≡ bytes g → lowestBad g v ≡ slots g
-    → (login : Asked) → callOf (login .function) ≡ LogIn → (cs : List Asked) → BytesLent cs
-    → (d e : Drive) (again : Asked) → callOf (again .function) ≡ LogIn
-    → let w = final (step g) (login ∷ cs) d v in
-    step g again e w .answer ≡ Ready (freeCount (heldOf g w) (directoryBlocks g) (blocks g))
+AcceptsAgain = OverRuns (λ g v cs. (d : Drive) → Accepts g (final (step g) cs d v))
 
 -- And so no block belongs to two entries at any moment: it stands in one place of one entry
 pub record OneOwner (g : Geometry) (v : List ℕ) : Type 0 where
@@ -119,7 +123,4 @@ pub record OneOwner (g : Geometry) (v : List ℕ) : Type 0 where
       → p < places g → q < places g → blockIn g (slotAt g v i) p ≢ 0 → blockIn g (slotAt g v i) p ≡ blockIn g (slotAt g v j) q → (i ≡ j) × (p ≡ q)
 
 abbrev pub NoBlockTwice : Type 0
-NoBlockTwice =
-    (g : Geometry) → lawful g ≡ true → (v : List ℕ) → length v ≡ bytes g → lowestBad g v ≡ slots g
-    → (login : Asked) → callOf (login .function) ≡ LogIn → (cs : List Asked) → BytesLent cs
-    → (d : Drive) → OneOwner g (final (step g) (login ∷ cs) d v)
+NoBlockTwice = OverRuns (λ g v cs. (d : Drive) → OneOwner g (final (step g) cs d v))

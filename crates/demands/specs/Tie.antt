@@ -2,22 +2,16 @@
 -- that the last left. Of each call it is taken that it leaves what its contract says; that every call does is what the
 -- check of `bdos` proves. So demand 3 speaks of what runs.
 use mathlib.Core.Path.{_≡_}
-use mathlib.Core.Bool.{true}
 use mathlib.Core.List.{List, [], _∷_}
 use Prim.Native.Nat.{ℕ}
-use lib.ListN.{length}
 use Rattle.disk_geometry.specs.declared.Geometry.{Geometry}
-use Rattle.disk_geometry.specs.Geometry.{lawful, bytes, slots}
-use Rattle.disk_rules.specs.GoodSlot.{lowestBad}
 use Rattle.filecalls.specs.declared.Drive.{Drive}
 use Rattle.filecalls.specs.declared.Reply.{Reply}
 use Rattle.filecalls.specs.Outcome.{left}
-use Rattle.call_served.specs.declared.Call.the-variants.{LogIn}
 use Rattle.bdos.specs.Step.{step}
 use Rattle.call_served.specs.Asked.{Asked}
-use Rattle.call_served.specs.Calls.{callOf}
 use Rattle.demands.specs.Run.{Seen, answers, final}
-use Rattle.demands.specs.Demand3.{BytesLent, Kept}
+use Rattle.demands.specs.Demand3.{Kept, OverRuns}
 
 -- the calls, the state and the volume that they begin with, what is seen of each, and the volume at the end
 pub data Ran (g : Geometry) : List Asked → Drive → List ℕ → List Seen → List ℕ → Type 0 where
@@ -39,7 +33,4 @@ Tie =
 -- so such a run that begins with log-in on a volume that passes inspection has all that demand 3 says: ss and w are what the
 -- plain way shows and leaves, w passes inspection, and the files that no successful call touched are as they were
 abbrev pub TiedKept : Type 0
-TiedKept =
-    (g : Geometry) → lawful g ≡ true → (v : List ℕ) → length v ≡ bytes g → lowestBad g v ≡ slots g
-    → (login : Asked) → callOf (login .function) ≡ LogIn → (cs : List Asked) → BytesLent cs
-    → (d e : Drive) (ss : List Seen) (w : List ℕ) → Ran g (login ∷ cs) d v ss w → Kept (step g) g v (login ∷ cs) d e ss w
+TiedKept = OverRuns (λ g v cs. (d e : Drive) (ss : List Seen) (w : List ℕ) → Ran g cs d v ss w → Kept (step g) g v cs d e ss w)
