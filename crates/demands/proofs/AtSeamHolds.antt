@@ -8,7 +8,9 @@ use Prim.Native.Nat.{ℕ, _<_}
 use lib.ListN.{length}
 use borrow.Author.Tests.{eq-eqb}
 use Rattle.disk_geometry.specs.declared.Geometry.{Geometry}
+use Rattle.disk_geometry.specs.Geometry.{lawful, bytes, slots}
 use Rattle.call_answers.specs.Answer.{succeeded}
+use Rattle.disk_rules.specs.GoodSlot.{lowestBad}
 use Rattle.filecalls.specs.declared.Drive.{Drive}
 use Rattle.filecalls.specs.declared.Reply.{Reply}
 use Rattle.filecalls.specs.Outcome.{Outcome}
@@ -21,15 +23,18 @@ use Rattle.call_served.specs.Calls.{callOf}
 use Rattle.drive_bytes.specs.Layout.{decoded}
 use Rattle.drive_bytes.specs.RoundTrip.{Carried}
 use Rattle.drive_bytes.proofs.RoundTripHolds.{decode-encode}
-use Rattle.churawel.specs.Seam.{Sealed, through, atSeam, logInAtSeam}
+use Rattle.churawel.specs.Seam.{answered, Sealed, through, atSeam, logInAtSeam}
 use Rattle.churawel.proofs.LastingLaws.{Lasts}
 use Rattle.churawel.proofs.FaithfulHolds.{log-in-carried, log-in-opens, log-in-geometry, log-in-faithful, step-lasts, step-log-in, call-carried, call-geometry}
 use Rattle.demands.specs.Run.{Seen, seen, answers, final, finalState}
-use Rattle.demands.specs.AtSeam.{SeenAtSeam, seenAtSeam, inNumbers, callAtSeam, answersAtSeam, finalAtSeam, driveAtSeam, FromC, logsIn, Runs, SeamRuns, whileOpen, SeamRunsOnAny}
+use Rattle.demands.specs.AtSeam.{SeenAtSeam, seenAtSeam, inNumbers, callAtSeam, answersAtSeam, finalAtSeam, driveAtSeam, FromC, logsIn, volumeLeft, driveLeft, Runs, SeamRuns, Demand3AtSeam, NextCall, whileOpen, SeamRunsOnAny}
+use Rattle.demands.specs.Demand2.{Sound}
+use Rattle.demands.specs.Demand3.{BytesLent}
 use Rattle.demands.proofs.Inspected.{accepted-sound}
 use Rattle.demands.proofs.Acts.{Consistent}
 use Rattle.demands.proofs.CallsKeep.{log-in-is, logged-in}
-use Rattle.demands.proofs.Demand3Holds.{step-keeps}
+use Rattle.demands.proofs.Demand3Holds.{step-keeps, demand3}
+use Rattle.demands.proofs.AlwaysHolds.{always-sound}
 
 -- ---- the drive's bytes s carry the state d, whose geometry is that of the log-in while it is open
 record Carry (g : Geometry) (s : List ℕ) (d : Drive) : Type 0 where
@@ -116,6 +121,8 @@ record StaysOpen (g : Geometry) (d : Drive) (v : List ℕ) (cs : List Asked) : T
   sees : answers (whileOpen (step g)) cs d v ≡ answers (step g) cs d v
   volume : final (whileOpen (step g)) cs d v ≡ final (step g) cs d v
   state : finalState (whileOpen (step g)) cs d v ≡ finalState (step g) cs d v
+  lasts : Lasts (finalState (step g) cs d v)
+  geometry : finalState (step g) cs d v .geometry ≡ g
 
 while-open : (g : Geometry) (c : Asked) (d : Drive) (v : List ℕ) → isOpen d ≡ true → whileOpen (step g) c d v ≡ step g c d v
 unfolding whileOpen
@@ -123,7 +130,7 @@ while-open g c d v o = rw o
 
 stays-open : (g : Geometry) (d : Drive) (v : List ℕ) (cs : List Asked) → d .geometry ≡ g → Lasts d → Consistent d v → FromC cs → StaysOpen g d v cs
 unfolding answers final finalState
-stays-open g d v [] same l k small = record { sees = refl; volume = refl; state = refl }
+stays-open g d v [] same l k small = record { sees = refl; volume = refl; state = refl; lasts = l; geometry = same }
 stays-open g d v (c ∷ cs) same l k small =
     let keeps = step-keeps g c d v same k (small .1) in
     let next = subst (λ (x : Geometry). Lasts (step x c d v .drive)) same (lasts-after c (small .0) d v l k) in
@@ -133,19 +140,76 @@ stays-open g d v (c ∷ cs) same l k small =
       sees = rw e (ap {B = List Seen} (λ l. seen (step g c d v) ∷ l) (rest .sees));
       volume = rw e (rest .volume);
       state = rw e (rest .state);
+      lasts = rest .lasts;
+      geometry = rest .geometry;
     }
 
+-- a run at the seam and at the door, on a volume that passes inspection
+module _ (g : Geometry) (law : lawful g ≡ true) (v : List ℕ) (size : length v ≡ bytes g) (ok : lowestBad g v ≡ slots g) (s : List ℕ) (e : length s ≡ 64)
+    (cs : List Asked) (small : FromC cs) where
+  after-log-in : StaysOpen g (logIn g v .drive) v cs
+  after-log-in =
+      let sound = accepted-sound g v ok in
+      let is = log-in-is g law v size sound in
+      let opens = log-in-opens g v (ap (λ (r : Reply). succeeded (r .answer)) is) in
+      let kept = subst (λ (r : Reply). Consistent (r .drive) v) (sym is) (logged-in g law v size sound) in
+      stays-open g (logIn g v .drive) v cs (log-in-geometry g v opens) (record { carried = log-in-carried g v; opens = opens }) kept small
+
+  runs-step : Runs (step g) g v s cs
+  unfolding step does callOf
+  runs-step =
+      let run = seam-runs-on-any g v s e cs small in
+      let stays = after-log-in in
+      record {
+        shows = run .shows ∙ ap (λ (l : List Seen). map inNumbers (seen (step g logsIn closed v) ∷ l)) (stays .sees);
+        volume-is = run .volume-is ∙ stays .volume;
+        state-is = run .state-is ∙ stays .state;
+      }
+
 pub seam-runs : SeamRuns
-unfolding step does callOf
-seam-runs g law v size ok s e cs small =
-    let run = seam-runs-on-any g v s e cs small in
-    let sound = accepted-sound g v ok in
-    let is = log-in-is g law v size sound in
-    let opens = log-in-opens g v (ap (λ (r : Reply). succeeded (r .answer)) is) in
-    let kept = subst (λ (r : Reply). Consistent (r .drive) v) (sym is) (logged-in g law v size sound) in
-    let stays = stays-open g (logIn g v .drive) v cs (log-in-geometry g v opens) (record { carried = log-in-carried g v; opens = opens }) kept small in
+seam-runs = runs-step
+
+-- ---- the demands
+is-log-in : callOf (logsIn .function) ≡ LogIn
+unfolding callOf
+is-log-in = refl
+
+bytes-lent : (cs : List Asked) → FromC cs → BytesLent cs
+bytes-lent [] small = tt
+bytes-lent (c ∷ cs) small = (small .1, bytes-lent cs (small .2))
+
+log-in-answer : (g : Geometry) (v s : List ℕ) → length s ≡ 64 → logInAtSeam g v s .answer ≡ answered (logIn g v .answer)
+unfolding logInAtSeam
+log-in-answer g v s e = rw (eq-eqb (length s) 64 e)
+
+pub demand3-at-seam : Demand3AtSeam
+unfolding answers final step does callOf
+demand3-at-seam g law v size ok s e cs small d =
+    let run = runs-step g law v size ok s e cs small in
+    let kept = demand3 g law v size ok logsIn is-log-in cs (bytes-lent cs small) closed d in
+    let same : volumeLeft g v s cs ≡ final (step g) (logsIn ∷ cs) closed v = run .volume-is in
     record {
-      shows = run .shows ∙ ap (λ (l : List Seen). map inNumbers (seen (step g logsIn closed v) ∷ l)) (stays .sees);
-      volume-is = run .volume-is ∙ stays .volume;
-      state-is = run .state-is ∙ stays .state;
+      shows-plain = run .shows ∙ ap (map inNumbers) (kept .answers-same);
+      kept = rw same kept;
+      accepts-again = λ t q. rw same
+          (log-in-answer g _ t q
+          ∙ ap (λ (r : Reply). answered (r .answer)) (log-in-is g law _ (kept .length-kept ∙ size) (accepted-sound g _ (kept .inspected))));
+    }
+
+-- a call from an open drive
+call-is-step : (g : Geometry) (c : Asked) (s v : List ℕ) → isOpen (decoded s) ≡ true → decoded s .geometry ≡ g
+    → callAtSeam c s v ≡ through (step g c (decoded s) v)
+unfolding atSeam
+call-is-step g c s v o same = rw o (ap (λ (x : Geometry). through (step x c (decoded s) v)) same)
+
+pub next-call : NextCall
+unfolding final finalState step does callOf
+next-call g law v size ok s e cs small =
+    let run = runs-step g law v size ok s e cs small in
+    let stays = after-log-in g law v size ok s e cs small in
+    record {
+      next-is-step = λ c.
+          call-is-step g c (driveLeft g v s cs) (volumeLeft g v s cs) (ap isOpen (run .state-is) ∙ stays .lasts .opens)
+          (ap (λ (d : Drive). d .geometry) (run .state-is) ∙ stays .geometry);
+      sound = rw (run .state-is, run .volume-is) (always-sound g law v size ok logsIn is-log-in cs (bytes-lent cs small) closed);
     }

@@ -1,7 +1,8 @@
 -- The demands, of what C calls. A run at the seam is one `churawel_log_in` and then any list of calls of `churawel_call`,
 -- refused ones and numbers that are not served among them, with any lent lengths, each given the drive's bytes and the
 -- volume that the last left. On a volume that passes inspection it shows the answers, as numbers, the control blocks and
--- the buffers of the run of `step` with that geometry, and leaves its volume (`SeamRuns`).
+-- the buffers of the run of `step` with that geometry, and leaves its volume (`SeamRuns`). So demand 3 is said of what C
+-- calls (`Demand3AtSeam`), and so are demands 1 and 2: a further call leaves all that `step` leaves (`NextCall`).
 --
 -- On any other volume it does so up to a log-in that is refused. From then on the drive is closed: every call, log-in too,
 -- answers 32 and changes nothing, until C logs in again (`SeamRunsOnAny`).
@@ -11,18 +12,22 @@ use mathlib.Core.List.{List, [], _∷_, map}
 use Prim.Native.Nat.{ℕ, _<_}
 use lib.ListN.{length}
 use Rattle.disk_geometry.specs.declared.Geometry.{Geometry}
-use Rattle.disk_geometry.specs.Geometry.{lawful, bytes, slots}
+use Rattle.disk_geometry.specs.Geometry.{lawful, bytes, slots, blocks, directoryBlocks}
+use Rattle.disk_held.specs.Held.{freeCount}
 use Rattle.call_answers.specs.declared.Refusal.the-variants.{Closed}
-use Rattle.call_answers.specs.declared.Answer.the-variants.{Refused}
+use Rattle.call_answers.specs.declared.Answer.the-variants.{Refused, Ready}
 use Rattle.disk_rules.specs.GoodSlot.{lowestBad}
-use Rattle.filecalls.specs.Outcome.{Outcome, left}
+use Rattle.disk_rules.specs.Named.{heldOf}
+use Rattle.filecalls.specs.declared.Drive.{Drive}
+use Rattle.filecalls.specs.Outcome.{left}
 use Rattle.filecalls.specs.State.{isOpen, closed}
 use Rattle.bdos.specs.Step.{step}
 use Rattle.call_served.specs.Asked.{Asked, asked}
 use Rattle.drive_bytes.specs.Layout.{decoded}
-use Rattle.churawel.specs.Seam.{answered, Sealed, atSeam, logInAtSeam}
-use Rattle.demands.specs.Run.{Seen, seen, Way, answers, final, finalState}
-use Rattle.demands.specs.Demand3.{Bytes}
+use Rattle.churawel.specs.Seam.{answered, Sealed, through, atSeam, logInAtSeam}
+use Rattle.demands.specs.Run.{Seen, seen, Way, answers, final, finalState, plain}
+use Rattle.demands.specs.Demand2.{Sound}
+use Rattle.demands.specs.Demand3.{Bytes, Kept}
 
 -- ---- a run at the seam
 -- what C sees of a call: the answer as one number, the control block and the transfer buffer
@@ -83,14 +88,39 @@ pub record Runs (way : Way) (g : Geometry) (v s : List ℕ) (cs : List Asked) : 
   pub volume-is : volumeLeft g v s cs ≡ final way cs (step g logsIn closed v .drive) v
   pub state-is : decoded (driveLeft g v s cs) ≡ finalState way cs (step g logsIn closed v .drive) v
 
--- on a volume that passes inspection it is a run of `step`
-abbrev pub SeamRuns : Type 0
-SeamRuns =
+-- any geometry within the rules, any volume of its length that passes inspection, 64 bytes for the drive, any calls
+abbrev pub OverSeamRuns : (Geometry → List ℕ → List ℕ → List Asked → Type 0) → Type 0
+OverSeamRuns Says =
     (g : Geometry) → lawful g ≡ true → (v : List ℕ) → length v ≡ bytes g → lowestBad g v ≡ slots g
-    → (s : List ℕ) → length s ≡ 64 → (cs : List Asked) → FromC cs → Runs (step g) g v s cs
+    → (s : List ℕ) → length s ≡ 64 → (cs : List Asked) → FromC cs → Says g v s cs
+
+abbrev pub SeamRuns : Type 0
+SeamRuns = OverSeamRuns (λ g v s cs. Runs (step g) g v s cs)
+
+-- ---- the demands
+-- what demand 3 says: answers, control blocks and buffers are those of the plain way; so is the volume, which passes
+-- inspection, and the files that no successful call touched are in it as they were (`Kept`). A further log-in accepts.
+pub record KeptAtSeam (g : Geometry) (v s : List ℕ) (cs : List Asked) (e : Drive) : Type 0 where
+  pub shows-plain : shown g v s cs ≡ map inNumbers (answers (plain (step g)) (logsIn ∷ cs) e v)
+  pub kept : Kept (step g) g v (logsIn ∷ cs) closed e (answers (step g) (logsIn ∷ cs) closed v) (volumeLeft g v s cs)
+  pub accepts-again : (t : List ℕ) → length t ≡ 64
+      → logInAtSeam g (volumeLeft g v s cs) t .answer ≡ answered (Ready (freeCount (heldOf g (volumeLeft g v s cs)) (directoryBlocks g) (blocks g)))
+
+abbrev pub Demand3AtSeam : Type 0
+Demand3AtSeam = OverSeamRuns (λ g v s cs. (e : Drive) → KeptAtSeam g v s cs e)
+
+-- demands 1 and 2 speak of a single call in any state: after each run the next call at the seam leaves what `step` leaves,
+-- its answer as a number and its state as bytes; and state and volume are as demand 2 asks it of writes
+pub record NextIsStep (g : Geometry) (v s : List ℕ) (cs : List Asked) : Type 0 where
+  pub next-is-step : (c : Asked)
+      → callAtSeam c (driveLeft g v s cs) (volumeLeft g v s cs) ≡ through (step g c (decoded (driveLeft g v s cs)) (volumeLeft g v s cs))
+  pub sound : Sound (decoded (driveLeft g v s cs)) (volumeLeft g v s cs)
+
+abbrev pub NextCall : Type 0
+NextCall = OverSeamRuns (λ g v s cs. NextIsStep g v s cs)
 
 -- ---- and on any volume
--- `step`, while the drive is open; a closed one is refused by 32 whatever is asked
+-- as in this way while the drive is open; a closed one is refused by 32 whatever is asked
 unfoldable pub whileOpen : Way → Way
 whileOpen way c d v = cond (isOpen d) (way c d v) (left (record { answer = Refused Closed; drive = d }) v (c .fcb) (c .buffer))
 
