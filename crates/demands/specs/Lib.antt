@@ -1,8 +1,8 @@
 -- The user's demands, each stated in a file of its own.
 pub mod Order
+pub mod Run
 pub mod Demand1
 pub mod Demand2
-pub mod Run
 pub mod Demand3
 pub mod Always
 pub mod Tie
