@@ -28,7 +28,6 @@ use Rattle.churawel.proofs.LastingLaws.{Lasts}
 use Rattle.churawel.proofs.FaithfulHolds.{log-in-carried, log-in-opens, log-in-geometry, log-in-faithful, step-lasts, step-log-in, call-carried, call-geometry}
 use Rattle.demands.specs.Run.{Seen, seen, answers, final, finalState}
 use Rattle.demands.specs.AtSeam.{SeenAtSeam, seenAtSeam, inNumbers, callAtSeam, answersAtSeam, finalAtSeam, driveAtSeam, FromC, logsIn, volumeLeft, driveLeft, Runs, SeamRuns, Demand3AtSeam, NextCall, whileOpen, SeamRunsOnAny}
-use Rattle.demands.specs.Demand2.{Sound}
 use Rattle.demands.specs.Demand3.{BytesLent}
 use Rattle.demands.proofs.Inspected.{accepted-sound}
 use Rattle.demands.proofs.Acts.{Consistent}

@@ -42,3 +42,4 @@ pub mod RenamingCalls
 pub mod RenamingTwice
 pub mod RenamingHolds
 pub mod ZeroFillHolds
+pub mod WrongWaysFail

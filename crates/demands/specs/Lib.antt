@@ -7,8 +7,8 @@ pub mod Demand3
 pub mod Always
 pub mod Tie
 pub mod AtSeam
-pub mod WrongWays
 pub mod Several
 pub mod Renaming
 pub mod RenamingOnV
 pub mod ZeroFill
+pub mod WrongWays
