@@ -27,7 +27,7 @@ use Rattle.churawel.specs.Seam.{answered, Sealed, through, atSeam, logInAtSeam}
 use Rattle.churawel.proofs.LastingLaws.{Lasts}
 use Rattle.churawel.proofs.FaithfulHolds.{log-in-carried, log-in-opens, log-in-geometry, log-in-faithful, step-lasts, step-log-in, call-carried, call-geometry}
 use Rattle.demands.specs.Run.{Seen, seen, answers, final, finalState}
-use Rattle.demands.specs.AtSeam.{SeenAtSeam, seenAtSeam, inNumbers, callAtSeam, answersAtSeam, finalAtSeam, driveAtSeam, FromC, logsIn, volumeLeft, driveLeft, Runs, SeamRuns, Demand3AtSeam, NextCall, whileOpen, SeamRunsOnAny}
+use Rattle.demands.specs.AtSeam.{SeenAtSeam, seenAtSeam, inNumbers, callAtSeam, answersAtSeam, finalAtSeam, driveAtSeam, FromC, logsIn, volumeLeft, Runs, SeamRuns, Demand3AtSeam, AlwaysReady, whileOpen, SeamRunsOnAny}
 use Rattle.demands.specs.Demand3.{BytesLent}
 use Rattle.demands.proofs.Inspected.{accepted-sound}
 use Rattle.demands.proofs.Acts.{Consistent}
@@ -46,6 +46,11 @@ record Same (g : Geometry) (o : Sealed) (w : Outcome) : Type 0 where
   sees : seenAtSeam o ≡ inNumbers (seen w)
   volume : o .volume ≡ w .volume
   drive : Carry g (o .drive) (w .drive)
+
+-- a call from an open drive
+pub call-is-step : (c : Asked) (s v : List ℕ) → isOpen (decoded s) ≡ true → callAtSeam c s v ≡ through (step (decoded s .geometry) c (decoded s) v)
+unfolding atSeam
+call-is-step c s v o = rw o
 
 -- a call at the door, from an open state that is carried
 door-same : (c : Asked) → c .parameter < 256 → (d : Drive) (v : List ℕ) → Carried d → isOpen d ≡ true
@@ -169,7 +174,7 @@ pub seam-runs : SeamRuns
 seam-runs = runs-step
 
 -- ---- the demands
-is-log-in : callOf (logsIn .function) ≡ LogIn
+pub is-log-in : callOf (logsIn .function) ≡ LogIn
 unfolding callOf
 is-log-in = refl
 
@@ -177,7 +182,7 @@ bytes-lent : (cs : List Asked) → FromC cs → BytesLent cs
 bytes-lent [] small = tt
 bytes-lent (c ∷ cs) small = (small .1, bytes-lent cs (small .2))
 
-log-in-answer : (g : Geometry) (v s : List ℕ) → length s ≡ 64 → logInAtSeam g v s .answer ≡ answered (logIn g v .answer)
+pub log-in-answer : (g : Geometry) (v s : List ℕ) → length s ≡ 64 → logInAtSeam g v s .answer ≡ answered (logIn g v .answer)
 unfolding logInAtSeam
 log-in-answer g v s e = rw (eq-eqb (length s) 64 e)
 
@@ -195,20 +200,13 @@ demand3-at-seam g law v size ok s e cs small d =
           ∙ ap (λ (r : Reply). answered (r .answer)) (log-in-is g law _ (kept .length-kept ∙ size) (accepted-sound g _ (kept .inspected))));
     }
 
--- a call from an open drive
-call-is-step : (g : Geometry) (c : Asked) (s v : List ℕ) → isOpen (decoded s) ≡ true → decoded s .geometry ≡ g
-    → callAtSeam c s v ≡ through (step g c (decoded s) v)
-unfolding atSeam
-call-is-step g c s v o same = rw o (ap (λ (x : Geometry). through (step x c (decoded s) v)) same)
-
-pub next-call : NextCall
+pub always-ready : AlwaysReady
 unfolding final finalState step does callOf
-next-call g law v size ok s e cs small =
+always-ready g law v size ok s e cs small =
     let run = runs-step g law v size ok s e cs small in
     let stays = after-log-in g law v size ok s e cs small in
     record {
-      next-is-step = λ c.
-          call-is-step g c (driveLeft g v s cs) (volumeLeft g v s cs) (ap isOpen (run .state-is) ∙ stays .lasts .opens)
-          (ap (λ (d : Drive). d .geometry) (run .state-is) ∙ stays .geometry);
+      opens = ap isOpen (run .state-is) ∙ stays .lasts .opens;
+      geometry-is = ap (λ (d : Drive). d .geometry) (run .state-is) ∙ stays .geometry;
       sound = rw (run .state-is, run .volume-is) (always-sound g law v size ok logsIn is-log-in cs (bytes-lent cs small) closed);
     }

@@ -34,6 +34,8 @@ pub mod Demand3Holds
 pub mod AlwaysHolds
 pub mod TieHolds
 pub mod AtSeamHolds
+pub mod NumberTells
+pub mod CallsAtSeamHold
 pub mod SeveralHolds
 pub mod RenamingParts
 pub mod RenamingSweeps

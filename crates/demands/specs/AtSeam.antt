@@ -2,7 +2,7 @@
 -- refused ones and numbers that are not served among them, with any lent lengths, each given the drive's bytes and the
 -- volume that the last left. On a volume that passes inspection it shows the answers, as numbers, the control blocks and
 -- the buffers of the run of `step` with that geometry, and leaves its volume (`SeamRuns`). So demand 3 is said of what C
--- calls (`Demand3AtSeam`), and so are demands 1 and 2: a further call leaves all that `step` leaves (`NextCall`).
+-- calls (`Demand3AtSeam`); demands 1 and 2, which speak of single calls, are said of it in `CallsAtSeam`.
 --
 -- On any other volume it does so up to a log-in that is refused. From then on the drive is closed: every call, log-in too,
 -- answers 32 and changes nothing, until C logs in again (`SeamRunsOnAny`).
@@ -24,7 +24,7 @@ use Rattle.filecalls.specs.State.{isOpen, closed}
 use Rattle.bdos.specs.Step.{step}
 use Rattle.call_served.specs.Asked.{Asked, asked}
 use Rattle.drive_bytes.specs.Layout.{decoded}
-use Rattle.churawel.specs.Seam.{answered, Sealed, through, atSeam, logInAtSeam}
+use Rattle.churawel.specs.Seam.{answered, Sealed, atSeam, logInAtSeam}
 use Rattle.demands.specs.Run.{Seen, seen, Way, answers, final, finalState, plain}
 use Rattle.demands.specs.Demand2.{Sound}
 use Rattle.demands.specs.Demand3.{Bytes, Kept}
@@ -109,15 +109,15 @@ pub record KeptAtSeam (g : Geometry) (v s : List ℕ) (cs : List Asked) (e : Dri
 abbrev pub Demand3AtSeam : Type 0
 Demand3AtSeam = OverSeamRuns (λ g v s cs. (e : Drive) → KeptAtSeam g v s cs e)
 
--- demands 1 and 2 speak of a single call in any state: after each run the next call at the seam leaves what `step` leaves,
--- its answer as a number and its state as bytes; and state and volume are as demand 2 asks it of writes
-pub record NextIsStep (g : Geometry) (v s : List ℕ) (cs : List Asked) : Type 0 where
-  pub next-is-step : (c : Asked)
-      → callAtSeam c (driveLeft g v s cs) (volumeLeft g v s cs) ≡ through (step g c (decoded (driveLeft g v s cs)) (volumeLeft g v s cs))
+-- after each run the drive is open, its geometry is that of the log-in, and state and volume are as demand 2 asks it of
+-- writes: so demands 1 and 2 hold of the next call at the seam (`CallsAtSeam`)
+pub record ReadyAtSeam (g : Geometry) (v s : List ℕ) (cs : List Asked) : Type 0 where
+  pub opens : isOpen (decoded (driveLeft g v s cs)) ≡ true
+  pub geometry-is : decoded (driveLeft g v s cs) .geometry ≡ g
   pub sound : Sound (decoded (driveLeft g v s cs)) (volumeLeft g v s cs)
 
-abbrev pub NextCall : Type 0
-NextCall = OverSeamRuns (λ g v s cs. NextIsStep g v s cs)
+abbrev pub AlwaysReady : Type 0
+AlwaysReady = OverSeamRuns (λ g v s cs. ReadyAtSeam g v s cs)
 
 -- ---- and on any volume
 -- as in this way while the drive is open; a closed one is refused by 32 whatever is asked

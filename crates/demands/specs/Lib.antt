@@ -7,6 +7,7 @@ pub mod Demand3
 pub mod Always
 pub mod Tie
 pub mod AtSeam
+pub mod CallsAtSeam
 pub mod Several
 pub mod Renaming
 pub mod RenamingOnV
