@@ -1,6 +1,6 @@
 -- The demands, of what C calls. A run at the seam is one `churawel_log_in` and then any list of calls of `churawel_call`,
 -- refused ones and numbers that are not served among them, with any lent lengths, each given the drive's bytes and the
--- volume that the last left. On a volume that passes inspection it shows the answers, as numbers, the control blocks and
+-- volume that the last left; what the two functions leave is what their contracts say. On a volume that passes inspection it shows the answers, as numbers, the control blocks and
 -- the buffers of the run of `step` with that geometry, and leaves its volume (`SeamRuns`). So demand 3 is said of what C
 -- calls (`Demand3AtSeam`); demands 1 and 2, which speak of single calls, are said of it in `CallsAtSeam`.
 --
