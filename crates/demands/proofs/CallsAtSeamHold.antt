@@ -10,7 +10,7 @@ use lib.Dec.{ltb}
 use lib.ListN.{length, replicate}
 use borrow.Author.Tests.{ltb-true, lt-ltb}
 use Rattle.disk_geometry.specs.declared.Geometry.{Geometry}
-use Rattle.call_answers.specs.Answer.{numberOf, valueOf, succeeded}
+use Rattle.call_answers.specs.Answer.{numberOf, succeeded}
 use Rattle.filecalls.specs.declared.Drive.{Drive}
 use Rattle.filecalls.specs.Outcome.{Outcome}
 use Rattle.filecalls.specs.State.{isOpen, closed}
@@ -25,33 +25,27 @@ use Rattle.churawel.proofs.LastingLaws.{Lasts}
 use Rattle.churawel.proofs.FaithfulHolds as faithful
 use Rattle.demands.specs.Demand1.{call}
 use Rattle.demands.specs.Demand2.{allWritten, volumeAtEnd}
-use Rattle.demands.specs.AtSeam.{callAtSeam, logsIn}
-use Rattle.demands.specs.CallsAtSeam.{numberIn, valueIn, succeededIn, OpenDrive, behind, LeavesSame, SeamCalls, Demand1AtSeam, allWrittenAtSeam, volumeWritten, Demand2AtSeam}
+use Rattle.demands.specs.AtSeam.{callAtSeam, numberIn, valueIn, succeededIn, logsIn}
+use Rattle.demands.specs.CallsAtSeam.{OpenDrive, behind, LeavesSame, SeamCalls, Demand1AtSeam, allWrittenAtSeam, volumeWritten, Demand2AtSeam}
 use Rattle.demands.proofs.Demand1.{demand1}
 use Rattle.demands.proofs.Demand2.{demand2}
 use Rattle.demands.proofs.NumberTells.{success-told, low-half, high-half}
-use Rattle.demands.proofs.AtSeamHolds.{call-is-step, is-log-in, log-in-answer}
+use Rattle.demands.proofs.AtSeamHolds.{call-is-step, through-told, is-log-in, log-in-answer}
 
 -- ---- one call
 module _ (c : Asked) (s v : List ℕ) (opens : isOpen (decoded s) ≡ true) where
   is : callAtSeam c s v ≡ through (behind c s v)
   is = call-is-step c s v opens
 
-  low : answered (behind c s v .answer) % 65536 ≡ numberOf (behind c s v .answer)
-  low = low-half (decoded s .geometry) c (decoded s) v
-
-  high : answered (behind c s v .answer) / 65536 ≡ valueOf (behind c s v .answer)
-  high = high-half (decoded s .geometry) c (decoded s) v
-
   success : succeededIn c (callAtSeam c s v) ≡ succeeded (behind c s v .answer)
-  success = ap (succeededIn c) is ∙ rw (low, high) (success-told (decoded s .geometry) c (decoded s) v)
+  success = ap (succeededIn c) is ∙ through-told (decoded s .geometry) c (decoded s) v
 
 leaves-same : (c : Asked) (s v : List ℕ) → OpenDrive s → LeavesSame c s v
 leaves-same c s v o =
     let same = is c s v (o .opens) in
     record {
-      number-is = ap numberIn same ∙ low c s v (o .opens);
-      value-is = ap valueIn same ∙ high c s v (o .opens);
+      number-is = ap numberIn same ∙ low-half (decoded s .geometry) c (decoded s) v;
+      value-is = ap valueIn same ∙ high-half (decoded s .geometry) c (decoded s) v;
       success-is = success c s v (o .opens);
       state-is = λ small. faithful.call-faithful (c .function) (c .parameter) s v (c .fcb) (c .buffer) small (o .bytes-are) (o .opens);
       volume-is = ap (λ (x : Sealed). x .volume) same;

@@ -47,7 +47,7 @@ seen-alike a = λ i. record { answer = a .answer i; fcb = a .fcb i; buffer = a .
 
 -- ---- a run from a consistent state; the plain way's state differs at most in what it holds
 runs : (g : Geometry) (cs : List Asked) (d : Drive) (k v : List ℕ) → d .geometry ≡ g → Consistent d v → BytesLent cs
-    → Kept (step g) g v cs d (withHeld d k) (answers (step g) cs d v) (final (step g) cs d v)
+    → Kept (step g) g v cs (withHeld d k) (answers (step g) cs d v) (final (step g) cs d v) (touched (step g) cs d v)
 unfolding answers final touched
 runs g [] d k v same s small = record {
   answers-same = refl;

@@ -33,8 +33,8 @@ pub mod Agree
 pub mod Demand3Holds
 pub mod AlwaysHolds
 pub mod TieHolds
-pub mod AtSeamHolds
 pub mod NumberTells
+pub mod AtSeamHolds
 pub mod CallsAtSeamHold
 pub mod SeveralHolds
 pub mod RenamingParts

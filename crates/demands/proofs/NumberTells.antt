@@ -7,11 +7,13 @@ use mathlib.Core.List.{List, [], _∷_}
 use Prim.Native.Nat.{ℕ, zero, suc, _/_, _%_, _≤_, _<_}
 use native.Mathlib.Omega.{arith}
 use lib.Dec.{ltb, eqb}
-use borrow.Author.Tests.{not-true, ltb-true, eqb-true}
+use borrow.Author.Tests.{le-ltb, not-true, ltb-true, eqb-true}
 use Rattle.lists.specs.Bytes.{all}
 use Rattle.lists.proofs.BoolLaws.{and-parts}
 use Rattle.disk_geometry.specs.declared.Geometry.{Geometry}
+use Rattle.call_answers.specs.declared.Refusal.the-variants.{Closed}
 use Rattle.call_answers.specs.declared.Answer.{Answer}
+use Rattle.call_answers.specs.declared.Answer.the-variants.{Refused}
 use Rattle.call_answers.specs.Answer.{numberOf, valueOf, succeeded, whyOf}
 use Rattle.filecalls.specs.declared.Drive.{Drive}
 use Rattle.filecalls.specs.Outcome.{Outcome}
@@ -85,6 +87,15 @@ module _ (k : Call) (n : ℕ) where
       go t true q e = code-low q
       go true false q e = refusal-low e
       go false false q e = absurd (false≢true e)
+
+-- 32 is no success of any call
+pub closed-told : (k : Call) → cond (isSeveral k) (ltb 0 (answered (Refused Closed) / 65536)) (ltb (answered (Refused Closed) % 65536) (codesOf k)) ≡ false
+unfolding answered
+closed-told k = go (isSeveral k)
+  where
+    go : (t : Bool) → cond t false (ltb 32 (codesOf k)) ≡ false
+    go true = refl
+    go false = le-ltb 32 (codesOf k) (omega (arith, told-apart k .0))
 
 -- ---- of several records the value is how many were done
 abbrev Told : Outcome → Type 0

@@ -176,7 +176,8 @@ bytes-below (x ∷ xs) e k = go (ltb x 256) refl e (λ rest. bytes-below xs rest
 
 -- a run of calls on the volume: what demand 3 says of it
 on-disk : {way : Geometry → Way} → Demand3Of way → (cs : List Asked) → BytesLent cs
-    → Kept (way small) small disk (logsIn ∷ cs) closed closed (answers (way small) (logsIn ∷ cs) closed disk) (final (way small) (logsIn ∷ cs) closed disk)
+    → Kept (way small) small disk (logsIn ∷ cs) closed (answers (way small) (logsIn ∷ cs) closed disk) (final (way small) (logsIn ∷ cs) closed disk)
+    (touched (way small) (logsIn ∷ cs) closed disk)
 unfolding computes
 on-disk d cs lent = d small refl disk refl refl logsIn refl cs lent closed closed
 

@@ -1,15 +1,17 @@
 -- The demands, of what C calls. A run at the seam is one `churawel_log_in` and then any list of calls of `churawel_call`,
 -- refused ones and numbers that are not served among them, with any lent lengths, each given the drive's bytes and the
--- volume that the last left; what the two functions leave is what their contracts say. On a volume that passes inspection it shows the answers, as numbers, the control blocks and
--- the buffers of the run of `step` with that geometry, and leaves its volume (`SeamRuns`). So demand 3 is said of what C
--- calls (`Demand3AtSeam`); demands 1 and 2, which speak of single calls, are said of it in `CallsAtSeam`.
+-- volume that the last left; what the two functions leave is what their contracts say. On a volume that passes inspection it
+-- shows the answers, as numbers, the control blocks and the buffers of the run of `step` with that geometry, leaves its
+-- volume, and its successful calls touch the same files (`SeamRuns`). So demand 3 is said of what C calls
+-- (`Demand3AtSeam`); demands 1 and 2, which speak of single calls, are said of it in `CallsAtSeam`.
 --
 -- On any other volume it does so up to a log-in that is refused. From then on the drive is closed: every call, log-in too,
 -- answers 32 and changes nothing, until C logs in again (`SeamRunsOnAny`).
 use mathlib.Core.Path.{_≡_}
-use mathlib.Core.Bool.{true, cond}
+use mathlib.Core.Bool.{Bool, true, false, cond, _&&_, _||_}
 use mathlib.Core.List.{List, [], _∷_, map}
-use Prim.Native.Nat.{ℕ, _<_}
+use Prim.Native.Nat.{ℕ, _/_, _%_, _<_}
+use lib.Dec.{ltb}
 use lib.ListN.{length}
 use Rattle.disk_geometry.specs.declared.Geometry.{Geometry}
 use Rattle.disk_geometry.specs.Geometry.{lawful, bytes, slots, blocks, directoryBlocks}
@@ -26,8 +28,10 @@ use Rattle.call_served.specs.Asked.{Asked, asked}
 use Rattle.drive_bytes.specs.Layout.{decoded}
 use Rattle.churawel.specs.Seam.{answered, Sealed, atSeam, logInAtSeam}
 use Rattle.demands.specs.Run.{Seen, seen, Way, answers, final, finalState, plain}
+use Rattle.demands.specs.Order.{codesOf, isSeveral}
+use Rattle.demands.specs.Demand1.{call}
 use Rattle.demands.specs.Demand2.{Sound}
-use Rattle.demands.specs.Demand3.{Bytes, Kept}
+use Rattle.demands.specs.Demand3.{Bytes, touches, touched, Kept}
 
 -- ---- a run at the seam
 -- what C sees of a call: the answer as one number, the control block and the transfer buffer
@@ -47,6 +51,17 @@ inNumbers s = record { answer = answered (s .answer); fcb = s .fcb; buffer = s .
 abbrev pub callAtSeam : Asked → List ℕ → List ℕ → Sealed
 callAtSeam c s v = atSeam (c .function) (c .parameter) s v (c .fcb) (c .buffer)
 
+-- "the answer's number in the low 16 bits", the value beside it in the high 16
+abbrev pub numberIn : Sealed → ℕ
+numberIn o = o .answer % 65536
+
+abbrev pub valueIn : Sealed → ℕ
+valueIn o = o .answer / 65536
+
+-- it succeeded: the number is one of the codes that the call succeeds with; of several records, one was done
+abbrev pub succeededIn : Asked → Sealed → Bool
+succeededIn c o = cond (isSeveral (call c)) (ltb 0 (valueIn o)) (ltb (numberIn o) (codesOf (call c)))
+
 -- what is seen of each call, and the volume and the drive's bytes at the end
 unfoldable pub answersAtSeam : List Asked → List ℕ → List ℕ → List SeenAtSeam
 answersAtSeam [] s v = []
@@ -60,6 +75,13 @@ unfoldable pub driveAtSeam : List Asked → List ℕ → List ℕ → List ℕ
 driveAtSeam [] s v = s
 driveAtSeam (c ∷ cs) s v = driveAtSeam cs (callAtSeam c s v .drive) (callAtSeam c s v .volume)
 
+-- a successful call touches the file
+unfoldable pub touchedAtSeam : List Asked → List ℕ → List ℕ → ℕ → List ℕ → Bool
+touchedAtSeam [] s v u name = false
+touchedAtSeam (c ∷ cs) s v u name =
+    (succeededIn c (callAtSeam c s v) && touches c (decoded s) u name)
+    || touchedAtSeam cs (callAtSeam c s v .drive) (callAtSeam c s v .volume) u name
+
 -- the run: `churawel_log_in` of the volume v, with the bytes s for the drive, and then the calls
 module _ (g : Geometry) (v s : List ℕ) (cs : List Asked) where
   abbrev pub shown : List SeenAtSeam
@@ -70,6 +92,9 @@ module _ (g : Geometry) (v s : List ℕ) (cs : List Asked) where
 
   abbrev pub driveLeft : List ℕ
   driveLeft = driveAtSeam cs (logInAtSeam g v s .drive) v
+
+  abbrev pub filesTouched : ℕ → List ℕ → Bool
+  filesTouched u name = touchedAtSeam cs (logInAtSeam g v s .drive) v u name
 
 -- what C hands over beside volume and buffer is bytes
 abbrev pub FromC : List Asked → Type 0
@@ -87,6 +112,7 @@ pub record Runs (way : Way) (g : Geometry) (v s : List ℕ) (cs : List Asked) : 
   pub shows : shown g v s cs ≡ map inNumbers (seen (step g logsIn closed v) ∷ answers way cs (step g logsIn closed v .drive) v)
   pub volume-is : volumeLeft g v s cs ≡ final way cs (step g logsIn closed v .drive) v
   pub state-is : decoded (driveLeft g v s cs) ≡ finalState way cs (step g logsIn closed v .drive) v
+  pub touches-are : (u : ℕ) (name : List ℕ) → filesTouched g v s cs u name ≡ touched way cs (step g logsIn closed v .drive) v u name
 
 -- any geometry within the rules, any volume of its length that passes inspection, 64 bytes for the drive, any calls
 abbrev pub OverSeamRuns : (Geometry → List ℕ → List ℕ → List Asked → Type 0) → Type 0
@@ -102,7 +128,7 @@ SeamRuns = OverSeamRuns (λ g v s cs. Runs (step g) g v s cs)
 -- inspection, and the files that no successful call touched are in it as they were (`Kept`). A further log-in accepts.
 pub record KeptAtSeam (g : Geometry) (v s : List ℕ) (cs : List Asked) (e : Drive) : Type 0 where
   pub shows-plain : shown g v s cs ≡ map inNumbers (answers (plain (step g)) (logsIn ∷ cs) e v)
-  pub kept : Kept (step g) g v (logsIn ∷ cs) closed e (answers (step g) (logsIn ∷ cs) closed v) (volumeLeft g v s cs)
+  pub kept : Kept (step g) g v (logsIn ∷ cs) e (answers (step g) (logsIn ∷ cs) closed v) (volumeLeft g v s cs) (filesTouched g v s cs)
   pub accepts-again : (t : List ℕ) → length t ≡ 64
       → logInAtSeam g (volumeLeft g v s cs) t .answer ≡ answered (Ready (freeCount (heldOf g (volumeLeft g v s cs)) (directoryBlocks g) (blocks g)))
 

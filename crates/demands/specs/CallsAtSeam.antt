@@ -3,11 +3,10 @@
 -- look at in what `step` leaves is what `churawel_call` leaves (`SeamCalls`), and their sentences hold of it
 -- (`Demand1AtSeam`, `Demand2AtSeam`). The drive's bytes may be any: those that count as closed are refused by 32.
 use mathlib.Core.Path.{_≡_}
-use mathlib.Core.Bool.{Bool, true, false, not, cond, _&&_}
+use mathlib.Core.Bool.{Bool, true, false, not, _&&_}
 use mathlib.Core.Logic.{_≢_}
 use mathlib.Core.List.{List, [], _∷_}
-use Prim.Native.Nat.{ℕ, _+_, _-_, _/_, _%_, _≤_, _<_}
-use lib.Dec.{ltb}
+use Prim.Native.Nat.{ℕ, _+_, _-_, _≤_, _<_}
 use lib.ListN.{length, getD, replicate}
 use Rattle.lists.specs.Bounded.{countFrom}
 use Rattle.disk_geometry.specs.declared.Geometry.{Geometry}
@@ -25,24 +24,12 @@ use Rattle.call_served.specs.declared.Call.the-variants.{LogIn}
 use Rattle.bdos.specs.Step.{step}
 use Rattle.call_served.specs.Asked.{Asked, asked}
 use Rattle.drive_bytes.specs.Layout.{decoded}
-use Rattle.churawel.specs.Seam.{Sealed, sealed, logInAtSeam}
-use Rattle.demands.specs.Order.{numbersOf, refusalsOf, codesOf, isSeveral, among, answersOf}
+use Rattle.churawel.specs.Seam.{sealed, logInAtSeam}
+use Rattle.demands.specs.Order.{numbersOf, refusalsOf, among, answersOf}
 use Rattle.demands.specs.Demand1.{call, tests}
 use Rattle.demands.specs.Demand2.{Writes, Reads, earlier, NoneFree, Sound, Present}
 use Rattle.demands.specs.Demand3.{Bytes}
-use Rattle.demands.specs.AtSeam.{callAtSeam}
-
--- ---- what C has of an answer
--- "the answer's number in the low 16 bits", the value beside it in the high 16
-abbrev pub numberIn : Sealed → ℕ
-numberIn o = o .answer % 65536
-
-abbrev pub valueIn : Sealed → ℕ
-valueIn o = o .answer / 65536
-
--- the number is one of the codes that the call succeeds with; of several records, one was done
-abbrev pub succeededIn : Asked → Sealed → Bool
-succeededIn c o = cond (isSeveral (call c)) (ltb 0 (valueIn o)) (ltb (numberIn o) (codesOf (call c)))
+use Rattle.demands.specs.AtSeam.{callAtSeam, numberIn, valueIn, succeededIn}
 
 -- ---- a call
 -- the drive's bytes, and the state that they are, is open

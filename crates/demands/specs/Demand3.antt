@@ -81,16 +81,16 @@ touched way [] d v u name = false
 touched way (c ∷ cs) d v u name =
     (succeeded (way c d v .answer) && touches c d u name) || touched way cs (way c d v .drive) (way c d v .volume) u name
 
--- what a run on the volume v leaves, from the state d, and from e the plain way: ss is what is seen of its calls, and w the
--- volume at its end
-pub record Kept (way : Way) (g : Geometry) (v : List ℕ) (cs : List Asked) (d e : Drive) (ss : List Seen) (w : List ℕ) : Type 0 where
+-- what a run of these calls on the volume v leaves: ss is what is seen of them, w the volume at its end, and `hit` says which
+-- files a successful one touched; the plain way of doing the calls runs from the state e
+pub record Kept (way : Way) (g : Geometry) (v : List ℕ) (cs : List Asked) (e : Drive) (ss : List Seen) (w : List ℕ) (hit : ℕ → List ℕ → Bool) : Type 0 where
   pub answers-same : ss ≡ answers (plain way) cs e v
   pub volume-same : w ≡ final (plain way) cs e v
   pub length-kept : length w ≡ length v
   pub inspected : lowestBad g w ≡ slots g
-  pub others-present : (u : ℕ) (name : List ℕ) → u ≤ 15 → touched way cs d v u name ≡ false
+  pub others-present : (u : ℕ) (name : List ℕ) → u ≤ 15 → hit u name ≡ false
       → (n : ℕ) → present g w u name n ≡ present g v u name n
-  pub others-bytes : (u : ℕ) (name : List ℕ) → u ≤ 15 → touched way cs d v u name ≡ false
+  pub others-bytes : (u : ℕ) (name : List ℕ) → u ≤ 15 → hit u name ≡ false
       → (n : ℕ) → present g v u name n ≡ true → readBytes g w u name n ≡ readBytes g v u name n
 
 -- "For any geometry within the rules, any volume of its length that passes inspection, and any list of calls .. that begins
@@ -103,7 +103,7 @@ OverRuns Says =
 
 -- the demand, of a way to do calls
 abbrev pub Demand3Of : (Geometry → Way) → Type 0
-Demand3Of way = OverRuns (λ g v cs. (d e : Drive) → Kept (way g) g v cs d e (answers (way g) cs d v) (final (way g) cs d v))
+Demand3Of way = OverRuns (λ g v cs. (d e : Drive) → Kept (way g) g v cs e (answers (way g) cs d v) (final (way g) cs d v) (touched (way g) cs d v))
 
 abbrev pub Demand3 : Type 0
 Demand3 = Demand3Of step
