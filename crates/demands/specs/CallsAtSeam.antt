@@ -32,7 +32,7 @@ use Rattle.demands.specs.Demand3.{Bytes}
 use Rattle.demands.specs.AtSeam.{callAtSeam, numberIn, valueIn, succeededIn}
 
 -- ---- a call
--- the drive's bytes, and the state that they are, is open
+-- bytes that are an open drive
 pub record OpenDrive (s : List ℕ) : Type 0 where
   pub bytes-are : Bytes s
   pub opens : isOpen (decoded s) ≡ true
@@ -60,7 +60,7 @@ pub record Demand1AtSeam : Type 0 where
   -- "a refused call leaves volume, control block, buffer and state as given": the drive's bytes too
   pub refused-leaves-all : (c : Asked) (s v : List ℕ) → OpenDrive s → call c ≢ LogIn → succeededIn c (callAtSeam c s v) ≡ false
       → callAtSeam c s v ≡ sealed (callAtSeam c s v .answer) s v (c .fcb) (c .buffer)
-  -- "a refused log-in hands back the closed value": 64 zero bytes
+  -- "a refused log-in hands back the closed value": 64 zero bytes, as of a refused `churawel_log_in` (`RefusedLogInCloses`)
   pub refused-log-in-closes : (c : Asked) (s v : List ℕ) → OpenDrive s → call c ≡ LogIn → succeededIn c (callAtSeam c s v) ≡ false
       → callAtSeam c s v ≡ sealed (callAtSeam c s v .answer) (replicate 64 0) v (c .fcb) (c .buffer)
   -- "the answer is one of the paper's for that call"
