@@ -21,6 +21,7 @@ use Rattle.call_rename.specs.Rename.{renameTests}
 use Rattle.call_read.specs.Read.{readTests}
 use Rattle.call_decide.specs.Write.{writeTests}
 use Rattle.disk_rules.specs.GoodSlot.{lowestBad}
+use Rattle.filecalls.specs.Leaves.{readSequentialLeaves, writeSequentialLeaves}
 use Rattle.filecalls.specs.declared.Drive.{Drive}
 use Rattle.filecalls.specs.Outcome.{Change, keeps, becomes, Store, Act, deny, done, unless, Outcome, outcome}
 use Rattle.filecalls.specs.State.{isOpen, closed}
@@ -32,7 +33,7 @@ use Rattle.filecalls.specs.Read.{sequentialTests, randomTests, readDone, readSe
 use Rattle.filecalls.specs.Write.{writeDone, writeSequentialAct, writeRandomAct, writeZeroFillAct}
 use Rattle.filecalls.specs.Small.{protectTests, protectAct, userTests, userAct, setRandomTests, setRandomAct}
 use Rattle.filecalls.proofs.StateLaws.{is-open}
-use Rattle.filecalls.specs.Several.{Single, readOne, writeOne, several}
+use Rattle.filecalls.specs.Several.{Single, several}
 use Rattle.filecalls.specs.Several.{severalTests}
 use Rattle.filecalls.proofs.SinglesLaws.{Refuses}
 use Rattle.filecalls.proofs.SeveralLaws.{leaves-all, read-refuses, write-refuses}
@@ -42,7 +43,7 @@ use Rattle.call_served.specs.declared.Transfer.the-variants.{ReadSequential, Wr
 use Rattle.bdos.specs.Step.{carries, does, step}
 use Rattle.call_served.specs.Asked.{Asked}
 use Rattle.demands.specs.Order.{paperTable, numbersOf, reasons, inOrder, testsOf, refusalsOf, among, answersOf}
-use Rattle.demands.specs.Demand1.{call, tests, answer, Leaves, Demand1}
+use Rattle.demands.specs.Demand1.{call, tests, Leaves, Demand1}
 use Rattle.demands.proofs.Says.{Says, was-met, was-none, number-among}
 use Rattle.demands.proofs.SeveralSays.{read-says, write-says}
 
@@ -107,8 +108,8 @@ call-kept g SetRandom p d v f b n h =
     let k = kept d [] f [] (setRandomAct d f) h in
     record { state-is = k .state-is; volume-kept = refl; fcb-kept = k .fcb-kept; buffer-kept = refl }
 call-kept g (Moves WriteZeroFill) p d v f b n h = kept d v f b (writeZeroFillAct d v f b) h
-call-kept g (Moves ReadSeveral) p d v f b n h = several-kept readOne read-refuses d v f b p h
-call-kept g (Moves WriteSeveral) p d v f b n h = several-kept writeOne write-refuses d v f b p h
+call-kept g (Moves ReadSeveral) p d v f b n h = several-kept readSequentialLeaves read-refuses d v f b p h
+call-kept g (Moves WriteSeveral) p d v f b n h = several-kept writeSequentialLeaves write-refuses d v f b p h
 call-kept g Unserved p d v f b n h = kept d v f b (deny NotServed) h
 
 -- ---- a refused log-in
@@ -240,12 +241,12 @@ in-table-order (Moves WriteSeveral) n = refl
 in-table-order Unserved n = absurd (n refl)
 
 -- ---- all together
-pub step-says : (g : Geometry) (c : Asked) (d : Drive) (v : List ℕ) → Says (answer g c d v) (tests g c d v) (answersOf (call c))
+pub step-says : (g : Geometry) (c : Asked) (d : Drive) (v : List ℕ) → Says (step g c d v .answer) (tests g c d v) (answersOf (call c))
 unfolding step
 step-says g c d v = call-says g (c .parameter) d v (c .fcb) (c .buffer) (call c)
 
-refusal-among : (g : Geometry) (c : Asked) (d : Drive) (v : List ℕ) → succeeded (answer g c d v) ≡ false
-    → among (numberOf (answer g c d v)) (numbersOf (refusalsOf (call c))) ≡ true
+refusal-among : (g : Geometry) (c : Asked) (d : Drive) (v : List ℕ) → succeeded (step g c d v .answer) ≡ false
+    → among (numberOf (step g c d v .answer)) (numbersOf (refusalsOf (call c))) ≡ true
 refusal-among g c d v h =
     let s = step-says g c d v in
     let m = was-met s h in

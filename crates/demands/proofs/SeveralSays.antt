@@ -21,12 +21,13 @@ use Rattle.call_answers.specs.Answer.{numberOf, succeeded, whyOf}
 use Rattle.call_answers.proofs.Ladder.{ladder-stop, ladder-pass}
 use Rattle.call_read.specs.Read.{readTests}
 use Rattle.call_decide.specs.Write.{writeTests}
+use Rattle.filecalls.specs.Leaves.{readSequentialLeaves, writeSequentialLeaves}
 use Rattle.filecalls.specs.declared.Drive.{Drive}
 use Rattle.filecalls.specs.Tests.{closedState, volumeLength, fcbLength, bufferLength}
 use Rattle.filecalls.specs.Outcome.{Outcome, unless, outcome}
 use Rattle.filecalls.specs.Read.{sequentialTests, readDone, readSequentialAct}
 use Rattle.filecalls.specs.Write.{directoryTests, writeDone, writeSequentialAct}
-use Rattle.filecalls.specs.Several.{Single, readOne, writeOne, onPiece, several}
+use Rattle.filecalls.specs.Several.{Single, onPiece, several}
 use Rattle.filecalls.specs.Several.{severalTests}
 use Rattle.filecalls.proofs.SinglesLaws.{piece-answer, first-refused, first-done, stop-number}
 use Rattle.filecalls.proofs.SeveralLaws.{several-refused, several-passed}
@@ -63,11 +64,11 @@ readRest d v f = readTests (d .geometry) v (d .user) (nameOf f) (position f) Abs
 abbrev writeRest : Drive → List ℕ → List ℕ → List Test
 writeRest d v f = directoryTests d v f (position f)
 
-read-single : Single-says readOne readRest
+read-single : Single-says readSequentialLeaves readRest
 unfolding readSequentialAct readDone outcome unless
 read-single = record { refused = λ d v f r e. rw e; done = λ d v f r e. rw e }
 
-write-single : Single-says writeOne writeRest
+write-single : Single-says writeSequentialLeaves writeRest
 unfolding writeSequentialAct writeDone outcome unless
 write-single = record { refused = λ d v f r e. rw e; done = λ d v f r e. rw e }
 
@@ -142,12 +143,12 @@ one-more false false false true e x h = refl
 one-more false false false false true x h = refl
 one-more false false false false false x h = h
 
-pub read-says : (d : Drive) (v f b : List ℕ) (k : ℕ) → Says (several readOne d v f b k .answer) (severalTests d v f b k ++ (blockTests f ++ readRest d v f)) (answersOf (Moves ReadSeveral))
+pub read-says : (d : Drive) (v f b : List ℕ) (k : ℕ) → Says (several readSequentialLeaves d v f b k .answer) (severalTests d v f b k ++ (blockTests f ++ readRest d v f)) (answersOf (Moves ReadSeveral))
 unfolding sequentialTests readTests
-read-says = several-says readOne readRest read-single (answersOf (Moves ReadSeveral)) refl
+read-says = several-says readSequentialLeaves readRest read-single (answersOf (Moves ReadSeveral)) refl
     (λ d v f r n h. one-more (ltb n 1) (eqb n 32) (eqb n 33) (eqb n 34) (eqb n 46) (among n (numbersOf (drop 3 (refusalsOf (Moves ReadSequential))))) h)
 
-pub write-says : (d : Drive) (v f b : List ℕ) (k : ℕ) → Says (several writeOne d v f b k .answer) (severalTests d v f b k ++ (blockTests f ++ writeRest d v f)) (answersOf (Moves WriteSeveral))
+pub write-says : (d : Drive) (v f b : List ℕ) (k : ℕ) → Says (several writeSequentialLeaves d v f b k .answer) (severalTests d v f b k ++ (blockTests f ++ writeRest d v f)) (answersOf (Moves WriteSeveral))
 unfolding sequentialTests writeTests
-write-says = several-says writeOne writeRest write-single (answersOf (Moves WriteSeveral)) refl
+write-says = several-says writeSequentialLeaves writeRest write-single (answersOf (Moves WriteSeveral)) refl
     (λ d v f r n h. one-more (ltb n 1) (eqb n 32) (eqb n 33) (eqb n 34) (eqb n 46) (among n (numbersOf (drop 3 (refusalsOf (Moves WriteSequential))))) h)
