@@ -24,7 +24,7 @@ use Rattle.churawel.specs.Seam.{answered, Sealed, sealed, through, atSeam, logI
 use Rattle.churawel.proofs.LastingLaws.{Lasts}
 use Rattle.churawel.proofs.FaithfulHolds as faithful
 use Rattle.demands.specs.Demand1.{call}
-use Rattle.demands.specs.Demand2.{allWritten, volumeAtEnd}
+use Rattle.demands.specs.Demand2.{allWrittenBy, volumeBy}
 use Rattle.demands.specs.AtSeam.{callAtSeam, numberIn, valueIn, succeededIn, logsIn}
 use Rattle.demands.specs.CallsAtSeam.{OpenDrive, behind, LeavesSame, SeamCalls, Demand1AtSeam, allWrittenAtSeam, volumeWritten, Demand2AtSeam}
 use Rattle.demands.proofs.Demand1.{demand1}
@@ -123,13 +123,13 @@ unfolding callOf
 no-log-in e = let z : _≡_ {A = ℕ} 0 1 = cc in absurd (omega arith)
 
 sequence-same : (g : Geometry) (p : ℕ) → p < 256 → (rs : List (List ℕ)) (s v f : List ℕ) → decoded s .geometry ≡ g → Lasts (decoded s)
-    → (allWrittenAtSeam p rs s v f ≡ allWritten g p rs (decoded s) v f) × (volumeWritten p rs s v f ≡ volumeAtEnd g p rs (decoded s) v f)
+    → (allWrittenAtSeam p rs s v f ≡ allWrittenBy (step g) p rs (decoded s) v f) × (volumeWritten p rs s v f ≡ volumeBy (step g) p rs (decoded s) v f)
 sequence-same g p small [] s v f same l = (refl, refl)
 sequence-same g p small (r ∷ rs) s v f same l =
     let c = asked 21 p f r in
     let k = subst (λ (x : Geometry). Goes x c s v) same (goes c no-log-in small s v l) in
     let rest = sequence-same g p small rs (callAtSeam c s v .drive) (callAtSeam c s v .volume) (callAtSeam c s v .fcb) (k .geometry) (k .lasts) in
-    (ap₂ _&&_ (k .succeeds) (rest .0 ∙ (λ i. allWritten g p rs (k .state i) (k .volume i) (k .fcb i))), rest .1 ∙ (λ i. volumeAtEnd g p rs (k .state i) (k .volume i) (k .fcb i)))
+    (ap₂ _&&_ (k .succeeds) (rest .0 ∙ (λ i. allWrittenBy (step g) p rs (k .state i) (k .volume i) (k .fcb i))), rest .1 ∙ (λ i. volumeBy (step g) p rs (k .state i) (k .volume i) (k .fcb i)))
 
 -- ---- demand 2: log-in
 module _ (g : Geometry) (v s : List ℕ) (e : length s ≡ 64) where

@@ -22,7 +22,8 @@ use Rattle.bdos.specs.Step.{does, step}
 use Rattle.call_served.specs.Asked.{Asked}
 use Rattle.call_served.specs.Calls.{callOf}
 use Rattle.demands.specs.Run.{Seen, seen, answers, final, plain}
-use Rattle.demands.specs.Demand3.{Bytes, BytesLent, touches, touched, Kept, Demand3, AcceptsAgain, NoBlockTwice}
+use Rattle.numbers.specs.Numbers.{Bytes}
+use Rattle.demands.specs.Demand3.{BytesLent, touches, touched, Kept, Demand3, AcceptsAgain, NoBlockTwice}
 use Rattle.demands.proofs.Inspected.{accepted-sound, sound-accepted, held-of}
 use Rattle.demands.proofs.Acts.{Consistent, Leaves, StepKeeps}
 use Rattle.demands.proofs.Alike.{Alike}

@@ -44,7 +44,8 @@ use Rattle.call_served.specs.Calls.{callOf}
 use Rattle.demands.specs.Run.{Way, answers, final}
 use Rattle.demands.specs.Demand1.{Demand1Of}
 use Rattle.demands.specs.Demand2.{direct, zero-filling, at-random, Sound, Demand2Of}
-use Rattle.demands.specs.Demand3.{Bytes, BytesLent, touches, touched, Kept, Demand3Of}
+use Rattle.numbers.specs.Numbers.{Bytes}
+use Rattle.demands.specs.Demand3.{BytesLent, touches, touched, Kept, Demand3Of}
 use Rattle.demands.specs.ZeroFill.{ZeroFillOf}
 use Rattle.demands.specs.AtSeam.{logsIn}
 use Rattle.demands.specs.WrongWays.{refusesEvery, readsNothing, storesNothing, storesFirst, inventsCount, movesCr, keepsOldBytes, throwsAway, overlooksTwice, fillsNothing, fillsAlways, heldNotUpdated, freesTooMany, takesHeld, storesElsewhere, ShutOut}

@@ -31,7 +31,8 @@ use Rattle.demands.specs.Run.{Seen, seen, Way, answers, final, finalStat
 use Rattle.demands.specs.Order.{codesOf, isSeveral}
 use Rattle.demands.specs.Demand1.{call}
 use Rattle.demands.specs.Demand2.{Sound}
-use Rattle.demands.specs.Demand3.{Bytes, touches, touched, Kept}
+use Rattle.numbers.specs.Numbers.{Bytes}
+use Rattle.demands.specs.Demand3.{touches, touched, Kept}
 
 -- ---- a run at the seam
 -- what C sees of a call: the answer as one number, the control block and the transfer buffer

@@ -28,7 +28,7 @@ use Rattle.churawel.specs.Seam.{sealed, logInAtSeam}
 use Rattle.demands.specs.Order.{numbersOf, refusalsOf, among, answersOf}
 use Rattle.demands.specs.Demand1.{call, tests}
 use Rattle.demands.specs.Demand2.{Writes, Reads, earlier, NoneFree, Sound, Present}
-use Rattle.demands.specs.Demand3.{Bytes}
+use Rattle.numbers.specs.Numbers.{Bytes}
 use Rattle.demands.specs.AtSeam.{callAtSeam, numberIn, valueIn, succeededIn}
 
 -- ---- a call

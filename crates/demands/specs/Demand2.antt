@@ -86,13 +86,6 @@ volumeBy way p (r ∷ rs) d v fcb =
     let o = way (asked 21 p fcb r) d v in
     volumeBy way p rs (o .drive) (o .volume) (o .fcb)
 
--- the same by `step`
-abbrev pub allWritten : Geometry → ℕ → List (List ℕ) → Drive → List ℕ → List ℕ → Bool
-allWritten g = allWrittenBy (step g)
-
-abbrev pub volumeAtEnd : Geometry → ℕ → List (List ℕ) → Drive → List ℕ → List ℕ → List ℕ
-volumeAtEnd g = volumeBy (step g)
-
 -- two replies with what is left beside them are the same
 pub record Same (r s : Reply) (v w f h b c : List ℕ) : Type 0 where
   pub reply : r ≡ s

@@ -16,7 +16,6 @@ use mathlib.Core.List.{List, [], _∷_}
 use Prim.Native.Nat.{ℕ, _≤_, _<_}
 use lib.Dec.{eqb}
 use lib.ListN.{length}
-use Rattle.lists.specs.Bytes.{byte}
 use Rattle.disk_geometry.specs.declared.Geometry.{Geometry}
 use Rattle.disk_geometry.specs.Geometry.{lawful, bytes, slots, places, blocks, directoryBlocks}
 use Rattle.disk_volume.specs.Name.{nameOf, same, like}
@@ -37,12 +36,10 @@ use Rattle.call_served.specs.declared.Transfer.the-variants.{ReadSequential, Wr
 use Rattle.bdos.specs.Step.{step}
 use Rattle.call_served.specs.Asked.{Asked}
 use Rattle.call_served.specs.Calls.{callOf}
+use Rattle.numbers.specs.Numbers.{Bytes}
 use Rattle.demands.specs.Run.{Seen, Way, answers, final, plain}
 
--- bytes are below 256
-abbrev pub Bytes : List ℕ → Type 0
-Bytes l = (k : ℕ) → byte l k < 256
-
+-- the control blocks that are lent are bytes
 abbrev pub BytesLent : List Asked → Type 0
 BytesLent [] = Unit {0}
 BytesLent (c ∷ cs) = Bytes (c .fcb) × BytesLent cs
