@@ -21,6 +21,7 @@ use Rattle.call_rename.specs.Rename.{renameTests}
 use Rattle.call_read.specs.Read.{readTests}
 use Rattle.call_decide.specs.Write.{writeTests}
 use Rattle.disk_rules.specs.GoodSlot.{lowestBad}
+use Rattle.filecalls.specs.Leaves.{readSequentialLeaves, writeSequentialLeaves}
 use Rattle.filecalls.specs.declared.Drive.{Drive}
 use Rattle.filecalls.specs.Outcome.{Change, keeps, becomes, Store, Act, deny, done, unless, Outcome, outcome}
 use Rattle.filecalls.specs.State.{isOpen, closed}
@@ -32,7 +33,7 @@ use Rattle.filecalls.specs.Read.{sequentialTests, randomTests, readDone, readSe
 use Rattle.filecalls.specs.Write.{writeDone, writeSequentialAct, writeRandomAct, writeZeroFillAct}
 use Rattle.filecalls.specs.Small.{protectTests, protectAct, userTests, userAct, setRandomTests, setRandomAct}
 use Rattle.filecalls.proofs.StateLaws.{is-open}
-use Rattle.filecalls.specs.Several.{Single, readOne, writeOne, several}
+use Rattle.filecalls.specs.Several.{Single, several}
 use Rattle.filecalls.specs.Several.{severalTests}
 use Rattle.filecalls.proofs.SinglesLaws.{Refuses}
 use Rattle.filecalls.proofs.SeveralLaws.{leaves-all, read-refuses, write-refuses}
@@ -107,8 +108,8 @@ call-kept g SetRandom p d v f b n h =
     let k = kept d [] f [] (setRandomAct d f) h in
     record { state-is = k .state-is; volume-kept = refl; fcb-kept = k .fcb-kept; buffer-kept = refl }
 call-kept g (Moves WriteZeroFill) p d v f b n h = kept d v f b (writeZeroFillAct d v f b) h
-call-kept g (Moves ReadSeveral) p d v f b n h = several-kept readOne read-refuses d v f b p h
-call-kept g (Moves WriteSeveral) p d v f b n h = several-kept writeOne write-refuses d v f b p h
+call-kept g (Moves ReadSeveral) p d v f b n h = several-kept readSequentialLeaves read-refuses d v f b p h
+call-kept g (Moves WriteSeveral) p d v f b n h = several-kept writeSequentialLeaves write-refuses d v f b p h
 call-kept g Unserved p d v f b n h = kept d v f b (deny NotServed) h
 
 -- ---- a refused log-in

@@ -34,6 +34,7 @@ use Rattle.call_rename.specs.Rename.{renameTests}
 use Rattle.call_decide.specs.Write.{writeSlot, baseEntry, needsBlock, writeBlock, writeTests}
 use Rattle.call_entry.specs.Grown.{likeEntry, grown, writtenEntry}
 use Rattle.call_entry.specs.Alloc.{alloc}
+use Rattle.filecalls.specs.Leaves.{readSequentialLeaves, writeSequentialLeaves}
 use Rattle.filecalls.specs.declared.Drive.{Drive}
 use Rattle.filecalls.specs.State.{isOpen, closed}
 use Rattle.filecalls.specs.Outcome.{Outcome, outcome, left, unless, stored, storedAll, changedState}
@@ -44,7 +45,7 @@ use Rattle.filecalls.specs.Names.{deleteLadder, deleteAct, makeLadder, makeAct,
 use Rattle.filecalls.specs.Read.{sequentialTests, randomTests, readDone, readSequentialAct, readRandomAct}
 use Rattle.filecalls.specs.Write.{writeEntry, writeChange, writeDone, writeSequentialAct, writeRandomAct, writeZeroFillAct}
 use Rattle.filecalls.specs.Small.{protectTests, protectAct, userTests, userAct, setRandomTests, setRandomAct}
-use Rattle.filecalls.specs.Several.{readOne, writeOne, onPiece, singles, several}
+use Rattle.filecalls.specs.Several.{onPiece, singles, several}
 use Rattle.filecalls.specs.Several.{severalTests}
 
 -- The calls that we serve, each with what it is lent beside the volume: a control block, a transfer buffer; those of several
@@ -91,8 +92,8 @@ perform (write fcb b) d v = outcome d v fcb b (writeRandomAct d v fcb b)
 perform (size fcb) d v = outcome d v fcb [] (sizeAct d v fcb)
 perform (setRandom fcb) d v = outcome d v fcb [] (setRandomAct d fcb)
 perform (writeZeroFill fcb b) d v = outcome d v fcb b (writeZeroFillAct d v fcb b)
-perform (readSeveral k fcb b) d v = several readOne d v fcb b k
-perform (writeSeveral k fcb b) d v = several writeOne d v fcb b k
+perform (readSeveral k fcb b) d v = several readSequentialLeaves d v fcb b k
+perform (writeSeveral k fcb b) d v = several writeSequentialLeaves d v fcb b k
 
 -- What a call answers: whether it succeeded, the number, and the value beside it.
 abbrev pub answered : Answer → List ℕ
