@@ -93,7 +93,9 @@ heldWord s k = number (part s (HELD-AT + 8 * k) 8)
 unfoldable pub fields : List ℕ → Drive
 fields s =
     record {
-      geometry = geometryOf (number (part s BLOCK-BYTES-AT 2)) (number (part s BLOCKS-AT 2)) (number (part s DIRECTORY-BLOCKS-AT 2));
+      geometry =
+          geometryOf (number (part s BLOCK-BYTES-AT 2)) (number (part s BLOCKS-AT 2))
+          (number (part s DIRECTORY-BLOCKS-AT 2));
       user = byte s USER-AT;
       protected = eqb (byte s PROTECTED-AT) 1;
       search =
