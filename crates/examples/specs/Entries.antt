@@ -103,10 +103,19 @@ onTwoUsers =
     ∷ call (user 1) (done 0)
     ∷ call (rename (renaming sigla (from 85))) (refused 38)
     ∷ call (delete (fresh anyName)) (refused 38)
+    -- "bytes 0 to 11 of the file's lowest entry": its user too; the user stays over a write and a delete
+    ∷ call (write (recordOf lemmata 128) (filled 8)) (done 0)
+    ∷ volumeAt 32 (entry 0 lemmataSystem 0 0 3 (2 ∷ []) ++ entry 1 lemmata 0 0 0 [] ++ entry 1 lemmata 1 0 1 (3 ∷ []) ++ empty 28)
+    ∷ heldAre (14 ∷ 0 ∷ 0 ∷ 0 ∷ [])
+    ∷ call (user 255) (done 1)
+    ∷ call (delete (fresh lemmata)) (done 0)
+    ∷ volumeAt 32 (entry 0 lemmataSystem 0 0 3 (2 ∷ []) ++ entry EMPTY lemmata 0 0 0 [] ++ entry EMPTY lemmata 1 0 1 (3 ∷ []) ++ empty 28)
+    ∷ heldAre (6 ∷ 0 ∷ 0 ∷ 0 ∷ [])
+    ∷ call (user 255) (done 1)
     -- so does delete, and a read-only entry of another user is no bar; its block stays held
     ∷ call (user 0) (done 0)
     ∷ call (delete (fresh anyName)) (done 0)
-    ∷ volumeAt 0 (user1Entry ++ entry 0xE5 lemmataSystem 0 0 3 (2 ∷ []) ++ entry 1 lemmata 0 0 0 [] ++ empty 29)
+    ∷ volumeAt 0 (user1Entry ++ entry EMPTY lemmataSystem 0 0 3 (2 ∷ []))
     ∷ heldAre (2 ∷ 0 ∷ 0 ∷ 0 ∷ [])
     -- 28 "protects until the next log-in", whoever is the user
     ∷ call protect (done 0)

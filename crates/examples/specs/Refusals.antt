@@ -92,7 +92,9 @@ onOrder =
     ∷ call (setRandom (fresh sigla)) (done 0)
     ∷ call (readNext (fresh sigla) (filled 0)) (done 0)
     ∷ bufferIs (old 1024 128)
+    ∷ call (user 255) (done 0)
     ∷ call (user 3) (done 0)
+    ∷ call (delete (fresh sigla)) (refused 37)
     ∷ call protect (done 0)
     ∷ heldAre (2 ∷ 0 ∷ 0 ∷ 0 ∷ [])
     ∷ [])
@@ -118,12 +120,13 @@ onLengths =
     ++ lentFcb (fresh sigla) 33 ++ lentBuffer (fresh sigla) (filled 0) 33
     ++ (call (searchNext (filled 0)) (refused 33) ∷ call (setRandom (fresh sigla)) (done 0) ∷ [])
 
--- Log-in: a bad slot is looked for last, and a log-in that finds one closes the drive as any refused log-in does
+-- Log-in: a bad slot is looked for last, and a log-in that finds one closes the drive as any refused log-in does; "0 for other
+-- refusals" stands in the count's place
 abbrev pub onBadSlot : List Line
 onBadSlot =
     call (logIn (geometryOf 1024 4 0)) (refused 32)
     ∷ call (logIn (geometryOf 1024 5 1)) (refused 33)
-    ∷ call (logIn small) (badSlot 0)
+    ∷ call (logIn small) (badSlot 3)
     ∷ call (user 255) (refused 32)
     ∷ call (openFile (fresh sigla)) (refused 32)
     ∷ call protect (refused 32)
@@ -132,7 +135,7 @@ onBadSlot =
 abbrev pub refusals : List Script
 refusals =
     script (disk (entry 0 siglaReadOnly 0 0 3 (1 ∷ []) ++ entry 0 siglaReadOnly 1 0 0 [] ++ empty 30)) onOrder
-    ∷ script (disk (entry 16 sigla 0 0 0 [] ++ empty 31)) onBadSlot
+    ∷ script (disk (empty 3 ++ entry 16 sigla 0 0 0 [] ++ empty 28)) onBadSlot
     ∷ script (disk (empty 32)) onLengths
     ∷ []
 
