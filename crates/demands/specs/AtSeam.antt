@@ -85,8 +85,8 @@ touchedAtSeam (c ∷ cs) s v u name =
 
 -- the run: `churawel_log_in` of the volume v, with the bytes s for the drive, and then the calls
 module _ (g : Geometry) (v s : List ℕ) (cs : List Asked) where
-  abbrev pub shown : List SeenAtSeam
-  shown = seenAtSeam (logInAtSeam g v s) ∷ answersAtSeam cs (logInAtSeam g v s .drive) v
+  abbrev pub seenInRun : List SeenAtSeam
+  seenInRun = seenAtSeam (logInAtSeam g v s) ∷ answersAtSeam cs (logInAtSeam g v s .drive) v
 
   abbrev pub volumeLeft : List ℕ
   volumeLeft = finalAtSeam cs (logInAtSeam g v s .drive) v
@@ -110,7 +110,7 @@ logsIn = asked 13 0 [] []
 -- it shows and leaves what log-in at the door does, and then these calls, done in this way; the state that log-in is given
 -- may be any, since it looks at none
 pub record Runs (way : Way) (g : Geometry) (v s : List ℕ) (cs : List Asked) : Type 0 where
-  pub shows : shown g v s cs ≡ map inNumbers (seen (step g logsIn closed v) ∷ answers way cs (step g logsIn closed v .drive) v)
+  pub shows : seenInRun g v s cs ≡ map inNumbers (seen (step g logsIn closed v) ∷ answers way cs (step g logsIn closed v .drive) v)
   pub volume-is : volumeLeft g v s cs ≡ final way cs (step g logsIn closed v .drive) v
   pub state-is : decoded (driveLeft g v s cs) ≡ finalState way cs (step g logsIn closed v .drive) v
   pub touches-are : (u : ℕ) (name : List ℕ) → filesTouched g v s cs u name ≡ touched way cs (step g logsIn closed v .drive) v u name
@@ -128,7 +128,7 @@ SeamRuns = OverSeamRuns (λ g v s cs. Runs (step g) g v s cs)
 -- what demand 3 says: answers, control blocks and buffers are those of the plain way; so is the volume, which passes
 -- inspection, and the files that no successful call touched are in it as they were (`Kept`). A further log-in accepts.
 pub record KeptAtSeam (g : Geometry) (v s : List ℕ) (cs : List Asked) (e : Drive) : Type 0 where
-  pub shows-plain : shown g v s cs ≡ map inNumbers (answers (plain (step g)) (logsIn ∷ cs) e v)
+  pub shows-plain : seenInRun g v s cs ≡ map inNumbers (answers (plain (step g)) (logsIn ∷ cs) e v)
   pub kept : Kept (step g) g v (logsIn ∷ cs) e (answers (step g) (logsIn ∷ cs) closed v) (volumeLeft g v s cs) (filesTouched g v s cs)
   pub accepts-again : (t : List ℕ) → length t ≡ 64
       → logInAtSeam g (volumeLeft g v s cs) t .answer ≡ answered (Ready (freeCount (heldOf g (volumeLeft g v s cs)) (directoryBlocks g) (blocks g)))
