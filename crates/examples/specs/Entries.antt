@@ -1,5 +1,6 @@
 -- Files of several entries, files without a first extent, files of the same name of two users, entries of several extents,
--- entries that no log-in would accept, and the last slot: "A file is all entries of one user and one name." Values are worked out by hand.
+-- entries that no log-in would accept, and the last slot: "A file is all entries of one user and one name." Values are
+-- worked out by hand.
 use mathlib.Core.Path.{_≡_, refl}
 use mathlib.Core.List.{List, [], _∷_, _++_}
 use Prim.Native.Nat.{ℕ}
@@ -9,14 +10,18 @@ use Rattle.disk_volume.specs.Fields.{S1, EMPTY}
 use Rattle.examples.specs.Script.{logIn, openFile, closeFile, delete, readNext, writeNext, make, rename, protect, attributes, user, read, write, size, writeZeroFill, done, free, refused, badSlot, Line, call, altered, slotsAre, heldAre, volumeAt, fcbAt, fcbIs, bufferIs, Script, script, seen, told}
 use Rattle.examples.specs.Samples.{sigla, lemmata, from, systemFrom, siglaReadOnly, topped, anyName, small, disk, inPlace, entry, empty, control, fresh, recordOf, extentOf, renaming, filled, old}
 
--- Only the second entry of SIGLA.TXT is read-only, and it is the first extent; LEMMATA.TXT has its third extent alone, as a
--- system file
+-- LEMMATA.TXT as a system file
 abbrev pub lemmataSystem : List ℕ
 lemmataSystem = 76 ∷ 69 ∷ 77 ∷ 77 ∷ 65 ∷ 84 ∷ 65 ∷ 32 ∷ 84 ∷ 0xD8 ∷ 84 ∷ []
 
-abbrev pub directorySecond : List ℕ
-directorySecond = entry 0 sigla 1 0 5 (1 ∷ []) ++ entry 0 siglaReadOnly 0 0 3 (2 ∷ []) ++ entry 0 lemmataSystem 2 0 7 [] ++ empty 29
+-- the second extent of a file in slot 0, its first in slot 1
+abbrev pub turned : List ℕ → List ℕ → List ℕ
+turned later first = entry 0 later 1 0 5 (1 ∷ []) ++ entry 0 first 0 0 3 (2 ∷ [])
 
+abbrev pub lemmataThird : List ℕ
+lemmataThird = entry 0 lemmataSystem 2 0 7 []
+
+-- Only the second entry of SIGLA.TXT is read-only, and it is the first extent; LEMMATA.TXT has its third extent alone
 abbrev pub onSecond : List Line
 onSecond =
     call (logIn small) (free 1)
@@ -36,7 +41,7 @@ onSecond =
     ∷ call (rename (renaming lemmata sigla)) (refused 43)
     ∷ call (attributes (fresh sigla)) (done 0)
     ∷ call (rename (renaming sigla lemmata)) (refused 43)
-    ∷ volumeAt 0 (entry 0 sigla 1 0 5 (1 ∷ []) ++ entry 0 sigla 0 0 3 (2 ∷ []) ++ entry 0 lemmataSystem 2 0 7 [] ++ empty 29)
+    ∷ volumeAt 0 (turned sigla sigla ++ lemmataThird ++ empty 29)
     -- "the largest 128E + min(rc, 128)": it is in the lower slot
     ∷ call (size (fresh sigla)) (done 0)
     ∷ fcbIs (recordOf sigla 133)
@@ -54,7 +59,7 @@ onSecond =
     ∷ call (readNext (extentOf (from 85) 0) (filled 0)) (refused 3)
     -- its first extent, written now, has "bytes 0 to 11 of the file's lowest entry"
     ∷ call (write (recordOf lemmata 1) (filled 7)) (done 0)
-    ∷ volumeAt 64 (entry 0 lemmataSystem 2 0 7 [] ++ entry 0 lemmataSystem 0 0 2 (3 ∷ []) ++ empty 28)
+    ∷ volumeAt 64 (lemmataThird ++ entry 0 lemmataSystem 0 0 2 (3 ∷ []) ++ empty 28)
     ∷ call (rename (renaming lemmata (from 85))) (done 0)
     ∷ volumeAt 64 (entry 0 (systemFrom 85) 2 0 7 [] ++ entry 0 (systemFrom 85) 0 0 2 (3 ∷ []) ++ empty 28)
     ∷ []
@@ -65,20 +70,27 @@ abbrev pub onMixed : List Line
 onMixed =
     call (logIn small) (free 1)
     ∷ call (rename (renaming sigla (from 85))) (done 0)
-    ∷ volumeAt 0 (entry 0 (systemFrom 85) 1 0 5 (1 ∷ []) ++ entry 0 (from 85) 0 0 3 (2 ∷ []) ++ empty 30)
+    ∷ volumeAt 0 (turned (systemFrom 85) (from 85) ++ empty 30)
     -- "the file's lowest entry" is the one in the lowest slot, not of the lowest extent
     ∷ call (write (recordOf (from 85) 256) (filled 7)) (done 0)
-    ∷ volumeAt 0 (entry 0 (systemFrom 85) 1 0 5 (1 ∷ []) ++ entry 0 (from 85) 0 0 3 (2 ∷ []) ++ entry 0 (systemFrom 85) 2 0 1 (3 ∷ []) ++ empty 29)
+    ∷ volumeAt 0 (turned (systemFrom 85) (from 85) ++ entry 0 (systemFrom 85) 2 0 1 (3 ∷ []) ++ empty 29)
     -- read-only is no bar to attributes, and they go to every entry
     ∷ call (attributes (fresh (topped 85))) (done 0)
     ∷ call (write (recordOf (from 85) 0) (filled 8)) (refused 38)
     ∷ call (attributes (fresh (systemFrom 85))) (done 0)
-    ∷ volumeAt 0 (entry 0 (systemFrom 85) 1 0 5 (1 ∷ []) ++ entry 0 (systemFrom 85) 0 0 3 (2 ∷ []) ++ entry 0 (systemFrom 85) 2 0 1 (3 ∷ []) ++ empty 29)
+    ∷ volumeAt 0 (turned (systemFrom 85) (systemFrom 85) ++ entry 0 (systemFrom 85) 2 0 1 (3 ∷ []) ++ empty 29)
     ∷ []
 
 -- Two users: slot 0 is read-only and user 1's, slot 1 is user 0's, of the same name; user 1 has LEMMATA.TXT too
 abbrev pub user1Entry : List ℕ
 user1Entry = entry 1 siglaReadOnly 0 0 8 (1 ∷ [])
+
+-- user 0's after it is renamed, and two extents of LEMMATA.TXT
+abbrev pub user0Entry : List ℕ
+user0Entry = entry 0 lemmataSystem 0 0 3 (2 ∷ [])
+
+abbrev pub lemmataOf : ℕ → List ℕ
+lemmataOf whose = entry whose lemmata 0 0 0 [] ++ entry whose lemmata 1 0 1 (3 ∷ [])
 
 abbrev pub onTwoUsers : List Line
 onTwoUsers =
@@ -99,17 +111,17 @@ onTwoUsers =
     -- so do attributes and rename: that another user has the new name is no matter
     ∷ call (attributes (fresh (systemFrom 83))) (done 0)
     ∷ call (rename (renaming sigla lemmata)) (done 0)
-    ∷ volumeAt 0 (user1Entry ++ entry 0 lemmataSystem 0 0 3 (2 ∷ []) ++ entry 1 lemmata 0 0 0 [] ++ empty 29)
+    ∷ volumeAt 0 (user1Entry ++ user0Entry ++ entry 1 lemmata 0 0 0 [] ++ empty 29)
     ∷ call (user 1) (done 0)
     ∷ call (rename (renaming sigla (from 85))) (refused 38)
     ∷ call (delete (fresh anyName)) (refused 38)
     -- "bytes 0 to 11 of the file's lowest entry": its user too; the user stays over a write and a delete
     ∷ call (write (recordOf lemmata 128) (filled 8)) (done 0)
-    ∷ volumeAt 32 (entry 0 lemmataSystem 0 0 3 (2 ∷ []) ++ entry 1 lemmata 0 0 0 [] ++ entry 1 lemmata 1 0 1 (3 ∷ []) ++ empty 28)
+    ∷ volumeAt 32 (user0Entry ++ lemmataOf 1 ++ empty 28)
     ∷ heldAre (14 ∷ 0 ∷ 0 ∷ 0 ∷ [])
     ∷ call (user 255) (done 1)
     ∷ call (delete (fresh lemmata)) (done 0)
-    ∷ volumeAt 32 (entry 0 lemmataSystem 0 0 3 (2 ∷ []) ++ entry EMPTY lemmata 0 0 0 [] ++ entry EMPTY lemmata 1 0 1 (3 ∷ []) ++ empty 28)
+    ∷ volumeAt 32 (user0Entry ++ lemmataOf EMPTY ++ empty 28)
     ∷ heldAre (6 ∷ 0 ∷ 0 ∷ 0 ∷ [])
     ∷ call (user 255) (done 1)
     -- so does delete, and a read-only entry of another user is no bar; its block stays held
@@ -130,8 +142,8 @@ onTwoUsers =
 
 abbrev pub fileEntries : List Script
 fileEntries =
-    script (disk directorySecond) onSecond
-    ∷ script (disk (entry 0 (systemFrom 83) 1 0 5 (1 ∷ []) ++ entry 0 sigla 0 0 3 (2 ∷ []) ++ empty 30)) onMixed
+    script (disk (turned sigla siglaReadOnly ++ lemmataThird ++ empty 29)) onSecond
+    ∷ script (disk (turned (systemFrom 83) sigla ++ empty 30)) onMixed
     ∷ script (disk (user1Entry ++ entry 0 sigla 0 0 2 (2 ∷ []) ++ entry 1 lemmata 0 0 0 [] ++ empty 29)) onTwoUsers
     ∷ []
 
@@ -289,11 +301,14 @@ onLast =
     ∷ heldAre (0 ∷ 0 ∷ 0 ∷ 0 ∷ [])
     ∷ []
 
+abbrev pub lastSlot : ℕ → List ℕ
+lastSlot whose = empty 63 ++ entry whose sigla 0 0 128 (inPlace 15 3) ++ old 2048 2048
+
 abbrev pub oddEntries : List Script
 oddEntries =
     script (disk (empty 32)) onOdd
-    ∷ script (empty 63 ++ entry 0 sigla 0 0 128 (inPlace 15 3) ++ old 2048 2048) onLast
-    ∷ script (empty 63 ++ entry 16 sigla 0 0 128 (inPlace 15 3) ++ old 2048 2048) (call (logIn (geometryOf 1024 4 2)) (badSlot 63) ∷ [])
+    ∷ script (lastSlot 0) onLast
+    ∷ script (lastSlot 16) (call (logIn (geometryOf 1024 4 2)) (badSlot 63) ∷ [])
     ∷ []
 
 odd-entries-hold : seen oddEntries ≡ told oddEntries

@@ -1,5 +1,5 @@
--- Open and search: "slots matched as in open". Which slots a pattern hits, where entries have s2, where the directory changes
--- between two hits, and to the last slot. Values are worked out by hand.
+-- Open and search: "slots matched as in open". Which slots a pattern hits, where entries have s2, where the directory
+-- changes between two hits, and to the last slot. Values are worked out by hand.
 use mathlib.Core.Path.{_≡_, refl}
 use mathlib.Core.List.{List, [], _∷_, _++_}
 use Prim.Native.Nat.{ℕ}

@@ -120,8 +120,8 @@ onLengths =
     ++ lentFcb (fresh sigla) 33 ++ lentBuffer (fresh sigla) (filled 0) 33
     ++ (call (searchNext (filled 0)) (refused 33) ∷ call (setRandom (fresh sigla)) (done 0) ∷ [])
 
--- Log-in: a bad slot is looked for last, and a log-in that finds one closes the drive as any refused log-in does; "0 for other
--- refusals" stands in the count's place
+-- Log-in: a bad slot is looked for last, and a log-in that finds one closes the drive as any refused log-in does; "0 for
+-- other refusals" stands in the count's place
 abbrev pub onBadSlot : List Line
 onBadSlot =
     call (logIn (geometryOf 1024 4 0)) (refused 32)
