@@ -13,6 +13,7 @@ use Rattle.call_answers.specs.declared.Refusal.the-variants.{NotServed}
 use Rattle.call_decide.specs.Write.{baseEntry, writeBlock, writeTests}
 use Rattle.call_entry.specs.Alloc.{alloc}
 use Rattle.call_entry.proofs.AllocLaws.{alloc-ext}
+use Rattle.filecalls.specs.Leaves.{readSequentialLeaves, writeSequentialLeaves}
 use Rattle.filecalls.specs.declared.Drive.{Drive}
 use Rattle.filecalls.specs.State.{isOpen}
 use Rattle.filecalls.specs.Open.{openTests, openAct, closeTests, closeAct, sizeTests, sizeAct}
@@ -22,7 +23,7 @@ use Rattle.filecalls.specs.Read.{sequentialTests, randomTests, readDone, readSe
 use Rattle.filecalls.specs.Write.{writeEntry, writeChange, writeDone, writeSequentialAct, writeRandomAct, writeZeroFillAct}
 use Rattle.filecalls.specs.Small.{protectTests, protectAct, userTests, userAct, setRandomTests, setRandomAct}
 use Rattle.filecalls.specs.Outcome.{Change, keeps, takes, frees, protects, becomes, searches, Act, deny, done, changedState, withHeld, Outcome, outcome}
-use Rattle.filecalls.specs.Several.{readOne, writeOne, several}
+use Rattle.filecalls.specs.Several.{several}
 use Rattle.call_served.specs.declared.Call.{Call}
 use Rattle.call_served.specs.declared.Call.the-variants.{LogIn, Open, Close, SearchFirst, SearchNext, Delete, Make, Rename, Protect, Attributes, User, Size, SetRandom, Moves, Unserved}
 use Rattle.call_served.specs.declared.Transfer.the-variants.{ReadSequential, WriteSequential, ReadRandom, WriteRandom, WriteZeroFill, ReadSeveral, WriteSeveral}
@@ -142,15 +143,15 @@ module _ (d : Drive) (k v f b : List ℕ) where
 
 -- ---- several records
 read-several-alike : (d : Drive) (k v f b : List ℕ) (n : ℕ) → Consistent d v → Consistent (withHeld d k) v
-    → Alike (several readOne d v f b n) (several readOne (withHeld d k) v f b n)
+    → Alike (several readSequentialLeaves d v f b n) (several readSequentialLeaves (withHeld d k) v f b n)
 read-several-alike =
-    several-alike readOne (λ d k v f b c e. by-act d k v f b (read-sequential-alike d k v f b))
+    several-alike readSequentialLeaves (λ d k v f b c e. by-act d k v f b (read-sequential-alike d k v f b))
     (λ d v f b c. outcome-keeps Nothing d v f b (readSequentialAct d v f b) c (read-sequential-keeps d v f b c) .consistent)
 
 write-several-alike : (d : Drive) (k v f b : List ℕ) (n : ℕ) → Consistent d v → Consistent (withHeld d k) v
-    → Alike (several writeOne d v f b n) (several writeOne (withHeld d k) v f b n)
+    → Alike (several writeSequentialLeaves d v f b n) (several writeSequentialLeaves (withHeld d k) v f b n)
 write-several-alike =
-    several-alike writeOne (λ d k v f b c e. by-act d k v f b (sequential-alike d k v (held-same d k v c e) f b))
+    several-alike writeSequentialLeaves (λ d k v f b c e. by-act d k v f b (sequential-alike d k v (held-same d k v c e) f b))
     (λ d v f b c. outcome-keeps _ d v f b (writeSequentialAct d v f b) c (write-sequential-keeps d v f b c) .consistent)
 
 -- ---- every call

@@ -28,14 +28,15 @@ use Rattle.filecalls.specs.Search.{firstTests, searchFirstAct, hitAct, nextTest
 use Rattle.filecalls.specs.Read.{sequentialTests, randomTests, readDone, readSequentialAct, readRandomAct}
 use Rattle.filecalls.specs.Small.{protectTests, protectAct, userTests, userAct, setRandomTests, setRandomAct}
 use Rattle.filecalls.specs.Outcome.{keeps, protects, becomes, Store, Act, deny, done, unless, changedState, Outcome, outcome, left}
-use Rattle.filecalls.specs.Several.{readOne}
+use Rattle.filecalls.specs.Leaves.{readSequentialLeaves}
 use Rattle.filecalls.proofs.SeveralLaws.{read-refuses}
 use Rattle.call_served.specs.declared.Call.{Call}
 use Rattle.call_served.specs.declared.Call.the-variants.{LogIn, Open, Close, SearchFirst, SearchNext, Delete, Make, Rename, Protect, Attributes, User, Size, SetRandom, Moves, Unserved}
 use Rattle.call_served.specs.declared.Transfer.the-variants.{ReadSequential, WriteSequential, ReadRandom, WriteRandom, WriteZeroFill, ReadSeveral, WriteSeveral}
 use Rattle.bdos.specs.Step.{keepsBuffer, keepsFcb, keepsVolume}
 use Rattle.bdos.specs.Step as door
-use Rattle.demands.specs.Demand3.{Bytes, namesFile}
+use Rattle.numbers.specs.Numbers.{Bytes}
+use Rattle.demands.specs.Demand3.{namesFile}
 use Rattle.demands.proofs.Orderly.{Orderly}
 use Rattle.demands.proofs.Inspected.{sound-accepted, held-of}
 use Rattle.demands.proofs.Acts.{Consistent, Keeps, denied, does, keeps-unless, still, still-search, StepKeeps, outcome-keeps, leaves-all}
@@ -168,7 +169,7 @@ module _ (g : Geometry) (p : ℕ) (d : Drive) (v f b : List ℕ) (same : d .geom
   does-keeps SetRandom = buffer-kept b (small-keeps Nothing d v [] f [] (setRandomAct d f) c (set-random-small d f))
   does-keeps (Moves WriteZeroFill) = outcome-keeps _ d v f b _ c (write-zero-fill-keeps d v f b c small)
   does-keeps (Moves ReadSeveral) =
-      several-keeps readOne (λ w h u name. false) read-refuses (λ d v f b c. outcome-keeps Nothing d v f b (readSequentialAct d v f b) c (read-sequential-keeps d v f b c))
+      several-keeps readSequentialLeaves (λ w h u name. false) read-refuses (λ d v f b c. outcome-keeps Nothing d v f b (readSequentialAct d v f b) c (read-sequential-keeps d v f b c))
       (λ d v f b u name. refl) d v f b p c
   does-keeps (Moves WriteSeveral) = write-several-keeps d v f b p c
   does-keeps Unserved = outcome-keeps Nothing d v f b (deny NotServed) c denied

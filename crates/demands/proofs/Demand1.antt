@@ -1,18 +1,16 @@
 -- Demand 1 holds: a refusal is the first clause of `outcome`, every call's act stands under `unless` and its own tests,
 -- and what the tests refuse for does not depend on what is given.
-use mathlib.Core.Path.{_≡_, refl, sym, ap}
+use mathlib.Core.Path.{_≡_, refl, ap}
 use mathlib.Core.Bool.{Bool, true, false, cond, true≢false, false≢true}
 use mathlib.Core.Logic.{_≢_}
 use mathlib.Core.List.{List, [], _∷_}
 use Prim.Native.Nat.{ℕ, _%_, _<_}
 use native.Mathlib.Omega.{arith}
 use lib.Dec.{ltb, eqb}
-use borrow.Author.Tests.{eqb-true, lt-ltb, not-false}
+use borrow.Author.Tests.{lt-ltb, not-false}
 use Rattle.disk_geometry.specs.declared.Geometry.{Geometry}
-use Rattle.call_answers.specs.declared.Refusal.{Refusal}
 use Rattle.call_answers.specs.declared.Refusal.the-variants.{Closed, NotServed}
-use Rattle.call_answers.specs.declared.Answer.the-variants.{BadSlot, Refused}
-use Rattle.call_answers.specs.Refusal.{Test, test, refusalNumber, isNone, firstMet}
+use Rattle.call_answers.specs.Refusal.{Test, test, isNone, firstMet}
 use Rattle.call_answers.specs.Answer.{numberOf, succeeded}
 use Rattle.call_answers.proofs.Ladder.{unmet}
 use Rattle.call_delete.specs.Delete.{deleteTests}
@@ -20,11 +18,12 @@ use Rattle.call_make.specs.Make.{makeTests}
 use Rattle.call_rename.specs.Rename.{renameTests}
 use Rattle.call_read.specs.Read.{readTests}
 use Rattle.call_decide.specs.Write.{writeTests}
-use Rattle.disk_rules.specs.GoodSlot.{lowestBad}
+use Rattle.filecalls.specs.Leaves.{readSequentialLeaves, writeSequentialLeaves}
 use Rattle.filecalls.specs.declared.Drive.{Drive}
 use Rattle.filecalls.specs.Outcome.{Change, keeps, becomes, Store, Act, deny, done, unless, Outcome, outcome}
 use Rattle.filecalls.specs.State.{isOpen, closed}
-use Rattle.filecalls.specs.LogIn.{logInTests, refusedLogIn, logIn}
+use Rattle.filecalls.specs.LogIn.{logInTests, logIn}
+use Rattle.filecalls.proofs.LogInLaws.{refused-fails, refused-number}
 use Rattle.filecalls.specs.Open.{openTests, openAct, closeTests, closeAct, sizeTests, sizeAct}
 use Rattle.filecalls.specs.Search.{firstTests, searchFirstAct, nextTests, searchNextAct, hitAct}
 use Rattle.filecalls.specs.Names.{deleteLadder, deleteAct, makeLadder, makeAct, renameLadder, renameAct, attributesLadder, attributesAct}
@@ -32,7 +31,7 @@ use Rattle.filecalls.specs.Read.{sequentialTests, randomTests, readDone, readSe
 use Rattle.filecalls.specs.Write.{writeDone, writeSequentialAct, writeRandomAct, writeZeroFillAct}
 use Rattle.filecalls.specs.Small.{protectTests, protectAct, userTests, userAct, setRandomTests, setRandomAct}
 use Rattle.filecalls.proofs.StateLaws.{is-open}
-use Rattle.filecalls.specs.Several.{Single, readOne, writeOne, several}
+use Rattle.filecalls.specs.Several.{Single, several}
 use Rattle.filecalls.specs.Several.{severalTests}
 use Rattle.filecalls.proofs.SinglesLaws.{Refuses}
 use Rattle.filecalls.proofs.SeveralLaws.{leaves-all, read-refuses, write-refuses}
@@ -42,7 +41,7 @@ use Rattle.call_served.specs.declared.Transfer.the-variants.{ReadSequential, Wr
 use Rattle.bdos.specs.Step.{carries, does, step}
 use Rattle.call_served.specs.Asked.{Asked}
 use Rattle.demands.specs.Order.{paperTable, numbersOf, reasons, inOrder, testsOf, refusalsOf, among, answersOf}
-use Rattle.demands.specs.Demand1.{call, tests, answer, Leaves, Demand1}
+use Rattle.demands.specs.Demand1.{call, tests, Leaves, Demand1}
 use Rattle.demands.proofs.Says.{Says, was-met, was-none, number-among}
 use Rattle.demands.proofs.SeveralSays.{read-says, write-says}
 
@@ -107,8 +106,8 @@ call-kept g SetRandom p d v f b n h =
     let k = kept d [] f [] (setRandomAct d f) h in
     record { state-is = k .state-is; volume-kept = refl; fcb-kept = k .fcb-kept; buffer-kept = refl }
 call-kept g (Moves WriteZeroFill) p d v f b n h = kept d v f b (writeZeroFillAct d v f b) h
-call-kept g (Moves ReadSeveral) p d v f b n h = several-kept readOne read-refuses d v f b p h
-call-kept g (Moves WriteSeveral) p d v f b n h = several-kept writeOne write-refuses d v f b p h
+call-kept g (Moves ReadSeveral) p d v f b n h = several-kept readSequentialLeaves read-refuses d v f b p h
+call-kept g (Moves WriteSeveral) p d v f b n h = several-kept writeSequentialLeaves write-refuses d v f b p h
 call-kept g Unserved p d v f b n h = kept d v f b (deny NotServed) h
 
 -- ---- a refused log-in
@@ -152,15 +151,7 @@ user-says d p = go (eqb p 255)
 
 pub log-in-says : (g : Geometry) (v : List ℕ) → Says (logIn g v .answer) (logInTests g v) (λ n. ltb n 1)
 unfolding logIn
-log-in-says g v = record { met = λ e. rw e (which (firstMet (logInTests g v))); none = λ e. rw e (refl, refl) }
-  where
-    which : (why : Refusal) → (succeeded (refusedLogIn why (lowestBad g v)) ≡ false) × (numberOf (refusedLogIn why (lowestBad g v)) ≡ refusalNumber why)
-    which why = unfold refusedLogIn in go (eqb (refusalNumber why) 36) refl
-      where
-        go : (t : Bool) → eqb (refusalNumber why) 36 ≡ t
-            → (succeeded (cond t (BadSlot (lowestBad g v)) (Refused why)) ≡ false) × (numberOf (cond t (BadSlot (lowestBad g v)) (Refused why)) ≡ refusalNumber why)
-        go true e = (refl, sym (eqb-true (refusalNumber why) 36 e))
-        go false e = (refl, refl)
+log-in-says g v = record { met = λ e. rw e (refused-fails g v, refused-number g v e); none = λ e. rw e (refl, refl) }
 
 unserved-says : (d : Drive) (v f b : List ℕ) → Says (outcome d v f b (deny NotServed) .answer) (test NotServed true ∷ []) (λ n. ltb n 0)
 unfolding outcome firstMet
@@ -240,12 +231,12 @@ in-table-order (Moves WriteSeveral) n = refl
 in-table-order Unserved n = absurd (n refl)
 
 -- ---- all together
-pub step-says : (g : Geometry) (c : Asked) (d : Drive) (v : List ℕ) → Says (answer g c d v) (tests g c d v) (answersOf (call c))
+pub step-says : (g : Geometry) (c : Asked) (d : Drive) (v : List ℕ) → Says (step g c d v .answer) (tests g c d v) (answersOf (call c))
 unfolding step
 step-says g c d v = call-says g (c .parameter) d v (c .fcb) (c .buffer) (call c)
 
-refusal-among : (g : Geometry) (c : Asked) (d : Drive) (v : List ℕ) → succeeded (answer g c d v) ≡ false
-    → among (numberOf (answer g c d v)) (numbersOf (refusalsOf (call c))) ≡ true
+refusal-among : (g : Geometry) (c : Asked) (d : Drive) (v : List ℕ) → succeeded (step g c d v .answer) ≡ false
+    → among (numberOf (step g c d v .answer)) (numbersOf (refusalsOf (call c))) ≡ true
 refusal-among g c d v h =
     let s = step-says g c d v in
     let m = was-met s h in

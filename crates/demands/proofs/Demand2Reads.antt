@@ -22,7 +22,7 @@ use Rattle.call_read.specs.Read.{readBlock, readTests, readBytes}
 use Rattle.disk_geometry.proofs.InsideLaws.{is-inside}
 use Rattle.filecalls.specs.declared.Drive.{Drive}
 use Rattle.filecalls.specs.Outcome.{unless, Outcome, outcome}
-use Rattle.filecalls.specs.CodeReady.{Open}
+use Rattle.filecalls.specs.CodeReady.{OpenState}
 use Rattle.filecalls.specs.State.{isOpen}
 use Rattle.filecalls.specs.Read.{sequentialTests, randomTests, readDone, readSequentialAct, readRandomAct}
 use Rattle.filecalls.proofs.OutcomeLaws as laws
@@ -87,7 +87,7 @@ module _ (g : Geometry) (p : ℕ) (d : Drive) (v f b : List ℕ) where
         has-bytes = sym (buffer-left (random f) (random f % 128) (testsOf g (Moves ReadRandom) p d v f b) e);
       }
 
-  opened : {k : Call} {n : ℕ} {ts : List Test} → Reads d v f b k n ts → isNone (firstMet ts) ≡ true → Open d
+  opened : {k : Call} {n : ℕ} {ts : List Test} → Reads d v f b k n ts → isNone (firstMet ts) ≡ true → OpenState d
   unfolding sequentialTests randomTests
   opened in-sequence e = is-open d (not-false (isOpen d) (unmet Closed _ _ refl e .0))
   opened at-random e = is-open d (not-false (isOpen d) (unmet Closed _ _ refl e .0))

@@ -25,7 +25,7 @@ use Rattle.call_write.proofs.AfterLaws.{after-present}
 use Rattle.call_entry.proofs.HeadLaws.{head, head-set}
 use Rattle.filecalls.specs.declared.Drive.{Drive}
 use Rattle.filecalls.specs.Outcome.{unless, Outcome, outcome}
-use Rattle.filecalls.specs.CodeReady.{Open, Lent}
+use Rattle.filecalls.specs.CodeReady.{OpenState, Lent}
 use Rattle.filecalls.specs.CodeLadder.{namedTests, sequentialLent, randomLent}
 use Rattle.filecalls.specs.Read.{sequentialTests, randomTests}
 use Rattle.filecalls.specs.Write.{writeDone, directoryTests, writeSequentialAct, writeRandomAct, writeZeroFillAct}
@@ -45,7 +45,7 @@ use Rattle.demands.proofs.Demand2Others.{is-present, Stays, bytes-after
 -- ---- what the tests tell
 -- a write whose tests are not met: what is lent is right, and the directory's tests pass
 pub record Clear (d : Drive) (v f r : List ℕ) (n : ℕ) : Type 0 where
-  pub state : Open d
+  pub state : OpenState d
   pub size : length v ≡ bytes (d .geometry)
   pub fcb : length f ≡ 36
   pub record128 : length r ≡ 128

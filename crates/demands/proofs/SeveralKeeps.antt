@@ -9,10 +9,11 @@ use Rattle.lists.specs.Bytes.{part}
 use Rattle.disk_geometry.specs.declared.Geometry.{Geometry}
 use Rattle.disk_volume.specs.Name.{nameOf, same}
 use Rattle.call_answers.specs.Answer.{succeeded}
+use Rattle.filecalls.specs.Leaves.{writeSequentialLeaves}
 use Rattle.filecalls.specs.declared.Drive.{Drive}
 use Rattle.filecalls.specs.Outcome.{Outcome}
 use Rattle.filecalls.specs.Write.{writeSequentialAct}
-use Rattle.filecalls.specs.Several.{Single, writeOne, onPiece, several}
+use Rattle.filecalls.specs.Several.{Single, onPiece, several}
 use Rattle.filecalls.proofs.SinglesLaws.{Holds, Refuses}
 use Rattle.filecalls.proofs.SeveralLaws as laws
 use Rattle.bdos.specs.Step.{carries, does}
@@ -76,28 +77,28 @@ module _ (single : Single) (names : ℕ → List ℕ → ℕ → List ℕ → Bo
 -- ---- the writes: each leaves the user, and the name in the control block
 module _ (d : Drive) (v f b : List ℕ) where
   record SameFile : Type 0 where
-    user-is : writeOne d v f b .drive .user ≡ d .user
-    name-is : nameOf (writeOne d v f b .fcb) ≡ nameOf f
+    user-is : writeSequentialLeaves d v f b .drive .user ≡ d .user
+    name-is : nameOf (writeSequentialLeaves d v f b .fcb) ≡ nameOf f
 
-  done-same : succeeded (writeOne d v f b .answer) ≡ true → SameFile
+  done-same : succeeded (writeSequentialLeaves d v f b .answer) ≡ true → SameFile
   unfolding does carries
   done-same e = let n = next-call (d .geometry) 0 d v f b e in record { user-is = n .user-is; name-is = n .name-is }
 
-  refused-same : succeeded (writeOne d v f b .answer) ≡ false → SameFile
+  refused-same : succeeded (writeSequentialLeaves d v f b .answer) ≡ false → SameFile
   refused-same e =
       let z = laws.write-refuses d v f b e in
       record { user-is = ap (λ (o : Outcome). o .drive .user) z; name-is = ap (λ (o : Outcome). nameOf (o .fcb)) z }
 
   same-file : SameFile
-  same-file = go (succeeded (writeOne d v f b .answer)) refl
+  same-file = go (succeeded (writeSequentialLeaves d v f b .answer)) refl
     where
-      go : (t : Bool) → succeeded (writeOne d v f b .answer) ≡ t → SameFile
+      go : (t : Bool) → succeeded (writeSequentialLeaves d v f b .answer) ≡ t → SameFile
       go true e = done-same e
       go false e = refused-same e
 
 pub write-several-keeps : (d : Drive) (v f b : List ℕ) (k : ℕ) → Consistent d v
-    → StepKeeps (λ u name. eqb u (d .user) && same name (nameOf f)) d v (several writeOne d v f b k)
+    → StepKeeps (λ u name. eqb u (d .user) && same name (nameOf f)) d v (several writeSequentialLeaves d v f b k)
 write-several-keeps =
-    several-keeps writeOne (λ w h u name. eqb u w && same name (nameOf h)) laws.write-refuses
+    several-keeps writeSequentialLeaves (λ w h u name. eqb u w && same name (nameOf h)) laws.write-refuses
     (λ d v f b c. outcome-keeps (λ u name. eqb u (d .user) && same name (nameOf f)) d v f b (writeSequentialAct d v f b) c (write-sequential-keeps d v f b c))
     (λ d v f b u name. let s = same-file d v f b in rw (s .user-is, s .name-is))

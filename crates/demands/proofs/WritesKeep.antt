@@ -14,18 +14,18 @@ use Rattle.call_answers.proofs.Ladder.{unmet}
 use Rattle.call_decide.specs.Write.{needsBlock, writeBlock, writeTests}
 use Rattle.call_write.specs.CodeAfter.{volumeAfter}
 use Rattle.filecalls.specs.declared.Drive.{Drive}
-use Rattle.filecalls.specs.CodeReady.{Open}
+use Rattle.filecalls.specs.CodeReady.{OpenState}
 use Rattle.filecalls.specs.Outcome.{stored, storedAll, changedState}
 use Rattle.filecalls.specs.Read.{sequentialTests, randomTests}
 use Rattle.filecalls.specs.Write.{writeEntry, writeChange, writeDone, directoryTests, writeSequentialAct, writeDirectAct, writeRandomAct, writeZeroFillAct}
 use Rattle.filecalls.proofs.LentLaws.{sequential-lent, random-lent, sequential-passed, random-passed}
 use Rattle.filecalls.proofs.StateLaws.{both-clear}
 use Rattle.filecalls.proofs.WriteLaws.{taken}
-use Rattle.demands.specs.Demand3.{Bytes}
+use Rattle.numbers.specs.Numbers.{Bytes}
 use Rattle.demands.proofs.Acts.{Consistent, Keeps, does, keeps-unless, leaves-apart}
 use Rattle.demands.proofs.WriteKeeps.{write-size, write-sound, write-held, write-apart}
 
-module _ (d : Drive) (v f : List ℕ) (c : Consistent d v) (o : Open d) where
+module _ (d : Drive) (v f : List ℕ) (c : Consistent d v) (o : OpenState d) where
   -- record n is written with the bytes r
   module _ (n : ℕ) (fills : Bool) (r : List ℕ) (n< : n < 65536) (r128 : length r ≡ 128) (h : isNone (firstMet (directoryTests d v f n)) ≡ true) where
     passed : isNone (firstMet (writeTests (d .geometry) (d .held) v (d .user) (nameOf f) n)) ≡ true

@@ -84,8 +84,8 @@ inOrder ws [] = noneLeft ws
 inOrder ws (row ∷ rows) = inOrder (after row ws) rows
 
 -- what a sequential call tests of the control block once what is lent is right
-abbrev pub blockTests : List ℕ → List Test
-blockTests fcb = driveCode fcb ∷ badName false fcb 1 ∷ tooLarge (positionFits fcb) ∷ beyond (eqb (position fcb) 65536) ∷ []
+abbrev pub fcbTests : List ℕ → List Test
+fcbTests fcb = driveCode fcb ∷ badName false fcb 1 ∷ tooLarge (positionFits fcb) ∷ beyond (eqb (position fcb) 65536) ∷ []
 
 -- every call's tests, whatever it is given; those of several records are of the first of them: where one is met none is done
 abbrev pub testsOf : Geometry → Call → ℕ → Drive → List ℕ → List ℕ → List ℕ → List Test
@@ -107,8 +107,8 @@ testsOf g (Moves WriteRandom) p d v fcb b = randomTests d v fcb b ++ directoryTe
 testsOf g Size p d v fcb b = sizeTests d v fcb
 testsOf g SetRandom p d v fcb b = setRandomTests d fcb
 testsOf g (Moves WriteZeroFill) p d v fcb b = randomTests d v fcb b ++ directoryTests d v fcb (random fcb)
-testsOf g (Moves ReadSeveral) p d v fcb b = severalTests d v fcb b p ++ (blockTests fcb ++ readTests (d .geometry) v (d .user) (nameOf fcb) (position fcb) Absent)
-testsOf g (Moves WriteSeveral) p d v fcb b = severalTests d v fcb b p ++ (blockTests fcb ++ directoryTests d v fcb (position fcb))
+testsOf g (Moves ReadSeveral) p d v fcb b = severalTests d v fcb b p ++ (fcbTests fcb ++ readTests (d .geometry) v (d .user) (nameOf fcb) (position fcb) Absent)
+testsOf g (Moves WriteSeveral) p d v fcb b = severalTests d v fcb b p ++ (fcbTests fcb ++ directoryTests d v fcb (position fcb))
 testsOf g Unserved p d v fcb b = test NotServed true ∷ []
 
 -- the refusals of every call, as the paper's table gives them

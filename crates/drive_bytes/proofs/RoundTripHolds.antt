@@ -19,7 +19,7 @@ use Rattle.filecalls.specs.State.{isOpen, closed, noSearch}
 use Rattle.filecalls.specs.Outcome.{withSearch}
 use Rattle.filecalls.specs.Search.{isKept}
 use Rattle.numbers.specs.Numbers.{Bytes, bytesOf, number, bytesFrom, zeros}
-use Rattle.drive_bytes.specs.Layout.{headBytes, keptBytes, searchBytes, heldBytes, encoded, kindStored, fields, isDrive, decoded}
+use Rattle.drive_bytes.specs.Layout.{headBytes, keptBytes, searchBytes, heldBytes, encoded, kindStored, fields, goodFlag, isDrive, decoded}
 use Rattle.drive_bytes.specs.RoundTrip.{Carried, DecodeEncode, EncodeDecode, ReadCarried, ClosedIsZeros}
 use Rattle.numbers.proofs.NumberLaws.{number-bytes, bytes-number, number-low, part-bytes, bytes-from, zeros-are}
 use Rattle.drive_bytes.proofs.LoadLaws.{drive-whole}
@@ -149,7 +149,7 @@ module _ (s : List ℕ) (bytes : Bytes s) (drive : isDrive s ≡ true) where
   unfolding isDrive
   laid =
       let whole = eqb (length s) 64 in
-      let flag = leb (byte s 7) 1 in
+      let flag = goodFlag s in
       let kind = leb (byte s 8) 2 in
       let p = and-parts (whole && flag && kind && zeros (part s 24 8)) _ drive in
       let q = and-parts (whole && flag && kind) _ (p .0) in

@@ -93,7 +93,9 @@ heldWord s k = number (part s (HELD-AT + 8 * k) 8)
 unfoldable pub fields : List ℕ → Drive
 fields s =
     record {
-      geometry = geometryOf (number (part s BLOCK-BYTES-AT 2)) (number (part s BLOCKS-AT 2)) (number (part s DIRECTORY-BLOCKS-AT 2));
+      geometry =
+          geometryOf (number (part s BLOCK-BYTES-AT 2)) (number (part s BLOCKS-AT 2))
+          (number (part s DIRECTORY-BLOCKS-AT 2));
       user = byte s USER-AT;
       protected = eqb (byte s PROTECTED-AT) 1;
       search =
@@ -106,11 +108,15 @@ fields s =
       held = heldWord s 0 ∷ heldWord s 1 ∷ heldWord s 2 ∷ heldWord s 3 ∷ [];
     }
 
+-- "7 protected (0, 1)"
+abbrev pub goodFlag : List ℕ → Bool
+goodFlag s = leb (byte s PROTECTED-AT) 1
+
 -- the bytes are laid out as a drive's
 unfoldable pub isDrive : List ℕ → Bool
 isDrive s =
     eqb (length s) driveBytes
-    && leb (byte s PROTECTED-AT) 1
+    && goodFlag s
     && leb (byte s SEARCH-AT) 2
     && zeros (part s SPARE-AT (HELD-AT - SPARE-AT))
     && (not (eqb (byte s SEARCH-AT) 0) || zeros (part s SEARCH-USER-AT (SPARE-AT - SEARCH-USER-AT)))

@@ -1,4 +1,5 @@
--- All that each call leaves: its act, done with the state and with what the call is lent. What it is not lent is empty here.
+-- All that each call leaves: its act, done with the state and with what the call is lent. What it is not lent is
+-- empty here.
 use mathlib.Core.List.{List, []}
 use Prim.Native.Nat.{ℕ}
 use Rattle.filecalls.specs.declared.Drive.{Drive}

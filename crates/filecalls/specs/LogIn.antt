@@ -29,7 +29,8 @@ logInTests g v = lentLogIn g v ++ (test BadSlot (ltb (lowestBad g v) (slots g)) 
 -- "36, the lowest bad slot in the count's place (0 for other refusals)": where 32 and 33 are not met, 36 is
 unfoldable pub refusedLogIn : Geometry → List ℕ → Answer
 refusedLogIn g v =
-    cond (isNone (firstMet (lentLogIn g v))) (answer.BadSlot (lowestBad g v)) (answer.Refused (firstMet (lentLogIn g v)))
+    cond (isNone (firstMet (lentLogIn g v))) (answer.BadSlot (lowestBad g v))
+    (answer.Refused (firstMet (lentLogIn g v)))
 
 unfoldable pub logIn : Geometry → List ℕ → Reply
 logIn g v =

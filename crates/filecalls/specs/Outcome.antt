@@ -85,7 +85,13 @@ pub record Outcome : Type 0 where
 unfoldable pub outcome : Drive → List ℕ → List ℕ → List ℕ → Act → Outcome
 outcome d v fcb b (deny why) = record { answer = Refused why; drive = d; volume = v; fcb = fcb; buffer = b }
 outcome d v fcb b (done code change stores fcb′ b′) =
-    record { answer = Done code; drive = changedState d v change; volume = storedAll (d .geometry) v stores; fcb = fcb′; buffer = b′ }
+    record {
+      answer = Done code;
+      drive = changedState d v change;
+      volume = storedAll (d .geometry) v stores;
+      fcb = fcb′;
+      buffer = b′;
+    }
 
 -- a reply with the bytes that stand after the call
 abbrev pub left : Reply → List ℕ → List ℕ → List ℕ → Outcome

@@ -30,8 +30,8 @@ piecesLength k b = test BufferLength (not (eqb (length b) (recordBytes * k)))
 unfoldable pub severalTests : Drive → List ℕ → List ℕ → List ℕ → ℕ → List Test
 severalTests d v fcb b k = closedState d ∷ volumeLength d v ∷ fcbLength fcb ∷ badCount k ∷ piecesLength k b ∷ []
 
--- a single call, `readSequentialLeaves` or `writeSequentialLeaves`: of state, volume, control block and transfer buffer all
--- that it leaves
+-- a single call, `readSequentialLeaves` or `writeSequentialLeaves`: of state, volume, control block and transfer buffer
+-- all that it leaves
 abbrev pub Single : Type 0
 Single = Drive → List ℕ → List ℕ → List ℕ → Outcome
 

@@ -27,11 +27,13 @@ goodKept Nothing user last pattern n = true
 goodKept Everything user last pattern n = leb user 15 && ltb last n
 goodKept Pattern user last pattern n = leb user 15 && ltb last n && goodPattern pattern
 
+abbrev pub goodSearch : Drive → Bool
+goodSearch d =
+    goodKept (d .search .kind) (d .search .user) (d .search .last) (d .search .pattern) (slots (d .geometry))
+
 -- "A state whose geometry, user or kept search is outside the rules counts as closed."
 unfoldable pub isOpen : Drive → Bool
-isOpen d =
-    lawful (d .geometry) && leb (d .user) 15
-    && goodKept (d .search .kind) (d .search .user) (d .search .last) (d .search .pattern) (slots (d .geometry))
+isOpen d = lawful (d .geometry) && leb (d .user) 15 && goodSearch d
 
 abbrev pub noSearch : KeptSearch
 noSearch = record { kind = Nothing; user = 0; last = 0; pattern = replicate patternBytes 0 }

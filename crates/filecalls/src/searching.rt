@@ -73,7 +73,8 @@ impl Drive {
         ensures { λ r. ⌜
             ((fcb : List ℕ)
             → left r (now (volume .entry)) fcb (now (buffer .exit))
-            ≡ outcome self (now (volume .entry)) fcb (now (buffer .entry)) (searchOnAct self (now (volume .entry)) fcb search from))
+            ≡ outcome self (now (volume .entry)) fcb (now (buffer .entry))
+            (searchOnAct self (now (volume .entry)) fcb search from))
             ⌝ }
     {
         let g = self.geometry;
