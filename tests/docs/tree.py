@@ -27,11 +27,13 @@ class Tree:
         self.modules = {file.stem for file in (*self.defined, *self.sources)}
 
     def path(self, word):
-        """the file or folder that a word with a stroke names, if there is one; the folder crates and an ending may be left out"""
-        for folder in (ROOT, CRATES):
+        """the file or folder that a word with a stroke names, if there is one; the folder crates and an ending may be left out,
+        and ROOM/FILE is a file of definitions"""
+        room, _, rest = word.partition("/")
+        for folder, inside in ((ROOT, word), (CRATES, word), (CRATES / room / "specs", rest)):
             for ending in ("", ".antt", ".rt"):
-                if (folder / (word + ending)).exists():
-                    return folder / (word + ending)
+                if inside and (folder / (inside + ending)).exists():
+                    return folder / (inside + ending)
         return None
 
     def has_function(self, word):
