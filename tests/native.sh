@@ -3,7 +3,7 @@
 # processor Debian's cross compiler and QEMU's user emulator do. What is lacking is installed by apt, and said so.
 
 FLAGS="-std=c11 -O2 -Wall -Wextra -pedantic -Iinclude"
-ARCHIVE=target/staticlib/libemulator.a
+ARCHIVE=target/staticlib/libchurawel.a
 mkdir -p "$OUT"
 
 install_packages() {
@@ -39,7 +39,7 @@ fi
 # error.
 archive() {
     if [ ! -e "$ARCHIVE" ] || [ -n "$(find crates crates.txt -newer "$ARCHIVE" -print -quit)" ]; then
-        rt staticlib emulator >&2
+        rt staticlib churawel >&2
     fi
 }
 

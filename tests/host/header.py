@@ -15,14 +15,14 @@ SLICES = {"&[u8]": "const uint8_t *", "&mut [u8]": "uint8_t *"}
 # Where a length stands in the source: as a constant, or in the tests that refuse another one.
 LENGTHS = {
     "DRIVE_BYTES": r"\bconst DRIVE_BYTES: usize = (\d+);",
-    "FCB_BYTES": r"Refusal::BlockLength, [\w.()]+ != (\d+)\)",
-    "BUFFER_BYTES": r"Refusal::BufferLength, [\w.()]+ != (\d+)\b",
+    "FCB_BYTES": r"\bconst FCB_BYTES: usize = (\d+);",
+    "BUFFER_BYTES": r"\bconst RECORD_BYTES: usize = (\d+);",
     "RECORDS_MOST": r"Refusal::BadCount, .* <= (\d+)\)",
 }
 
 # Names that the header has and the source has not: a name for each number of a call, and a name for a refusal.
 CALLS = {"LogIn": ["RESET", "RESET_DRIVE"], "Protect": ["WRITE_PROTECT"]}
-REFUSALS = {"BlockLength": "FCB_LENGTH", "BadCount": "COUNT", "NoRoom": "NO_MATCH"}
+REFUSALS = {"BadCount": "COUNT", "NoRoom": "NO_MATCH"}
 
 
 # ---- the source

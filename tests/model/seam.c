@@ -1,4 +1,4 @@
-/* The emulator's archive behind a pipe: the model writes what a call is lent, and reads what it left. So the model itself is
+/* The seam's archive behind a pipe: the model writes what a call is lent, and reads what it left. So the model itself is
    built for the machine that it runs on, and the archive, which is for x86-64, may run under an emulator.
 
    A request: 0 for churawel_log_in or 1 for churawel_call, function, parameter, one byte unused; then B, T, D and the lengths of

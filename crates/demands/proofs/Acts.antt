@@ -4,16 +4,16 @@ use mathlib.Core.Bool.{Bool, true, false, cond, _&&_}
 use mathlib.Core.List.{List, []}
 use Prim.Native.Nat.{ℕ, _≤_}
 use lib.ListN.{length}
-use Rattle.geometry.specs.declared.Geometry.{Geometry}
-use Rattle.geometry.specs.Geometry.{lawful, bytes}
-use Rattle.volume.specs.Directory.{slotAt}
-use Rattle.volume.specs.Record.{present}
-use Rattle.answers.specs.declared.Refusal.{Refusal}
-use Rattle.answers.specs.Refusal.{Test, isNone, firstMet}
-use Rattle.answers.specs.Answer.{succeeded}
-use Rattle.reading.specs.Read.{readBytes}
+use Rattle.disk_geometry.specs.declared.Geometry.{Geometry}
+use Rattle.disk_geometry.specs.Geometry.{lawful, bytes}
+use Rattle.disk_volume.specs.Directory.{slotAt}
+use Rattle.disk_volume.specs.Record.{present}
+use Rattle.call_answers.specs.declared.Refusal.{Refusal}
+use Rattle.call_answers.specs.Refusal.{Test, isNone, firstMet}
+use Rattle.call_answers.specs.Answer.{succeeded}
+use Rattle.call_read.specs.Read.{readBytes}
 use Rattle.filecalls.specs.declared.Drive.{Drive}
-use Rattle.filecalls.specs.declared.Search.{Search}
+use Rattle.filecalls.specs.declared.KeptSearch.{KeptSearch}
 use Rattle.filecalls.specs.Outcome.{Change, keeps, takes, frees, protects, becomes, searches, Store, Act, deny, done, unless, storedAll, changedState, Outcome, outcome}
 use Rattle.demands.proofs.Orderly.{Orderly, Held}
 use Rattle.demands.proofs.Frame.{Apart, present-same, bytes-same}
@@ -60,7 +60,7 @@ module _ (touches : ℕ → List ℕ → Bool) (d : Drive) (v : List ℕ) (c : C
   unfolding changedState storedAll
   still = record { consistent = c; others = λ u name l h. leaves-all }
 
-  pub still-search : (q : Search) → Done touches d v (searches q) []
+  pub still-search : (q : KeptSearch) → Done touches d v (searches q) []
   unfolding changedState storedAll
   still-search q = record { consistent = record { law = c .law; size = c .size; sound = c .sound; held = c .held }; others = λ u name l h. leaves-all }
 

@@ -3,15 +3,15 @@ use mathlib.Core.Path.{_≡_, refl, _∙_}
 use mathlib.Core.List.{List, [], _∷_}
 use Prim.Native.Nat.{ℕ}
 use Rattle.lists.proofs.BoolLaws.{and-left}
-use Rattle.geometry.specs.declared.Geometry.{Geometry}
-use Rattle.geometry.specs.Geometry.{slots, inside}
-use Rattle.goodslots.specs.GoodSlot.{namedBelow}
-use Rattle.goodslots.specs.Named.{named, heldOf}
-use Rattle.geometry.proofs.InsideLaws.{inside-is}
+use Rattle.disk_geometry.specs.declared.Geometry.{Geometry}
+use Rattle.disk_geometry.specs.Geometry.{slots, inside}
+use Rattle.disk_rules.specs.GoodSlot.{namedBelow}
+use Rattle.disk_rules.specs.Named.{named, heldOf}
+use Rattle.disk_geometry.proofs.InsideLaws.{inside-is}
 use Rattle.filecalls.specs.declared.Drive.{Drive}
 use Rattle.filecalls.specs.State.{loggedIn}
 use Rattle.bdos.specs.Step.{step}
-use Rattle.served.specs.Asked.{Asked}
+use Rattle.call_served.specs.Asked.{Asked}
 use Rattle.demands.specs.Run.{final, finalState}
 use Rattle.demands.specs.Demand2.{Sound}
 use Rattle.demands.specs.Demand3.{BytesLent}

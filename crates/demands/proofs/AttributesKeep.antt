@@ -6,15 +6,15 @@ use Prim.Native.Nat.{ℕ, _<_}
 use lib.Dec.{eqb}
 use borrow.Author.Tests.{not-false}
 use Rattle.lists.specs.Bytes.{part}
-use Rattle.geometry.specs.Geometry.{slots}
-use Rattle.volume.specs.Name.{nameOf, goodName, same}
-use Rattle.volume.specs.Entry.{Entry, ofFile}
-use Rattle.volume.specs.Directory.{slotAt}
-use Rattle.answers.specs.declared.Refusal.the-variants.{Closed, VolumeLength, BlockLength, DriveCode, Name}
-use Rattle.answers.specs.Refusal.{isNone, firstMet}
-use Rattle.answers.proofs.Ladder.{unmet}
-use Rattle.sweeping.specs.declared.Edit.the-variants.{Attributes}
-use Rattle.sweeping.specs.Sweep.{attributed, changed}
+use Rattle.disk_geometry.specs.Geometry.{slots}
+use Rattle.disk_volume.specs.Name.{nameOf, goodName, same}
+use Rattle.disk_volume.specs.Entry.{Entry, ofFile}
+use Rattle.disk_volume.specs.Directory.{slotAt}
+use Rattle.call_answers.specs.declared.Refusal.the-variants.{Closed, VolumeLength, FcbLength, DriveCode, Name}
+use Rattle.call_answers.specs.Refusal.{isNone, firstMet}
+use Rattle.call_answers.proofs.Ladder.{unmet}
+use Rattle.call_sweep.specs.declared.Edit.the-variants.{Attributes}
+use Rattle.call_sweep.specs.Sweep.{attributed, changed}
 use Rattle.filecalls.specs.declared.Drive.{Drive}
 use Rattle.filecalls.specs.Outcome.{stored, storedAll, changedState}
 use Rattle.filecalls.specs.Names.{attributesLadder, attributesAct}
@@ -28,8 +28,8 @@ unfolding attributesLadder
 good-name d v f h =
     let closed = unmet Closed _ _ refl h in
     let volume = unmet VolumeLength _ _ refl (closed .1) in
-    let block = unmet BlockLength _ _ refl (volume .1) in
-    let drive = unmet DriveCode _ _ refl (block .1) in
+    let fcb = unmet FcbLength _ _ refl (volume .1) in
+    let drive = unmet DriveCode _ _ refl (fcb .1) in
     not-false _ (unmet Name _ _ refl (drive .1) .0)
 
 attributes-hit : (u : ℕ) (name new : List ℕ) (e : Entry) → ofFile u name e ≡ true → changed Attributes u name new e ≡ attributed e new

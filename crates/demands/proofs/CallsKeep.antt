@@ -7,35 +7,35 @@ use native.Mathlib.Omega.{arith}
 use lib.Dec.{eqb}
 use lib.ListN.{length}
 use borrow.Author.Tests.{eq-eqb, le-ltb}
-use Rattle.geometry.specs.declared.Geometry.{Geometry}
-use Rattle.geometry.specs.Geometry.{lawful, bytes, slots}
-use Rattle.volume.specs.Directory.{slotAt}
-use Rattle.volume.specs.Name.{nameOf}
-use Rattle.blocks.specs.Held.{freeCount}
-use Rattle.control.specs.Block.{position, random}
-use Rattle.answers.specs.declared.Refusal.{Refusal}
-use Rattle.answers.specs.declared.Refusal.the-variants.{NoGroup, Absent, NotServed}
-use Rattle.answers.specs.declared.Answer.the-variants as answer
-use Rattle.answers.specs.Refusal.{Test, isNone, firstMet}
-use Rattle.goodslots.specs.GoodSlot.{lowestBad}
-use Rattle.goodslots.specs.Named.{heldOf}
-use Rattle.reading.specs.Read.{readTests}
+use Rattle.disk_geometry.specs.declared.Geometry.{Geometry}
+use Rattle.disk_geometry.specs.Geometry.{lawful, bytes, slots}
+use Rattle.disk_volume.specs.Directory.{slotAt}
+use Rattle.disk_volume.specs.Name.{nameOf}
+use Rattle.disk_held.specs.Held.{freeCount}
+use Rattle.call_fcb.specs.Fcb.{position, random}
+use Rattle.call_answers.specs.declared.Refusal.{Refusal}
+use Rattle.call_answers.specs.declared.Refusal.the-variants.{NoGroup, Absent, NotServed}
+use Rattle.call_answers.specs.declared.Answer.the-variants as answer
+use Rattle.call_answers.specs.Refusal.{Test, isNone, firstMet}
+use Rattle.disk_rules.specs.GoodSlot.{lowestBad}
+use Rattle.disk_rules.specs.Named.{heldOf}
+use Rattle.call_read.specs.Read.{readTests}
 use Rattle.filecalls.specs.declared.Drive.{Drive}
 use Rattle.filecalls.specs.State.{loggedIn}
 use Rattle.filecalls.specs.LogIn.{logInTests, logIn}
 use Rattle.filecalls.specs.Open.{openTests, openAct, closeTests, closeAct, sizeTests, sizeAct}
-use Rattle.filecalls.specs.Search.{firstTests, searchFirstAct, shown, nextTests, searchNextAct}
+use Rattle.filecalls.specs.Search.{firstTests, searchFirstAct, hitAct, nextTests, searchNextAct}
 use Rattle.filecalls.specs.Read.{sequentialTests, randomTests, readDone, readSequentialAct, readRandomAct}
 use Rattle.filecalls.specs.Small.{protectTests, protectAct, userTests, userAct, setRandomTests, setRandomAct}
 use Rattle.filecalls.specs.Outcome.{keeps, protects, becomes, Store, Act, deny, done, unless, changedState, Outcome, outcome, left}
-use Rattle.several.specs.Several.{readOne}
-use Rattle.several.proofs.SeveralLaws.{read-refuses}
-use Rattle.served.specs.declared.Call.{Call}
-use Rattle.served.specs.declared.Call.the-variants.{LogIn, Open, Close, SearchFirst, SearchNext, Delete, Make, Rename, Protect, Attributes, User, Size, SetRandom, Moves, Unserved}
-use Rattle.served.specs.declared.Transfer.the-variants.{ReadSequential, WriteSequential, ReadRandom, WriteRandom, WriteZeroFill, ReadSeveral, WriteSeveral}
-use Rattle.bdos.specs.Step.{keepsBuffer, keepsBlock, keepsVolume}
+use Rattle.filecalls.specs.Leaves.{readSequentialLeaves}
+use Rattle.filecalls.proofs.SeveralLaws.{read-refuses}
+use Rattle.call_served.specs.declared.Call.{Call}
+use Rattle.call_served.specs.declared.Call.the-variants.{LogIn, Open, Close, SearchFirst, SearchNext, Delete, Make, Rename, Protect, Attributes, User, Size, SetRandom, Moves, Unserved}
+use Rattle.call_served.specs.declared.Transfer.the-variants.{ReadSequential, WriteSequential, ReadRandom, WriteRandom, WriteZeroFill, ReadSeveral, WriteSeveral}
+use Rattle.bdos.specs.Step.{keepsBuffer, keepsFcb, keepsVolume}
 use Rattle.bdos.specs.Step as door
-use Rattle.demands.specs.Demand3.{Bytes, names}
+use Rattle.demands.specs.Demand3.{Bytes, namesFile}
 use Rattle.demands.proofs.Orderly.{Orderly}
 use Rattle.demands.proofs.Inspected.{sound-accepted, held-of}
 use Rattle.demands.proofs.Acts.{Consistent, Keeps, denied, does, keeps-unless, still, still-search, StepKeeps, outcome-keeps, leaves-all}
@@ -52,7 +52,7 @@ module _ (g : Geometry) (law : lawful g ≡ true) (v : List ℕ) (size : length 
   unfolding logInTests firstMet
   no-test = rw (law, eq-eqb (length v) (bytes g) size, le-ltb (lowestBad g v) (slots g) (omega (arith, sound-accepted g v sound)))
 
-  pub log-in-is : logIn g v ≡ record { answer = answer.Ready (freeCount (heldOf g v) (g .directory) (g .total)); drive = loggedIn g (heldOf g v) }
+  pub log-in-is : logIn g v ≡ record { answer = answer.Ready (freeCount (heldOf g v) (g .«directory_blocks») (g .blocks)); drive = loggedIn g (heldOf g v) }
   unfolding logIn
   log-in-is = rw no-test
 
@@ -77,11 +77,11 @@ module _ (d : Drive) (v f b : List ℕ) (c : Consistent d v) where
   size-keeps = keeps-unless (sizeTests d v f) _ (λ h. does (still Nothing d v c))
 
   first-keeps : Keeps Nothing d v (searchFirstAct d v f b)
-  unfolding searchFirstAct shown
+  unfolding searchFirstAct hitAct
   first-keeps = keeps-unless (firstTests d v f b) _ (λ h. does (still-search Nothing d v c _))
 
   next-keeps : Keeps Nothing d v (searchNextAct d v b)
-  unfolding searchNextAct shown
+  unfolding searchNextAct hitAct
   next-keeps = keeps-unless (nextTests d v b) _ (λ h. does (still-search Nothing d v c _))
 
   pub read-sequential-keeps : Keeps Nothing d v (readSequentialAct d v f b)
@@ -138,8 +138,8 @@ set-random-small d f = small-unless (setRandomTests d f) _ stays
 buffer-kept : {touches : ℕ → List ℕ → Bool} {d : Drive} {v : List ℕ} {o : Outcome} (b : List ℕ) → StepKeeps touches d v o → StepKeeps touches d v (keepsBuffer b o)
 buffer-kept b k = record { consistent = k .consistent; geometry = k .geometry; others = k .others }
 
-block-kept : {touches : ℕ → List ℕ → Bool} {d : Drive} {v : List ℕ} {o : Outcome} (f : List ℕ) → StepKeeps touches d v o → StepKeeps touches d v (keepsBlock f o)
-block-kept f k = record { consistent = k .consistent; geometry = k .geometry; others = k .others }
+fcb-kept : {touches : ℕ → List ℕ → Bool} {d : Drive} {v : List ℕ} {o : Outcome} (f : List ℕ) → StepKeeps touches d v o → StepKeeps touches d v (keepsFcb f o)
+fcb-kept f k = record { consistent = k .consistent; geometry = k .geometry; others = k .others }
 
 log-in-keeps : (touches : ℕ → List ℕ → Bool) (d : Drive) (v f b : List ℕ) → Consistent d v → StepKeeps touches d v (left (logIn (d .geometry) v) v f b)
 log-in-keeps touches d v f b c =
@@ -147,28 +147,28 @@ log-in-keeps touches d v f b c =
     (record { consistent = logged-in (d .geometry) (c .law) v (c .size) (c .sound); geometry = refl; others = λ u name l h. leaves-all })
 
 module _ (g : Geometry) (p : ℕ) (d : Drive) (v f b : List ℕ) (same : d .geometry ≡ g) (c : Consistent d v) (small : Bytes f) where
-  pub does-keeps : (call : Call) → StepKeeps (λ u name. names call (d .user) f u name) d v (door.does g call p d v f b)
+  pub does-keeps : (call : Call) → StepKeeps (λ u name. namesFile call (d .user) f u name) d v (door.does g call p d v f b)
   unfolding door.does door.carries
   does-keeps LogIn = rw (← same) (log-in-keeps Nothing d v f b c)
   does-keeps Open = buffer-kept b (outcome-keeps Nothing d v f [] (openAct d v f) c (open-keeps d v f b c))
   does-keeps Close = buffer-kept b (outcome-keeps Nothing d v f [] (closeAct d v f) c (close-keeps d v f b c))
   does-keeps SearchFirst = outcome-keeps Nothing d v f b (searchFirstAct d v f b) c (first-keeps d v f b c)
-  does-keeps SearchNext = block-kept f (outcome-keeps Nothing d v [] b (searchNextAct d v b) c (next-keeps d v f b c))
+  does-keeps SearchNext = fcb-kept f (outcome-keeps Nothing d v [] b (searchNextAct d v b) c (next-keeps d v f b c))
   does-keeps Delete = buffer-kept b (outcome-keeps _ d v f [] _ c (delete-keeps d v f c))
   does-keeps (Moves ReadSequential) = outcome-keeps Nothing d v f b (readSequentialAct d v f b) c (read-sequential-keeps d v f b c)
   does-keeps (Moves WriteSequential) = outcome-keeps _ d v f b _ c (write-sequential-keeps d v f b c)
   does-keeps Make = buffer-kept b (outcome-keeps _ d v f [] _ c (make-keeps d v f c))
   does-keeps Rename = buffer-kept b (outcome-keeps _ d v f [] _ c (rename-keeps d v f c))
-  does-keeps Protect = block-kept f (buffer-kept b (small-keeps Nothing d v [] [] [] (protectAct d) c (protect-small d)))
+  does-keeps Protect = fcb-kept f (buffer-kept b (small-keeps Nothing d v [] [] [] (protectAct d) c (protect-small d)))
   does-keeps Attributes = buffer-kept b (outcome-keeps _ d v f [] _ c (attributes-keep d v f c))
-  does-keeps User = block-kept f (buffer-kept b (small-keeps Nothing d v [] [] [] (userAct d p) c (user-small d p)))
+  does-keeps User = fcb-kept f (buffer-kept b (small-keeps Nothing d v [] [] [] (userAct d p) c (user-small d p)))
   does-keeps (Moves ReadRandom) = outcome-keeps Nothing d v f b (readRandomAct d v f b) c (read-random-keeps d v f b c)
   does-keeps (Moves WriteRandom) = outcome-keeps _ d v f b _ c (write-random-keeps d v f b c small)
   does-keeps Size = buffer-kept b (outcome-keeps Nothing d v f [] (sizeAct d v f) c (size-keeps d v f b c))
   does-keeps SetRandom = buffer-kept b (small-keeps Nothing d v [] f [] (setRandomAct d f) c (set-random-small d f))
   does-keeps (Moves WriteZeroFill) = outcome-keeps _ d v f b _ c (write-zero-fill-keeps d v f b c small)
   does-keeps (Moves ReadSeveral) =
-      several-keeps readOne (λ w h u name. false) read-refuses (λ d v f b c. outcome-keeps Nothing d v f b (readSequentialAct d v f b) c (read-sequential-keeps d v f b c))
+      several-keeps readSequentialLeaves (λ w h u name. false) read-refuses (λ d v f b c. outcome-keeps Nothing d v f b (readSequentialAct d v f b) c (read-sequential-keeps d v f b c))
       (λ d v f b u name. refl) d v f b p c
   does-keeps (Moves WriteSeveral) = write-several-keeps d v f b p c
   does-keeps Unserved = outcome-keeps Nothing d v f b (deny NotServed) c denied

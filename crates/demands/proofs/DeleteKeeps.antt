@@ -8,28 +8,27 @@ use native.Mathlib.Omega.{arith}
 use lib.Dec.{eqb}
 use lib.ListN.{length, set, length-set}
 use lib.Seq.{getD-set-same}
-use borrow.Author.Tests.{not-true, not-false, eqb-true, eq-eqb}
+use borrow.Author.Tests.{not-true, not-false, eq-eqb}
 use Rattle.lists.specs.Bytes.{byte}
-use Rattle.lists.specs.Search.{anyFrom}
+use Rattle.lists.specs.Bounded.{anyFrom}
 use Rattle.lists.proofs.BoolLaws.{and-parts}
-use Rattle.lists.proofs.SearchLaws.{any-true, any-intro, any-false, any-none}
-use Rattle.geometry.specs.declared.Geometry.{Geometry}
-use Rattle.geometry.specs.Geometry.{lawful, bytes, slots, places}
-use Rattle.volume.specs.Name.{nameOf, like}
-use Rattle.volume.specs.Entry.{Entry, isEmpty, blockIn, matches}
-use Rattle.volume.specs.Directory.{slotAt, mapSlots}
-use Rattle.geometry.proofs.GeometryLaws.{bounds}
-use Rattle.volume.proofs.DirectoryLaws.{slot-length}
-use Rattle.sweeping.proofs.SweepLaws.{mapSlots-length, mapSlots-slot, mapSlots-record}
-use Rattle.blocks.specs.Held.{holds}
-use Rattle.answers.specs.declared.Refusal.the-variants.{Closed}
-use Rattle.answers.specs.Refusal.{isNone, firstMet}
-use Rattle.answers.proofs.Ladder.{unmet}
-use Rattle.goodslots.specs.GoodSlot.{inPlaces}
-use Rattle.sweeping.specs.declared.Edit.the-variants.{Erase}
-use Rattle.sweeping.specs.Sweep.{erased, changed}
-use Rattle.deleting.specs.Delete.{freeMatches}
-use Rattle.geometry.proofs.InsideLaws.{is-inside}
+use Rattle.lists.proofs.BoundedLaws.{any-false, any-none}
+use Rattle.disk_geometry.specs.declared.Geometry.{Geometry}
+use Rattle.disk_geometry.specs.Geometry.{lawful, bytes, slots}
+use Rattle.disk_volume.specs.Name.{nameOf, like}
+use Rattle.disk_volume.specs.Entry.{Entry, isEmpty, blockIn, matches}
+use Rattle.disk_volume.specs.Directory.{slotAt, mapSlots}
+use Rattle.disk_geometry.proofs.GeometryLaws.{bounds}
+use Rattle.disk_volume.proofs.DirectoryLaws.{slot-length}
+use Rattle.call_sweep.proofs.SweepLaws.{mapSlots-length, mapSlots-slot, mapSlots-record}
+use Rattle.disk_held.specs.Held.{holds}
+use Rattle.call_answers.specs.declared.Refusal.the-variants.{Closed}
+use Rattle.call_answers.specs.Refusal.{isNone, firstMet}
+use Rattle.call_answers.proofs.Ladder.{unmet}
+use Rattle.call_sweep.specs.declared.Edit.the-variants.{Erase}
+use Rattle.call_sweep.specs.Sweep.{erased, changed}
+use Rattle.call_delete.specs.Delete.{freeMatches}
+use Rattle.disk_geometry.proofs.InsideLaws.{is-inside}
 use Rattle.filecalls.specs.declared.Drive.{Drive}
 use Rattle.filecalls.specs.State.{isOpen}
 use Rattle.filecalls.specs.Outcome.{stored, storedAll, changedState}
@@ -39,7 +38,9 @@ use Rattle.demands.proofs.Orderly.{Live, Orderly, HeldBy, Held, sound-l
 use Rattle.demands.proofs.Frame.{Touch, unchanged, foreign, Apart}
 use Rattle.demands.proofs.Acts.{Consistent, Keeps, does, keeps-unless, leaves-apart}
 use Rattle.demands.proofs.Files.{matched, other-match, user-live, file-block, empty-foreign}
-use Rattle.demands.proofs.FreeMatches.{frees, freed, freed-four}
+use Rattle.call_delete.specs.Freed.{matchNames}
+use Rattle.call_delete.proofs.MatchLaws.{match-at, at-match}
+use Rattle.call_delete.proofs.FreedHolds.{freed}
 
 -- ---- an entry afterwards
 module _ (u : ℕ) (pattern : List ℕ) (e : Entry) where
@@ -60,25 +61,6 @@ module _ (u : ℕ) (pattern : List ℕ) (e : Entry) where
 
   erased-empty : length e ≡ 32 → matches u pattern e ≡ true → isEmpty (changed Erase u pattern [] e) ≡ true
   erased-empty l q = ap isEmpty (erases-hit q) ∙ eq-eqb (byte (set e 0 229) 0) 229 (getD-set-same e 0 229 0 (omega arith))
-
--- slot j matches and has block b in place p
-module _ (g : Geometry) (law : lawful g ≡ true) (v : List ℕ) (u : ℕ) (pattern : List ℕ) (b j : ℕ) where
-  frees-intro : (p : ℕ) → p < places g → matches u pattern (slotAt g v j) ≡ true → blockIn g (slotAt g v j) p ≡ b → frees g law v u pattern b j ≡ true
-  unfolding frees inPlaces
-  frees-intro p p< m z = rw m (any-intro (λ q. eqb (blockIn g (slotAt g v j) q) b) 0 (places g) p (omega arith) (omega arith) (eq-eqb (blockIn g (slotAt g v j) p) b z))
-
-  record Freed : Type 0 where
-    hit : matches u pattern (slotAt g v j) ≡ true
-    place : ℕ
-    place< : place < places g
-    is : blockIn g (slotAt g v j) place ≡ b
-
-  frees-is : frees g law v u pattern b j ≡ true → Freed
-  unfolding frees inPlaces
-  frees-is h =
-      let m = and-parts (matches u pattern (slotAt g v j)) (anyFrom (λ q. eqb (blockIn g (slotAt g v j) q) b) 0 (places g)) h in
-      let p = any-true (λ q. eqb (blockIn g (slotAt g v j) q) b) 0 (places g) (m .1) in
-      record { hit = m .0; place = p .place; place< = omega (arith, p .below); is = eqb-true (blockIn g (slotAt g v j) (p .place)) b (p .passes) }
 
 module _ (g : Geometry) (law : lawful g ≡ true) (v : List ℕ) (size : length v ≡ bytes g) (sound : Orderly g (slotAt g v)) (h : List ℕ) (held : Held g h (slotAt g v))
     (u : ℕ) (u15 : u ≤ 15) (pattern : List ℕ) where
@@ -115,41 +97,41 @@ module _ (g : Geometry) (law : lawful g ≡ true) (v : List ℕ) (size : length 
   delete-sound = sound-less g (slotAt g v) (slotAt g v′) sound (λ j j< l. after-miss j j< (missed j j< l))
 
   pub delete-held : Held g h′ (slotAt g v′)
-  delete-held = record { four = freed-four g law v u pattern h (held .four); sound = sound-after; whole = whole-after }
+  delete-held = record { four = freed g law v u u15 pattern h (held .four) .four; sound = sound-after; whole = whole-after }
     where
-      is : (b : ℕ) → g .directory ≤ b → b < g .total → holds h′ b ≡ (holds h b && not (anyFrom (frees g law v u pattern b) 0 (slots g)))
-      is b low high = freed g law v u pattern b (is-inside g b low high) h (held .four)
+      is : (b : ℕ) → g .«directory_blocks» ≤ b → b < g .blocks → holds h′ b ≡ (holds h b && not (anyFrom (matchNames g v u pattern b) 0 (slots g)))
+      is b low high = freed g law v u u15 pattern h (held .four) .inside-blocks b (is-inside g b low high)
 
-      sound-after : (b : ℕ) → g .directory ≤ b → b < g .total → holds h′ b ≡ true → HeldBy g (slotAt g v′) b
+      sound-after : (b : ℕ) → g .«directory_blocks» ≤ b → b < g .blocks → holds h′ b ≡ true → HeldBy g (slotAt g v′) b
       sound-after b low high t =
-          let x = and-parts (holds h b) (not (anyFrom (frees g law v u pattern b) 0 (slots g))) (sym (is b low high) ∙ t) in
+          let x = and-parts (holds h b) (not (anyFrom (matchNames g v u pattern b) 0 (slots g))) (sym (is b low high) ∙ t) in
           let w = held .sound b low high (x .0) in
           go w (not-true _ (x .1)) (matches u pattern (slotAt g v (w .slot))) refl
         where
-          go : (w : HeldBy g (slotAt g v) b) → anyFrom (frees g law v u pattern b) 0 (slots g) ≡ false → (t : Bool) → matches u pattern (slotAt g v (w .slot)) ≡ t → HeldBy g (slotAt g v′) b
+          go : (w : HeldBy g (slotAt g v) b) → anyFrom (matchNames g v u pattern b) 0 (slots g) ≡ false → (t : Bool) → matches u pattern (slotAt g v (w .slot)) ≡ t → HeldBy g (slotAt g v′) b
           go w none false q =
               let k : slotAt g v′ (w .slot) ≡ slotAt g v (w .slot) = after-miss (w .slot) (w .slot<) q in
               record { slot = w .slot; place = w .place; slot< = w .slot<; place< = w .place<; live = rw k (w .live); is = rw k (w .is) }
           go w none true q =
-              absurd (true≢false (sym (frees-intro g law v u pattern b (w .slot) (w .place) (w .place<) q (w .is)) ∙ any-false (frees g law v u pattern b) 0 (slots g) none (w .slot) (omega arith) (omega (arith, w .slot<))))
+              absurd (true≢false (sym (at-match g v u u15 pattern b (w .slot) (record { hit = q; place = w .place; in-map = w .place<; is = w .is })) ∙ any-false (matchNames g v u pattern b) 0 (slots g) none (w .slot) (omega arith) (omega (arith, w .slot<))))
 
-      whole-after : (b : ℕ) → g .directory ≤ b → b < g .total → HeldBy g (slotAt g v′) b → holds h′ b ≡ true
+      whole-after : (b : ℕ) → g .«directory_blocks» ≤ b → b < g .blocks → HeldBy g (slotAt g v′) b → holds h′ b ≡ true
       whole-after b low high w =
           let m : matches u pattern (slotAt g v (w .slot)) ≡ false = missed (w .slot) (w .slot<) (w .live) in
           let k : slotAt g v′ (w .slot) ≡ slotAt g v (w .slot) = after-miss (w .slot) (w .slot<) m in
           let l : Live (slotAt g v (w .slot)) = ap isEmpty (sym k) ∙ w .live in
           let z : blockIn g (slotAt g v (w .slot)) (w .place) ≡ b = ap (λ (x : Entry). blockIn g x (w .place)) (sym k) ∙ w .is in
           let t = held .whole b low high (record { slot = w .slot; place = w .place; slot< = w .slot<; place< = w .place<; live = l; is = z }) in
-          let none = any-none (frees g law v u pattern b) 0 (slots g) (λ j x y. not-freed m l z j (omega arith) (frees g law v u pattern b j) refl) in
+          let none = any-none (matchNames g v u pattern b) 0 (slots g) (λ j x y. not-freed m l z j (omega arith) (matchNames g v u pattern b j) refl) in
           is b low high ∙ rw (t, none)
         where
           not-freed : matches u pattern (slotAt g v (w .slot)) ≡ false → Live (slotAt g v (w .slot)) → blockIn g (slotAt g v (w .slot)) (w .place) ≡ b
-              → (j : ℕ) → j < slots g → (t : Bool) → frees g law v u pattern b j ≡ t → t ≡ false
+              → (j : ℕ) → j < slots g → (t : Bool) → matchNames g v u pattern b j ≡ t → t ≡ false
           not-freed m l z j j< false q = refl
           not-freed m l z j j< true q =
-              let x = frees-is g law v u pattern b j q in
+              let x = match-at g v u u15 pattern b j q in
               let nz : blockIn g (slotAt g v j) (x .place) ≢ 0 = λ o. let y : b ≡ 0 = sym (x .is) ∙ o in omega (arith, bounds g law .directory-low) in
-              let s : j ≡ w .slot = sound .alone j (w .slot) (x .place) (w .place) j< (w .slot<) (hit-live j (x .hit)) l (x .place<) (w .place<) nz (x .is ∙ sym z) in
+              let s : j ≡ w .slot = sound .alone j (w .slot) (x .place) (w .place) j< (w .slot<) (hit-live j (x .hit)) l (x .in-map) (w .place<) nz (x .is ∙ sym z) in
               absurd (true≢false (sym (x .hit) ∙ ap (λ (y : ℕ). matches u pattern (slotAt g v y)) s ∙ m))
 
   pub delete-apart : (w : ℕ) (name : List ℕ) → w ≤ 15 → (eqb w u && like name pattern) ≡ false → Apart g w name v v′

@@ -1,46 +1,45 @@
 -- Demand 1 holds: a refusal is the first clause of `outcome`, every call's act stands under `unless` and its own tests,
 -- and what the tests refuse for does not depend on what is given.
-use mathlib.Core.Path.{_≡_, refl, sym, ap}
+use mathlib.Core.Path.{_≡_, refl, ap}
 use mathlib.Core.Bool.{Bool, true, false, cond, true≢false, false≢true}
 use mathlib.Core.Logic.{_≢_}
 use mathlib.Core.List.{List, [], _∷_}
 use Prim.Native.Nat.{ℕ, _%_, _<_}
 use native.Mathlib.Omega.{arith}
 use lib.Dec.{ltb, eqb}
-use borrow.Author.Tests.{eqb-true, lt-ltb, not-false}
-use Rattle.geometry.specs.declared.Geometry.{Geometry}
-use Rattle.answers.specs.declared.Refusal.{Refusal}
-use Rattle.answers.specs.declared.Refusal.the-variants.{Closed, NotServed}
-use Rattle.answers.specs.declared.Answer.the-variants.{BadSlot, Refused}
-use Rattle.answers.specs.Refusal.{Test, test, refusalNumber, isNone, firstMet}
-use Rattle.answers.specs.Answer.{numberOf, succeeded}
-use Rattle.answers.proofs.Ladder.{unmet}
-use Rattle.deleting.specs.Delete.{deleteTests}
-use Rattle.making.specs.Make.{makeTests}
-use Rattle.naming.specs.Rename.{renameTests}
-use Rattle.reading.specs.Read.{readTests}
-use Rattle.deciding.specs.Write.{writeTests}
-use Rattle.goodslots.specs.GoodSlot.{lowestBad}
+use borrow.Author.Tests.{lt-ltb, not-false}
+use Rattle.disk_geometry.specs.declared.Geometry.{Geometry}
+use Rattle.call_answers.specs.declared.Refusal.the-variants.{Closed, NotServed}
+use Rattle.call_answers.specs.Refusal.{Test, test, isNone, firstMet}
+use Rattle.call_answers.specs.Answer.{numberOf, succeeded}
+use Rattle.call_answers.proofs.Ladder.{unmet}
+use Rattle.call_delete.specs.Delete.{deleteTests}
+use Rattle.call_make.specs.Make.{makeTests}
+use Rattle.call_rename.specs.Rename.{renameTests}
+use Rattle.call_read.specs.Read.{readTests}
+use Rattle.call_decide.specs.Write.{writeTests}
+use Rattle.filecalls.specs.Leaves.{readSequentialLeaves, writeSequentialLeaves}
 use Rattle.filecalls.specs.declared.Drive.{Drive}
 use Rattle.filecalls.specs.Outcome.{Change, keeps, becomes, Store, Act, deny, done, unless, Outcome, outcome}
 use Rattle.filecalls.specs.State.{isOpen, closed}
-use Rattle.filecalls.specs.LogIn.{logInTests, refusedLogIn, logIn}
+use Rattle.filecalls.specs.LogIn.{logInTests, logIn}
+use Rattle.filecalls.proofs.LogInLaws.{refused-fails, refused-number}
 use Rattle.filecalls.specs.Open.{openTests, openAct, closeTests, closeAct, sizeTests, sizeAct}
-use Rattle.filecalls.specs.Search.{firstTests, searchFirstAct, nextTests, searchNextAct, shown}
+use Rattle.filecalls.specs.Search.{firstTests, searchFirstAct, nextTests, searchNextAct, hitAct}
 use Rattle.filecalls.specs.Names.{deleteLadder, deleteAct, makeLadder, makeAct, renameLadder, renameAct, attributesLadder, attributesAct}
 use Rattle.filecalls.specs.Read.{sequentialTests, randomTests, readDone, readSequentialAct, readRandomAct}
 use Rattle.filecalls.specs.Write.{writeDone, writeSequentialAct, writeRandomAct, writeZeroFillAct}
 use Rattle.filecalls.specs.Small.{protectTests, protectAct, userTests, userAct, setRandomTests, setRandomAct}
 use Rattle.filecalls.proofs.StateLaws.{is-open}
-use Rattle.several.specs.Several.{Single, readOne, writeOne, several}
-use Rattle.lent.specs.Lent.{severalTests}
-use Rattle.several.proofs.SinglesLaws.{Refuses}
-use Rattle.several.proofs.SeveralLaws.{leaves-all, read-refuses, write-refuses}
-use Rattle.served.specs.declared.Call.{Call}
-use Rattle.served.specs.declared.Call.the-variants.{LogIn, Open, Close, SearchFirst, SearchNext, Delete, Make, Rename, Protect, Attributes, User, Size, SetRandom, Moves, Unserved}
-use Rattle.served.specs.declared.Transfer.the-variants.{ReadSequential, WriteSequential, ReadRandom, WriteRandom, WriteZeroFill, ReadSeveral, WriteSeveral}
+use Rattle.filecalls.specs.Several.{Single, several}
+use Rattle.filecalls.specs.Several.{severalTests}
+use Rattle.filecalls.proofs.SinglesLaws.{Refuses}
+use Rattle.filecalls.proofs.SeveralLaws.{leaves-all, read-refuses, write-refuses}
+use Rattle.call_served.specs.declared.Call.{Call}
+use Rattle.call_served.specs.declared.Call.the-variants.{LogIn, Open, Close, SearchFirst, SearchNext, Delete, Make, Rename, Protect, Attributes, User, Size, SetRandom, Moves, Unserved}
+use Rattle.call_served.specs.declared.Transfer.the-variants.{ReadSequential, WriteSequential, ReadRandom, WriteRandom, WriteZeroFill, ReadSeveral, WriteSeveral}
 use Rattle.bdos.specs.Step.{carries, does, step}
-use Rattle.served.specs.Asked.{Asked}
+use Rattle.call_served.specs.Asked.{Asked}
 use Rattle.demands.specs.Order.{paperTable, numbersOf, reasons, inOrder, testsOf, refusalsOf, among, answersOf}
 use Rattle.demands.specs.Demand1.{call, tests, answer, Leaves, Demand1}
 use Rattle.demands.proofs.Says.{Says, was-met, was-none, number-among}
@@ -49,7 +48,7 @@ use Rattle.demands.proofs.SeveralSays.{read-says, write-says}
 -- ---- a refused act leaves all as given
 kept : (d : Drive) (v f b : List ℕ) (a : Act) → succeeded (outcome d v f b a .answer) ≡ false → Leaves (outcome d v f b a) d v f b
 unfolding outcome
-kept d v f b (deny why) h = record { state-is = refl; volume-kept = refl; block-kept = refl; buffer-kept = refl }
+kept d v f b (deny why) h = record { state-is = refl; volume-kept = refl; fcb-kept = refl; buffer-kept = refl }
 kept d v f b (done code change stores f′ b′) h = absurd (true≢false h)
 
 -- of several records: where none is done
@@ -60,7 +59,7 @@ several-kept single refuses d v f b k h =
     record {
       state-is = ap (λ (o : Outcome). o .drive) e;
       volume-kept = ap (λ (o : Outcome). o .volume) e;
-      block-kept = ap (λ (o : Outcome). o .block) e;
+      fcb-kept = ap (λ (o : Outcome). o .fcb) e;
       buffer-kept = ap (λ (o : Outcome). o .buffer) e;
     }
 
@@ -70,45 +69,45 @@ unfolding does carries
 call-kept g LogIn p d v f b n h = absurd (n refl)
 call-kept g Open p d v f b n h =
     let k = kept d v f [] (openAct d v f) h in
-    record { state-is = k .state-is; volume-kept = k .volume-kept; block-kept = k .block-kept; buffer-kept = refl }
+    record { state-is = k .state-is; volume-kept = k .volume-kept; fcb-kept = k .fcb-kept; buffer-kept = refl }
 call-kept g Close p d v f b n h =
     let k = kept d v f [] (closeAct d v f) h in
-    record { state-is = k .state-is; volume-kept = k .volume-kept; block-kept = k .block-kept; buffer-kept = refl }
+    record { state-is = k .state-is; volume-kept = k .volume-kept; fcb-kept = k .fcb-kept; buffer-kept = refl }
 call-kept g SearchFirst p d v f b n h = kept d v f b (searchFirstAct d v f b) h
 call-kept g SearchNext p d v f b n h =
     let k = kept d v [] b (searchNextAct d v b) h in
-    record { state-is = k .state-is; volume-kept = k .volume-kept; block-kept = refl; buffer-kept = k .buffer-kept }
+    record { state-is = k .state-is; volume-kept = k .volume-kept; fcb-kept = refl; buffer-kept = k .buffer-kept }
 call-kept g Delete p d v f b n h =
     let k = kept d v f [] (deleteAct d v f) h in
-    record { state-is = k .state-is; volume-kept = k .volume-kept; block-kept = k .block-kept; buffer-kept = refl }
+    record { state-is = k .state-is; volume-kept = k .volume-kept; fcb-kept = k .fcb-kept; buffer-kept = refl }
 call-kept g (Moves ReadSequential) p d v f b n h = kept d v f b (readSequentialAct d v f b) h
 call-kept g (Moves WriteSequential) p d v f b n h = kept d v f b (writeSequentialAct d v f b) h
 call-kept g Make p d v f b n h =
     let k = kept d v f [] (makeAct d v f) h in
-    record { state-is = k .state-is; volume-kept = k .volume-kept; block-kept = k .block-kept; buffer-kept = refl }
+    record { state-is = k .state-is; volume-kept = k .volume-kept; fcb-kept = k .fcb-kept; buffer-kept = refl }
 call-kept g Rename p d v f b n h =
     let k = kept d v f [] (renameAct d v f) h in
-    record { state-is = k .state-is; volume-kept = k .volume-kept; block-kept = k .block-kept; buffer-kept = refl }
+    record { state-is = k .state-is; volume-kept = k .volume-kept; fcb-kept = k .fcb-kept; buffer-kept = refl }
 call-kept g Protect p d v f b n h =
     let k = kept d [] [] [] (protectAct d) h in
-    record { state-is = k .state-is; volume-kept = refl; block-kept = refl; buffer-kept = refl }
+    record { state-is = k .state-is; volume-kept = refl; fcb-kept = refl; buffer-kept = refl }
 call-kept g Attributes p d v f b n h =
     let k = kept d v f [] (attributesAct d v f) h in
-    record { state-is = k .state-is; volume-kept = k .volume-kept; block-kept = k .block-kept; buffer-kept = refl }
+    record { state-is = k .state-is; volume-kept = k .volume-kept; fcb-kept = k .fcb-kept; buffer-kept = refl }
 call-kept g User p d v f b n h =
     let k = kept d [] [] [] (userAct d p) h in
-    record { state-is = k .state-is; volume-kept = refl; block-kept = refl; buffer-kept = refl }
+    record { state-is = k .state-is; volume-kept = refl; fcb-kept = refl; buffer-kept = refl }
 call-kept g (Moves ReadRandom) p d v f b n h = kept d v f b (readRandomAct d v f b) h
 call-kept g (Moves WriteRandom) p d v f b n h = kept d v f b (writeRandomAct d v f b) h
 call-kept g Size p d v f b n h =
     let k = kept d v f [] (sizeAct d v f) h in
-    record { state-is = k .state-is; volume-kept = k .volume-kept; block-kept = k .block-kept; buffer-kept = refl }
+    record { state-is = k .state-is; volume-kept = k .volume-kept; fcb-kept = k .fcb-kept; buffer-kept = refl }
 call-kept g SetRandom p d v f b n h =
     let k = kept d [] f [] (setRandomAct d f) h in
-    record { state-is = k .state-is; volume-kept = refl; block-kept = k .block-kept; buffer-kept = refl }
+    record { state-is = k .state-is; volume-kept = refl; fcb-kept = k .fcb-kept; buffer-kept = refl }
 call-kept g (Moves WriteZeroFill) p d v f b n h = kept d v f b (writeZeroFillAct d v f b) h
-call-kept g (Moves ReadSeveral) p d v f b n h = several-kept readOne read-refuses d v f b p h
-call-kept g (Moves WriteSeveral) p d v f b n h = several-kept writeOne write-refuses d v f b p h
+call-kept g (Moves ReadSeveral) p d v f b n h = several-kept readSequentialLeaves read-refuses d v f b p h
+call-kept g (Moves WriteSeveral) p d v f b n h = several-kept writeSequentialLeaves write-refuses d v f b p h
 call-kept g Unserved p d v f b n h = kept d v f b (deny NotServed) h
 
 -- ---- a refused log-in
@@ -123,7 +122,7 @@ log-in-closed g v h = go (isNone (firstMet (logInTests g v))) refl h
 closes : (g : Geometry) (k : Call) (p : ℕ) (d : Drive) (v f b : List ℕ) → k ≡ LogIn → succeeded (does g k p d v f b .answer) ≡ false
     → Leaves (does g k p d v f b) closed v f b
 unfolding does carries
-closes g k p d v f b e h = rw e (record { state-is = log-in-closed g v (rw e at h); volume-kept = refl; block-kept = refl; buffer-kept = refl })
+closes g k p d v f b e h = rw e (record { state-is = log-in-closed g v (rw e at h); volume-kept = refl; fcb-kept = refl; buffer-kept = refl })
 
 -- ---- what each call's answer says of its tests
 module _ (d : Drive) (v f b : List ℕ) (ts : List Test) (m : ℕ) where
@@ -152,15 +151,7 @@ user-says d p = go (eqb p 255)
 
 pub log-in-says : (g : Geometry) (v : List ℕ) → Says (logIn g v .answer) (logInTests g v) (λ n. ltb n 1)
 unfolding logIn
-log-in-says g v = record { met = λ e. rw e (which (firstMet (logInTests g v))); none = λ e. rw e (refl, refl) }
-  where
-    which : (why : Refusal) → (succeeded (refusedLogIn why (lowestBad g v)) ≡ false) × (numberOf (refusedLogIn why (lowestBad g v)) ≡ refusalNumber why)
-    which why = unfold refusedLogIn in go (eqb (refusalNumber why) 36) refl
-      where
-        go : (t : Bool) → eqb (refusalNumber why) 36 ≡ t
-            → (succeeded (cond t (BadSlot (lowestBad g v)) (Refused why)) ≡ false) × (numberOf (cond t (BadSlot (lowestBad g v)) (Refused why)) ≡ refusalNumber why)
-        go true e = (refl, sym (eqb-true (refusalNumber why) 36 e))
-        go false e = (refl, refl)
+log-in-says g v = record { met = λ e. rw e (refused-fails g v, refused-number g v e); none = λ e. rw e (refl, refl) }
 
 unserved-says : (d : Drive) (v f b : List ℕ) → Says (outcome d v f b (deny NotServed) .answer) (test NotServed true ∷ []) (λ n. ltb n 0)
 unfolding outcome firstMet
@@ -168,7 +159,7 @@ unserved-says d v f b = record { met = λ e. (refl, refl); none = λ e. absurd (
 
 module _ (g : Geometry) (p : ℕ) (d : Drive) (v f b : List ℕ) where
   pub call-says : (k : Call) → Says (does g k p d v f b .answer) (testsOf g k p d v f b) (answersOf k)
-  unfolding does carries openAct closeAct sizeAct searchFirstAct searchNextAct shown deleteAct makeAct renameAct attributesAct readSequentialAct readRandomAct readDone writeSequentialAct writeRandomAct writeZeroFillAct writeDone protectAct setRandomAct
+  unfolding does carries openAct closeAct sizeAct searchFirstAct searchNextAct hitAct deleteAct makeAct renameAct attributesAct readSequentialAct readRandomAct readDone writeSequentialAct writeRandomAct writeZeroFillAct writeDone protectAct setRandomAct
   call-says LogIn = log-in-says g v
   call-says Open = says d v f [] (testsOf g Open p d v f b) 4 _ _ _ _ _ (λ e. code-lt _)
   call-says Close = says d v f [] (testsOf g Close p d v f b) 4 _ _ _ _ _ (λ e. code-lt _)
@@ -242,20 +233,20 @@ in-table-order Unserved n = absurd (n refl)
 -- ---- all together
 pub step-says : (g : Geometry) (c : Asked) (d : Drive) (v : List ℕ) → Says (answer g c d v) (tests g c d v) (answersOf (call c))
 unfolding step
-step-says g c d v = call-says g (c .parameter) d v (c .block) (c .buffer) (call c)
+step-says g c d v = call-says g (c .parameter) d v (c .fcb) (c .buffer) (call c)
 
 refusal-among : (g : Geometry) (c : Asked) (d : Drive) (v : List ℕ) → succeeded (answer g c d v) ≡ false
     → among (numberOf (answer g c d v)) (numbersOf (refusalsOf (call c))) ≡ true
 refusal-among g c d v h =
     let s = step-says g c d v in
     let m = was-met s h in
-    rw (s .met m .1, ← tests-are g (call c) (c .parameter) d v (c .block) (c .buffer)) (number-among (tests g c d v) m)
+    rw (s .met m .1, ← tests-are g (call c) (c .parameter) d v (c .fcb) (c .buffer)) (number-among (tests g c d v) m)
 
 pub demand1 : Demand1
 unfolding step
 demand1 = record {
-  refused-leaves-all = λ g c d v. call-kept g (call c) (c .parameter) d v (c .block) (c .buffer);
-  refused-log-in-closes = λ g c d v. closes g (call c) (c .parameter) d v (c .block) (c .buffer);
+  refused-leaves-all = λ g c d v. call-kept g (call c) (c .parameter) d v (c .fcb) (c .buffer);
+  refused-log-in-closes = λ g c d v. closes g (call c) (c .parameter) d v (c .fcb) (c .buffer);
   success-of-paper = λ g c d v h. let s = step-says g c d v in s .none (was-none s h) .1;
   refusal-of-paper = refusal-among;
   first-test-refuses = λ g c d v. step-says g c d v .met;

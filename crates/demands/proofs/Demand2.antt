@@ -12,27 +12,27 @@ use lib.Dec.{leb, ltb, eqb}
 use lib.ListN.{length, List·getD-eq-default}
 use lib.Pow.{pow-pos}
 use borrow.Author.Tests.{not-false, eqb-true, eq-eqb, leb-true, le-leb, le-ltb, ltb-true, ltb-false, lt-ltb}
-use Rattle.lists.specs.Search.{countFrom}
+use Rattle.lists.specs.Bounded.{countFrom}
 use Rattle.lists.proofs.BoolLaws.{and-parts}
-use Rattle.lists.proofs.SearchLaws.{count-ext}
-use Rattle.geometry.specs.declared.Geometry.{Geometry}
-use Rattle.geometry.specs.Geometry.{lawful, bytes, slots, inside, placeOf}
-use Rattle.volume.specs.Name.{nameOf}
-use Rattle.geometry.proofs.GeometryLaws.{bounds}
-use Rattle.blocks.specs.Held.{digit, holds, isFree, freeCount}
-use Rattle.blocks.proofs.WordsLaws.{length-words}
-use Rattle.answers.specs.declared.Refusal.the-variants.{Closed, VolumeLength, BadSlot, NoBlock}
-use Rattle.answers.specs.Refusal.{Test, test, refusalNumber, isNone, firstMet}
-use Rattle.answers.specs.Answer.{numberOf, valueOf, succeeded}
-use Rattle.answers.proofs.Ladder.{unmet, ladder-pass}
-use Rattle.goodslots.specs.GoodSlot.{namedBelow, goodSlot, lowestBad}
-use Rattle.goodslots.specs.Named.{named, heldOf}
-use Rattle.goodslots.proofs.AcceptedLaws.{accepted, accepts, lowest-bad-le}
-use Rattle.goodslots.proofs.NamedLaws.{holds-held}
-use Rattle.deciding.specs.Write.{baseEntry, needsBlock, writeTests}
-use Rattle.entries.specs.Alloc.{alloc}
-use Rattle.geometry.proofs.InsideLaws.{inside-is}
-use Rattle.entries.proofs.AllocLaws.{alloc-le, alloc-none, none-alloc}
+use Rattle.lists.proofs.BoundedLaws.{count-ext}
+use Rattle.disk_geometry.specs.declared.Geometry.{Geometry}
+use Rattle.disk_geometry.specs.Geometry.{lawful, bytes, slots, inside, placeOf}
+use Rattle.disk_volume.specs.Name.{nameOf}
+use Rattle.disk_geometry.proofs.GeometryLaws.{bounds}
+use Rattle.disk_held.specs.Held.{digit, holds, isFree, freeCount}
+use Rattle.disk_held.proofs.WordsLaws.{length-words}
+use Rattle.call_answers.specs.declared.Refusal.the-variants.{Closed, VolumeLength, BadSlot, NoBlock}
+use Rattle.call_answers.specs.Refusal.{Test, test, refusalNumber, isNone, firstMet}
+use Rattle.call_answers.specs.Answer.{numberOf, valueOf, succeeded}
+use Rattle.call_answers.proofs.Ladder.{unmet, ladder-pass}
+use Rattle.disk_rules.specs.GoodSlot.{namedBelow, goodSlot, lowestBad}
+use Rattle.disk_rules.specs.Named.{named, heldOf}
+use Rattle.disk_rules.proofs.AcceptedLaws.{accepted, accepts, lowest-bad-le}
+use Rattle.disk_rules.proofs.NamedLaws.{holds-held}
+use Rattle.call_decide.specs.Write.{baseEntry, needsBlock, writeTests}
+use Rattle.call_entry.specs.Alloc.{alloc}
+use Rattle.disk_geometry.proofs.InsideLaws.{inside-is}
+use Rattle.call_entry.proofs.AllocLaws.{alloc-le, alloc-none, none-alloc}
 use Rattle.filecalls.specs.declared.Drive.{Drive}
 use Rattle.filecalls.specs.declared.Reply.{Reply}
 use Rattle.filecalls.specs.Outcome.{Outcome, left}
@@ -40,10 +40,10 @@ use Rattle.filecalls.specs.State.{isOpen, loggedIn}
 use Rattle.filecalls.specs.LogIn.{logInTests, logIn}
 use Rattle.filecalls.specs.Read.{sequentialTests, randomTests}
 use Rattle.filecalls.proofs.StateLaws.{is-open}
-use Rattle.served.specs.declared.Call.{Call}
-use Rattle.served.specs.declared.Call.the-variants.{LogIn}
+use Rattle.call_served.specs.declared.Call.{Call}
+use Rattle.call_served.specs.declared.Call.the-variants.{LogIn}
 use Rattle.bdos.specs.Step.{does, step}
-use Rattle.served.specs.Asked.{Asked}
+use Rattle.call_served.specs.Asked.{Asked}
 use Rattle.demands.specs.Order.{testsOf, answersOf}
 use Rattle.demands.specs.Demand1.{call, tests, answer}
 use Rattle.demands.specs.Demand2.{Writes, sequential, direct, zero-filling, Reads, earlier, NoneFree, Sound, Present, Same, Demand2}
@@ -61,7 +61,7 @@ one o r s v w f h b e p q =
     record {
       reply = λ i. record { answer = z i .answer; drive = z i .drive };
       volume = ap (λ (x : Outcome). x .volume) z;
-      block = ap (λ (x : Outcome). x .block) z;
+      fcb = ap (λ (x : Outcome). x .fcb) z;
       buffer = ap (λ (x : Outcome). x .buffer) z;
     }
 
@@ -69,7 +69,7 @@ one o r s v w f h b e p q =
 abbrev noneLeft : Drive → List ℕ → List ℕ → ℕ → Bool
 noneLeft d v f n =
     needsBlock (d .geometry) v (d .user) (nameOf f) n
-    && leb (d .geometry .total) (alloc (d .geometry) (d .held) (baseEntry (d .geometry) v (d .user) (nameOf f) n) (placeOf (d .geometry) n))
+    && leb (d .geometry .blocks) (alloc (d .geometry) (d .held) (baseEntry (d .geometry) v (d .user) (nameOf f) n) (placeOf (d .geometry) n))
 
 module _ (g : Geometry) (p : ℕ) (d : Drive) (v f b : List ℕ) where
   last-test : {k : Call} {n : ℕ} {r : List ℕ} → Writes f b k n r
@@ -103,34 +103,34 @@ last-none : (m : Bool) → m ≡ false → isNone (firstMet (test NoBlock m ∷ 
 unfolding firstMet
 last-none m e = rw e
 
-module _ (g : Geometry) (c : Asked) (d : Drive) (v : List ℕ) (n : ℕ) (r : List ℕ) (w : Writes (c .block) (c .buffer) (call c) n r)
-    (e : isNone (firstMet (earlier (tests g c d v))) ≡ true) (needs : needsBlock (d .geometry) v (d .user) (nameOf (c .block)) n ≡ true) where
+module _ (g : Geometry) (c : Asked) (d : Drive) (v : List ℕ) (n : ℕ) (r : List ℕ) (w : Writes (c .fcb) (c .buffer) (call c) n r)
+    (e : isNone (firstMet (earlier (tests g c d v))) ≡ true) (needs : needsBlock (d .geometry) v (d .user) (nameOf (c .fcb)) n ≡ true) where
   abbrev given : ℕ
-  given = alloc (d .geometry) (d .held) (baseEntry (d .geometry) v (d .user) (nameOf (c .block)) n) (placeOf (d .geometry) n)
+  given = alloc (d .geometry) (d .held) (baseEntry (d .geometry) v (d .user) (nameOf (c .fcb)) n) (placeOf (d .geometry) n)
 
   good : lawful (d .geometry) ≡ true
-  good = is-open d (open-state g (c .parameter) d v (c .block) (c .buffer) w e) .law
+  good = is-open d (open-state g (c .parameter) d v (c .fcb) (c .buffer) w e) .law
 
-  decides : firstMet (tests g c d v) ≡ firstMet (test NoBlock (noneLeft d v (c .block) n) ∷ [])
-  decides = last-decides g (c .parameter) d v (c .block) (c .buffer) w e
+  decides : firstMet (tests g c d v) ≡ firstMet (test NoBlock (noneLeft d v (c .fcb) n) ∷ [])
+  decides = last-decides g (c .parameter) d v (c .fcb) (c .buffer) w e
 
   two-none : numberOf (answer g c d v) ≡ 2 → NoneFree d
-  two-none two = go (noneLeft d v (c .block) n) refl
+  two-none two = go (noneLeft d v (c .fcb) n) refl
     where
-      go : (m : Bool) → noneLeft d v (c .block) n ≡ m → NoneFree d
+      go : (m : Bool) → noneLeft d v (c .fcb) n ≡ m → NoneFree d
       go true q =
-          let l = leb-true (d .geometry .total) given (and-parts (needsBlock (d .geometry) v (d .user) (nameOf (c .block)) n) (leb (d .geometry .total) given) q .1) in
-          let u = alloc-le (d .geometry) (d .held) (baseEntry (d .geometry) v (d .user) (nameOf (c .block)) n) (placeOf (d .geometry) n) good in
-          alloc-none (d .geometry) (d .held) (baseEntry (d .geometry) v (d .user) (nameOf (c .block)) n) (placeOf (d .geometry) n) good (omega arith)
+          let l = leb-true (d .geometry .blocks) given (and-parts (needsBlock (d .geometry) v (d .user) (nameOf (c .fcb)) n) (leb (d .geometry .blocks) given) q .1) in
+          let u = alloc-le (d .geometry) (d .held) (baseEntry (d .geometry) v (d .user) (nameOf (c .fcb)) n) (placeOf (d .geometry) n) good in
+          alloc-none (d .geometry) (d .held) (baseEntry (d .geometry) v (d .user) (nameOf (c .fcb)) n) (placeOf (d .geometry) n) good (omega arith)
       go false q =
           let l = step-says g c d v .none (ap isNone decides ∙ last-none _ q) .1 in
-          absurd (omega (arith, one-code g (c .parameter) d v (c .block) (c .buffer) w _ l))
+          absurd (omega (arith, one-code g (c .parameter) d v (c .fcb) (c .buffer) w _ l))
 
   none-two : NoneFree d → numberOf (answer g c d v) ≡ 2
   none-two h =
-      let a = none-alloc (d .geometry) (d .held) (baseEntry (d .geometry) v (d .user) (nameOf (c .block)) n) (placeOf (d .geometry) n) good h in
-      let q : noneLeft d v (c .block) n ≡ true = rw (needs, le-leb (d .geometry .total) given (omega arith)) in
-      let f : firstMet (tests g c d v) ≡ NoBlock = decides ∙ last-met (noneLeft d v (c .block) n) q in
+      let a = none-alloc (d .geometry) (d .held) (baseEntry (d .geometry) v (d .user) (nameOf (c .fcb)) n) (placeOf (d .geometry) n) good h in
+      let q : noneLeft d v (c .fcb) n ≡ true = rw (needs, le-leb (d .geometry .blocks) given (omega arith)) in
+      let f : firstMet (tests g c d v) ≡ NoBlock = decides ∙ last-met (noneLeft d v (c .fcb) n) q in
       step-says g c d v .met (ap isNone f) .1 ∙ ap refusalNumber f
 
 -- ---- log-in
@@ -140,7 +140,7 @@ module _ (g : Geometry) (v : List ℕ) where
     law : lawful g ≡ true
     size : length v ≡ bytes g
     all-good : lowestBad g v ≡ slots g
-    count : valueOf (logIn g v .answer) ≡ freeCount (heldOf g v) (g .directory) (g .total)
+    count : valueOf (logIn g v .answer) ≡ freeCount (heldOf g v) (g .«directory_blocks») (g .blocks)
     state : logIn g v .drive ≡ loggedIn g (heldOf g v)
 
   no-test : succeeded (logIn g v .answer) ≡ true → isNone (firstMet (logInTests g v)) ≡ true
@@ -166,10 +166,10 @@ module _ (g : Geometry) (v : List ℕ) where
   passes-tests l s a = rw (l, eq-eqb (length v) (bytes g) s, le-ltb (lowestBad g v) (slots g) (omega arith))
 
   -- the blocks from D to T-1 that it holds are the named ones
-  pub holds-named : lawful g ≡ true → (b : ℕ) → g .directory ≤ b → b < g .total → holds (heldOf g v) b ≡ namedBelow g v (slots g) b
+  pub holds-named : lawful g ≡ true → (b : ℕ) → g .«directory_blocks» ≤ b → b < g .blocks → holds (heldOf g v) b ≡ namedBelow g v (slots g) b
   unfolding named inside
   holds-named l b low high =
-      holds-held g v b (omega (arith, bounds g l)) ∙ rw (le-leb (g .directory) b low, lt-ltb b (g .total) high)
+      holds-held g v b (omega (arith, bounds g l)) ∙ rw (le-leb (g .«directory_blocks») b low, lt-ltb b (g .blocks) high)
 
   -- no other: neither one outside D to T-1, nor one past the words
   far : (b : ℕ) → 256 ≤ b → holds (heldOf g v) b ≡ false
@@ -178,22 +178,22 @@ module _ (g : Geometry) (v : List ℕ) where
       let z = List·getD-eq-default (heldOf g v) 0 {n = b / 64} (omega (arith, length-words (named g v))) in
       rw (z, div-eq-of-lt (pow-pos (b % 64)))
 
-  pub holds-inside : (b : ℕ) → holds (heldOf g v) b ≡ true → (g .directory ≤ b) × (b < g .total)
+  pub holds-inside : (b : ℕ) → holds (heldOf g v) b ≡ true → (g .«directory_blocks» ≤ b) × (b < g .blocks)
   unfolding named inside
   holds-inside b h = elim (decLt b 256) [
-    | yes l ↦ parts (and-parts (leb (g .directory) b && ltb b (g .total)) _ (sym (holds-held g v b l) ∙ h) .0)
+    | yes l ↦ parts (and-parts (leb (g .«directory_blocks») b && ltb b (g .blocks)) _ (sym (holds-held g v b l) ∙ h) .0)
     | no l ↦ absurd (false≢true (sym (far b (omega arith)) ∙ h))
   ]
     where
-      parts : leb (g .directory) b && ltb b (g .total) ≡ true → (g .directory ≤ b) × (b < g .total)
+      parts : leb (g .«directory_blocks») b && ltb b (g .blocks) ≡ true → (g .«directory_blocks» ≤ b) × (b < g .blocks)
       parts q =
-          let p = and-parts (leb (g .directory) b) (ltb b (g .total)) q in
-          (leb-true (g .directory) b (p .0), ltb-true b (g .total) (p .1))
+          let p = and-parts (leb (g .«directory_blocks») b) (ltb b (g .blocks)) q in
+          (leb-true (g .«directory_blocks») b (p .0), ltb-true b (g .blocks) (p .1))
 
-  free-named : lawful g ≡ true → freeCount (heldOf g v) (g .directory) (g .total) ≡ countFrom (λ b. not (namedBelow g v (slots g) b)) (g .directory) (g .total - g .directory)
+  free-named : lawful g ≡ true → freeCount (heldOf g v) (g .«directory_blocks») (g .blocks) ≡ countFrom (λ b. not (namedBelow g v (slots g) b)) (g .«directory_blocks») (g .blocks - g .«directory_blocks»)
   unfolding freeCount
   free-named l =
-      count-ext (isFree (heldOf g v)) (λ b. not (namedBelow g v (slots g) b)) (g .directory) (g .total - g .directory)
+      count-ext (isFree (heldOf g v)) (λ b. not (namedBelow g v (slots g) b)) (g .«directory_blocks») (g .blocks - g .«directory_blocks»)
       (λ b x y. ap not (holds-named l b x (omega arith)))
 
   -- so log-in leaves a state that is sound
@@ -201,7 +201,7 @@ module _ (g : Geometry) (v : List ℕ) where
   unfolding named
   held-named l b q =
       let i = inside-is g b (and-parts (inside g b) (namedBelow g v (slots g) b) q .0) in
-      holds-held g v b (omega (arith, bounds g l .total-high, i .1)) ∙ q
+      holds-held g v b (omega (arith, bounds g l .blocks-high, i .1)) ∙ q
 
   four : length (heldOf g v) ≡ 4
   unfolding heldOf
@@ -216,9 +216,9 @@ unfolding does
 at-door g k p d v f b e = rw e
 
 module _ (g : Geometry) (c : Asked) (d : Drive) (v : List ℕ) (e : call c ≡ LogIn) where
-  door : step g c d v ≡ left (logIn g v) v (c .block) (c .buffer)
+  door : step g c d v ≡ left (logIn g v) v (c .fcb) (c .buffer)
   unfolding step
-  door = at-door g (call c) (c .parameter) d v (c .block) (c .buffer) e
+  door = at-door g (call c) (c .parameter) d v (c .fcb) (c .buffer) e
 
   answer-is : answer g c d v ≡ logIn g v .answer
   answer-is = ap (λ (o : Outcome). o .answer) door
@@ -239,42 +239,42 @@ module _ (g : Geometry) (c : Asked) (d : Drive) (v : List ℕ) (e : call c ≡ L
     log-in-sound : Sound (step g c d v .drive) (step g c d v .volume)
     log-in-sound = rw (door, facts .state) (logged-in-sound g v facts)
 
-    log-in-count : valueOf (answer g c d v) ≡ countFrom (λ b. not (namedBelow g v (slots g) b)) (g .directory) (g .total - g .directory)
+    log-in-count : valueOf (answer g c d v) ≡ countFrom (λ b. not (namedBelow g v (slots g) b)) (g .«directory_blocks») (g .blocks - g .«directory_blocks»)
     log-in-count = ap valueOf answer-is ∙ facts .count ∙ free-named g v (facts .law)
 
     held-words : step g c d v .drive .held ≡ heldOf g v
     held-words = ap (λ (s : Drive). s .held) (state-is ∙ facts .state)
 
-    log-in-holds : (b : ℕ) → g .directory ≤ b → b < g .total → holds (step g c d v .drive .held) b ≡ namedBelow g v (slots g) b
+    log-in-holds : (b : ℕ) → g .«directory_blocks» ≤ b → b < g .blocks → holds (step g c d v .drive .held) b ≡ namedBelow g v (slots g) b
     log-in-holds b low high = rw held-words (holds-named g v (facts .law) b low high)
 
-    log-in-holds-no-other : (b : ℕ) → holds (step g c d v .drive .held) b ≡ true → (g .directory ≤ b) × (b < g .total)
+    log-in-holds-no-other : (b : ℕ) → holds (step g c d v .drive .held) b ≡ true → (g .«directory_blocks» ≤ b) × (b < g .blocks)
     log-in-holds-no-other b q = holds-inside g v b (rw held-words at q)
 
 -- ---- the writes
 apart : (d : Drive) (v : List ℕ) → Sound d v → Apart (d .geometry) (d .held) v
 apart d v s = inspected (d .geometry) (d .held) v (s .words) (s .inspected) (s .holds-named)
 
-module _ (g : Geometry) (c : Asked) (d : Drive) (v : List ℕ) (n : ℕ) (r : List ℕ) (w : Writes (c .block) (c .buffer) (call c) n r)
+module _ (g : Geometry) (c : Asked) (d : Drive) (v : List ℕ) (n : ℕ) (r : List ℕ) (w : Writes (c .fcb) (c .buffer) (call c) n r)
     (h : succeeded (answer g c d v) ≡ true) where
-  write-stores : Present d (c .block) (step g c d v .volume) n r
+  write-stores : Present d (c .fcb) (step g c d v .volume) n r
   unfolding step
-  write-stores = stores g (c .parameter) d v (c .block) (c .buffer) w (was-none (step-says g c d v) h)
+  write-stores = stores g (c .parameter) d v (c .fcb) (c .buffer) w (was-none (step-says g c d v) h)
 
-  write-keeps : Sound d v → (m : ℕ) → m ≢ n → (s : List ℕ) → Present d (c .block) v m s → Present d (c .block) (step g c d v .volume) m s
+  write-keeps : Sound d v → (m : ℕ) → m ≢ n → (s : List ℕ) → Present d (c .fcb) v m s → Present d (c .fcb) (step g c d v .volume) m s
   unfolding step
   write-keeps sound m ne s p =
-      let k = others g (c .parameter) d v (c .block) (c .buffer) w (was-none (step-says g c d v) h) (apart d v sound) m ne (p .is-present) in
+      let k = others g (c .parameter) d v (c .fcb) (c .buffer) w (was-none (step-says g c d v) h) (apart d v sound) m ne (p .is-present) in
       record { is-present = k .still-present; has-bytes = k .same-bytes ∙ p .has-bytes }
 
 -- ---- the reads
-module _ (g : Geometry) (c : Asked) (d : Drive) (v : List ℕ) (n : ℕ) (ts : List Test) (w : Reads d v (c .block) (c .buffer) (call c) n ts) where
-  read-shows : succeeded (answer g c d v) ≡ true → Present d (c .block) v n (step g c d v .buffer)
+module _ (g : Geometry) (c : Asked) (d : Drive) (v : List ℕ) (n : ℕ) (ts : List Test) (w : Reads d v (c .fcb) (c .buffer) (call c) n ts) where
+  read-shows : succeeded (answer g c d v) ≡ true → Present d (c .fcb) v n (step g c d v .buffer)
   unfolding step
-  read-shows h = shows g (c .parameter) d v (c .block) (c .buffer) w (was-none (step-says g c d v) h)
+  read-shows h = shows g (c .parameter) d v (c .fcb) (c .buffer) w (was-none (step-says g c d v) h)
 
-  present-read : isNone (firstMet ts) ≡ true → Sound d v → (r : List ℕ) → Present d (c .block) v n r → succeeded (answer g c d v) ≡ true
-  present-read e s r h = step-says g c d v .none (reads-present g (c .parameter) d v (c .block) (c .buffer) w e (apart d v s) (h .is-present)) .0
+  present-read : isNone (firstMet ts) ≡ true → Sound d v → (r : List ℕ) → Present d (c .fcb) v n r → succeeded (answer g c d v) ≡ true
+  present-read e s r h = step-says g c d v .none (reads-present g (c .parameter) d v (c .fcb) (c .buffer) w e (apart d v s) (h .is-present)) .0
 
 -- ---- all together
 pub demand2 : Demand2

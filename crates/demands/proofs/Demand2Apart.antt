@@ -11,30 +11,30 @@ use lib.Dec.{eqb}
 use lib.ListN.{length}
 use borrow.Author.Tests.{ltb-true, eq-eqb}
 use Rattle.lists.proofs.BoolLaws.{and-left}
-use Rattle.geometry.specs.declared.Geometry.{Geometry}
-use Rattle.volume.specs.declared.Wanted.the-variants.{File, Group}
-use Rattle.geometry.specs.Geometry.{lawful, bytes, slots, groupOf, placeOf, places}
-use Rattle.volume.specs.Entry.{Entry, isEmpty, extent, blockIn, ofFile, ofGroup}
-use Rattle.volume.specs.Directory.{slotAt, findSlot}
-use Rattle.volume.specs.Record.{recordSlot, recordBlock}
-use Rattle.volume.proofs.DirectoryLaws.{slot-length}
-use Rattle.volume.proofs.FindLaws.{found-fits}
-use Rattle.geometry.proofs.GeometryLaws.{bounds, place-lt}
-use Rattle.blocks.specs.Held.{holds, hold}
-use Rattle.blocks.proofs.HoldLaws.{length-hold, holds-hold-same, holds-hold-other}
-use Rattle.answers.specs.Refusal.{isNone, firstMet}
-use Rattle.goodslots.specs.GoodSlot.{lowestBad}
-use Rattle.goodslots.specs.Named.{named}
-use Rattle.goodslots.proofs.AcceptedLaws.{good-entry, place-named, one-place}
-use Rattle.deciding.specs.Write.{hasGroup, writeSlot, baseEntry, needsBlock, writeBlock, writeTests}
-use Rattle.entries.specs.Grown.{likeEntry}
-use Rattle.entries.specs.Alloc.{alloc}
-use Rattle.deciding.specs.WritePlan.{volumeAfter, heldAfter}
-use Rattle.entries.proofs.AllocLaws.{alloc-given}
-use Rattle.writing.proofs.AfterLaws.{after-block, after-slot, after-slot-other}
-use Rattle.entries.proofs.GrowLaws.{written-other}
-use Rattle.deciding.proofs.WriteLaws.{write-passed}
-use Rattle.geometry.proofs.InsideLaws.{inside-is}
+use Rattle.disk_geometry.specs.declared.Geometry.{Geometry}
+use Rattle.disk_volume.specs.declared.Wanted.the-variants.{File, Group}
+use Rattle.disk_geometry.specs.Geometry.{lawful, bytes, slots, groupOf, placeOf, places}
+use Rattle.disk_volume.specs.Entry.{Entry, isEmpty, extent, blockIn, ofFile, ofGroup}
+use Rattle.disk_volume.specs.Directory.{slotAt, findSlot}
+use Rattle.disk_volume.specs.Record.{recordSlot, recordBlock}
+use Rattle.disk_volume.proofs.DirectoryLaws.{slot-length}
+use Rattle.disk_volume.proofs.FindLaws.{found-fits}
+use Rattle.disk_geometry.proofs.GeometryLaws.{bounds, place-lt}
+use Rattle.disk_held.specs.Held.{holds, hold}
+use Rattle.disk_held.proofs.HoldLaws.{length-hold, holds-hold-same, holds-hold-other}
+use Rattle.call_answers.specs.Refusal.{isNone, firstMet}
+use Rattle.disk_rules.specs.GoodSlot.{lowestBad}
+use Rattle.disk_rules.specs.Named.{named}
+use Rattle.disk_rules.proofs.AcceptedLaws.{good-entry, place-named, one-place}
+use Rattle.call_decide.specs.Write.{hasGroup, writeSlot, baseEntry, needsBlock, writeBlock, writeTests}
+use Rattle.call_entry.specs.Grown.{likeEntry}
+use Rattle.call_entry.specs.Alloc.{alloc}
+use Rattle.call_write.specs.CodeAfter.{volumeAfter, heldAfter}
+use Rattle.call_entry.proofs.AllocLaws.{alloc-given}
+use Rattle.call_write.proofs.AfterLaws.{after-block, after-slot, after-slot-other}
+use Rattle.call_entry.proofs.GrowLaws.{written-other}
+use Rattle.call_decide.proofs.WriteLaws.{write-passed}
+use Rattle.disk_geometry.proofs.InsideLaws.{inside-is}
 use Rattle.demands.proofs.Demand2Entries.{file-used, like-no-block}
 
 -- a place of the map of an entry
@@ -46,7 +46,7 @@ pub record At (g : Geometry) (v : List ℕ) (i p : ℕ) : Type 0 where
 pub record Apart (g : Geometry) (held v : List ℕ) : Type 0 where
   pub four : length held ≡ 4
   pub range : (i p : ℕ) → At g v i p → blockIn g (slotAt g v i) p ≢ 0
-      → (g .directory ≤ blockIn g (slotAt g v i) p) × (blockIn g (slotAt g v i) p < g .total)
+      → (g .«directory_blocks» ≤ blockIn g (slotAt g v i) p) × (blockIn g (slotAt g v i) p < g .blocks)
   pub once : (i p j q : ℕ) → At g v i p → At g v j q → blockIn g (slotAt g v i) p ≢ 0 → blockIn g (slotAt g v i) p ≡ blockIn g (slotAt g v j) q
       → (i ≡ j) × (p ≡ q)
   pub held-is : (i p : ℕ) → At g v i p → blockIn g (slotAt g v i) p ≢ 0 → holds held (blockIn g (slotAt g v i) p) ≡ true
@@ -206,7 +206,7 @@ module _ (g : Geometry) (held v : List ℕ) (u : ℕ) (name : List ℕ) (n : ℕ
           go false = a .four
 
       low : writeBlock g held v u name n < 256
-      low = omega (arith, bounds g good .total-high, write-passed g held v u name n passed .block-high)
+      low = omega (arith, bounds g good .blocks-high, write-passed g held v u name n passed .block-high)
 
       now-held : holds (heldAfter g held v u name n) (writeBlock g held v u name n) ≡ true
       now-held = go (needsBlock g v u name n) refl
@@ -227,15 +227,15 @@ module _ (g : Geometry) (held v : List ℕ) (u : ℕ) (name : List ℕ) (n : ℕ
           go false = h
 
       -- ---- all stands apart
-      range-after : (i p : ℕ) → At g after i p → now i p ≢ 0 → (g .directory ≤ now i p) × (now i p < g .total)
+      range-after : (i p : ℕ) → At g after i p → now i p ≢ 0 → (g .«directory_blocks» ≤ now i p) × (now i p < g .blocks)
       range-after i p at nz = ⊎-elim wrote kept (comes i p at nz)
         where
-          wrote : (i ≡ writeSlot g v u name n) × (p ≡ placeOf g n) → (g .directory ≤ now i p) × (now i p < g .total)
+          wrote : (i ≡ writeSlot g v u name n) × (p ≡ placeOf g n) → (g .«directory_blocks» ≤ now i p) × (now i p < g .blocks)
           wrote z =
               let w = write-passed g held v u name n passed in
               rw (written-here i p z) (w .block-low, w .block-high)
 
-          kept : Kept i p → (g .directory ≤ now i p) × (now i p < g .total)
+          kept : Kept i p → (g .«directory_blocks» ≤ now i p) × (now i p < g .blocks)
           kept k = rw (k .same) (a .range i p (k .at) (λ z. nz (k .same ∙ z)))
 
       once-after : (i p j q : ℕ) → At g after i p → At g after j q → now i p ≢ 0 → now i p ≡ now j q → (i ≡ j) × (p ≡ q)

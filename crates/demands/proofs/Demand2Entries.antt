@@ -13,14 +13,14 @@ use borrow.Author.Tests.{eqb-true, ne-eqb}
 use Rattle.lists.specs.Bytes.{byte, part}
 use Rattle.lists.proofs.BoolLaws.{and-left}
 use Rattle.lists.proofs.PartLaws.{length-part}
-use Rattle.geometry.specs.declared.Geometry.{Geometry}
-use Rattle.geometry.specs.Geometry.{lawful, records, groupOf, placeOf, places}
-use Rattle.volume.specs.Name.{nameOf, same}
-use Rattle.volume.specs.Entry.{Entry, isEmpty, extent, blockIn, countOf, ofFile}
-use Rattle.volume.proofs.EntryLaws.{count-above, count-own}
-use Rattle.geometry.proofs.GeometryLaws.{bounds}
-use Rattle.entries.specs.Grown.{likeEntry, grown}
-use Rattle.entries.proofs.GrowLaws.{grown-own, grown-earlier, grown-full, grown-other}
+use Rattle.disk_geometry.specs.declared.Geometry.{Geometry}
+use Rattle.disk_geometry.specs.Geometry.{lawful, records, groupOf, placeOf, places}
+use Rattle.disk_volume.specs.Name.{nameOf, same}
+use Rattle.disk_volume.specs.Entry.{Entry, isEmpty, extent, blockIn, countOf, ofFile}
+use Rattle.disk_volume.proofs.EntryLaws.{count-above, count-own}
+use Rattle.disk_geometry.proofs.GeometryLaws.{bounds}
+use Rattle.call_entry.specs.Grown.{likeEntry, grown}
+use Rattle.call_entry.proofs.GrowLaws.{grown-own, grown-earlier, grown-full, grown-other}
 
 -- an entry of a user 0..15 is not an empty slot
 pub file-used : (u : ℕ) (name : List ℕ) (e : Entry) → u ≤ 15 → ofFile u name e ≡ true → isEmpty e ≡ false
@@ -75,4 +75,4 @@ pub same-record : (g : Geometry) → lawful g ≡ true → (m n : ℕ) → group
 unfolding groupOf placeOf
 same-record g good m n x y z =
     let sizes = bounds g good .block-sizes in
-    sym (whole (g .block) sizes m) ∙ rw (x, y, z) (whole (g .block) sizes n)
+    sym (whole (g .«block_bytes») sizes m) ∙ rw (x, y, z) (whole (g .«block_bytes») sizes n)

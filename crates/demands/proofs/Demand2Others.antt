@@ -12,21 +12,21 @@ use lib.Dec.{ltb, eqb}
 use lib.ListN.{length}
 use borrow.Author.Tests.{lt-ltb, ltb-true, eqb-true, eqb-false, ne-eqb, not-true}
 use Rattle.lists.proofs.BoolLaws.{and-parts, and-right}
-use Rattle.geometry.specs.declared.Geometry.{Geometry}
-use Rattle.volume.specs.declared.Wanted.the-variants.{Empty, Group}
-use Rattle.geometry.specs.Geometry.{lawful, bytes, slots, groupOf, placeOf}
-use Rattle.volume.specs.Entry.{Entry, isEmpty, extent, blockIn, countOf, ofFile, ofGroup}
-use Rattle.volume.specs.Directory.{slotAt, slotFits, findSlot}
-use Rattle.volume.specs.Record.{recordSlot, recordBlock, counted, present, recordAt}
-use Rattle.volume.proofs.FindLaws.{found-fits, found-first, find-is}
-use Rattle.geometry.proofs.GeometryLaws.{place-lt}
-use Rattle.reading.specs.Read.{readBlock, readBytes}
-use Rattle.answers.specs.Refusal.{isNone, firstMet}
-use Rattle.deciding.specs.Write.{hasGroup, writeSlot, baseEntry, needsBlock, writeBlock, writeTests}
-use Rattle.deciding.specs.WritePlan.{entryAfter, volumeAfter}
-use Rattle.writing.proofs.AfterLaws.{after-group, after-block, after-slot, after-slot-other, after-record, after-record-other, after-record-within, after-recordSlot}
-use Rattle.entries.proofs.GrowLaws.{written-count, written-other}
-use Rattle.deciding.proofs.WriteLaws.{write-passed, length-base}
+use Rattle.disk_geometry.specs.declared.Geometry.{Geometry}
+use Rattle.disk_volume.specs.declared.Wanted.the-variants.{Empty, Group}
+use Rattle.disk_geometry.specs.Geometry.{lawful, bytes, slots, groupOf, placeOf}
+use Rattle.disk_volume.specs.Entry.{Entry, isEmpty, extent, blockIn, countOf, ofFile, ofGroup}
+use Rattle.disk_volume.specs.Directory.{slotAt, slotFits, findSlot}
+use Rattle.disk_volume.specs.Record.{recordSlot, recordBlock, counted, present, recordAt}
+use Rattle.disk_volume.proofs.FindLaws.{found-fits, found-first, find-is}
+use Rattle.disk_geometry.proofs.GeometryLaws.{place-lt}
+use Rattle.call_read.specs.Read.{readBlock, readBytes}
+use Rattle.call_answers.specs.Refusal.{isNone, firstMet}
+use Rattle.call_decide.specs.Write.{hasGroup, writeSlot, baseEntry, needsBlock, writeBlock, entryAfter, writeTests}
+use Rattle.call_write.specs.CodeAfter.{volumeAfter}
+use Rattle.call_write.proofs.AfterLaws.{after-group, after-block, after-slot, after-slot-other, after-record, after-record-other, after-record-within, after-recordSlot}
+use Rattle.call_entry.proofs.GrowLaws.{written-count, written-other}
+use Rattle.call_decide.proofs.WriteLaws.{write-passed, length-base}
 use Rattle.demands.proofs.Demand2Entries.{count-grows, same-record}
 use Rattle.demands.proofs.Demand2Apart.{At, Apart, own, own-block, block-apart, group-used}
 

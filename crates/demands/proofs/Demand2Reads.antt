@@ -5,31 +5,31 @@ use mathlib.Core.Bool.{true, false}
 use mathlib.Core.List.{List}
 use Prim.Native.Nat.{ℕ, _/_, _%_, _+_, _≤_, _<_}
 use borrow.Author.Tests.{not-false, lt-leb}
-use Rattle.geometry.specs.declared.Geometry.{Geometry}
-use Rattle.volume.specs.declared.Wanted.the-variants.{File}
-use Rattle.geometry.specs.Geometry.{lawful, slots, inside, groupOf, placeOf}
-use Rattle.volume.specs.Name.{nameOf}
-use Rattle.volume.specs.Directory.{findSlot}
-use Rattle.volume.specs.Record.{recordSlot, present}
-use Rattle.volume.proofs.FindLaws.{group-file}
-use Rattle.geometry.proofs.GeometryLaws.{place-lt}
-use Rattle.control.specs.Block.{position, random}
-use Rattle.answers.specs.declared.Refusal.{Refusal}
-use Rattle.answers.specs.declared.Refusal.the-variants.{Closed, NoFile, NoGroup, Absent}
-use Rattle.answers.specs.Refusal.{Test, isNone, firstMet}
-use Rattle.answers.proofs.Ladder.{unmet, ladder-pass}
-use Rattle.reading.specs.Read.{readBlock, readTests, readBytes}
-use Rattle.geometry.proofs.InsideLaws.{is-inside}
+use Rattle.disk_geometry.specs.declared.Geometry.{Geometry}
+use Rattle.disk_volume.specs.declared.Wanted.the-variants.{File}
+use Rattle.disk_geometry.specs.Geometry.{lawful, slots, inside, groupOf, placeOf}
+use Rattle.disk_volume.specs.Name.{nameOf}
+use Rattle.disk_volume.specs.Directory.{findSlot}
+use Rattle.disk_volume.specs.Record.{recordSlot, present}
+use Rattle.disk_volume.proofs.FindLaws.{group-file}
+use Rattle.disk_geometry.proofs.GeometryLaws.{place-lt}
+use Rattle.call_fcb.specs.Fcb.{position, random}
+use Rattle.call_answers.specs.declared.Refusal.{Refusal}
+use Rattle.call_answers.specs.declared.Refusal.the-variants.{Closed, NoFile, NoGroup, Absent}
+use Rattle.call_answers.specs.Refusal.{Test, isNone, firstMet}
+use Rattle.call_answers.proofs.Ladder.{unmet, ladder-pass}
+use Rattle.call_read.specs.Read.{readBlock, readTests, readBytes}
+use Rattle.disk_geometry.proofs.InsideLaws.{is-inside}
 use Rattle.filecalls.specs.declared.Drive.{Drive}
 use Rattle.filecalls.specs.Outcome.{unless, Outcome, outcome}
-use Rattle.filecalls.specs.Ready.{Open}
+use Rattle.filecalls.specs.CodeReady.{OpenState}
 use Rattle.filecalls.specs.State.{isOpen}
 use Rattle.filecalls.specs.Read.{sequentialTests, randomTests, readDone, readSequentialAct, readRandomAct}
 use Rattle.filecalls.proofs.OutcomeLaws as laws
 use Rattle.filecalls.proofs.StateLaws.{both-clear, is-open}
-use Rattle.served.specs.declared.Call.{Call}
-use Rattle.served.specs.declared.Call.the-variants.{Moves}
-use Rattle.served.specs.declared.Transfer.the-variants.{ReadSequential, ReadRandom}
+use Rattle.call_served.specs.declared.Call.{Call}
+use Rattle.call_served.specs.declared.Call.the-variants.{Moves}
+use Rattle.call_served.specs.declared.Transfer.the-variants.{ReadSequential, ReadRandom}
 use Rattle.bdos.specs.Step.{carries, does}
 use Rattle.demands.specs.Order.{testsOf}
 use Rattle.demands.specs.Demand2.{Reads, in-sequence, at-random, Present}
@@ -87,7 +87,7 @@ module _ (g : Geometry) (p : ℕ) (d : Drive) (v f b : List ℕ) where
         has-bytes = sym (buffer-left (random f) (random f % 128) (testsOf g (Moves ReadRandom) p d v f b) e);
       }
 
-  opened : {k : Call} {n : ℕ} {ts : List Test} → Reads d v f b k n ts → isNone (firstMet ts) ≡ true → Open d
+  opened : {k : Call} {n : ℕ} {ts : List Test} → Reads d v f b k n ts → isNone (firstMet ts) ≡ true → OpenState d
   unfolding sequentialTests randomTests
   opened in-sequence e = is-open d (not-false (isOpen d) (unmet Closed _ _ refl e .0))
   opened at-random e = is-open d (not-false (isOpen d) (unmet Closed _ _ refl e .0))

@@ -8,22 +8,22 @@ use Prim.Native.Nat.{ℕ, zero, suc, _+_, _%_, _<_}
 use native.Mathlib.Omega.{arith}
 use lib.ListN.{length, getD}
 use Rattle.lists.proofs.BoolLaws.{and-parts}
-use Rattle.geometry.specs.declared.Geometry.{Geometry}
-use Rattle.volume.specs.Name.{nameOf}
-use Rattle.volume.specs.Record.{present}
-use Rattle.control.specs.Block.{position, setTo}
-use Rattle.answers.specs.Refusal.{isNone, firstMet}
-use Rattle.answers.specs.Answer.{succeeded}
-use Rattle.deciding.specs.WritePlan.{entryAfter}
-use Rattle.deciding.proofs.WriteLaws.{length-entryAfter}
+use Rattle.disk_geometry.specs.declared.Geometry.{Geometry}
+use Rattle.disk_volume.specs.Name.{nameOf}
+use Rattle.disk_volume.specs.Record.{present}
+use Rattle.call_fcb.specs.Fcb.{position, setTo}
+use Rattle.call_answers.specs.Refusal.{isNone, firstMet}
+use Rattle.call_answers.specs.Answer.{succeeded}
+use Rattle.call_decide.specs.Write.{entryAfter}
+use Rattle.call_decide.proofs.WriteLaws.{length-entryAfter}
 use Rattle.filecalls.specs.declared.Drive.{Drive}
 use Rattle.filecalls.specs.Outcome.{Outcome}
 use Rattle.filecalls.specs.Write.{writeSequentialAct}
-use Rattle.served.specs.declared.Call.the-variants.{Moves}
-use Rattle.served.specs.declared.Transfer.the-variants.{WriteSequential}
+use Rattle.call_served.specs.declared.Call.the-variants.{Moves}
+use Rattle.call_served.specs.declared.Transfer.the-variants.{WriteSequential}
 use Rattle.bdos.specs.Step.{carries, does, step}
-use Rattle.served.specs.Asked.{asked}
-use Rattle.served.specs.Calls.{callOf}
+use Rattle.call_served.specs.Asked.{asked}
+use Rattle.call_served.specs.Calls.{callOf}
 use Rattle.demands.specs.Order.{testsOf}
 use Rattle.demands.specs.Demand2.{sequential, Present, allWritten, volumeAtEnd}
 use Rattle.demands.proofs.Says.{was-none}
@@ -37,8 +37,8 @@ use Rattle.demands.proofs.Demand2Writes.{call-clear, call-wrote, block-
 pub record Next (d : Drive) (v f r : List ℕ) (o : Outcome) : Type 0 where
   pub geometry-is : o .drive .geometry ≡ d .geometry
   pub user-is : o .drive .user ≡ d .user
-  pub name-is : nameOf (o .block) ≡ nameOf f
-  pub position-is : position (o .block) ≡ position f + 1
+  pub name-is : nameOf (o .fcb) ≡ nameOf f
+  pub position-is : position (o .fcb) ≡ position f + 1
   pub written : Present d f (o .volume) (position f) r
   pub others-stay : Apart (d .geometry) (d .held) v → (m : ℕ) → m ≢ position f → present (d .geometry) v (d .user) (nameOf f) m ≡ true
       → Stays (d .geometry) v (o .volume) (d .user) (nameOf f) m
@@ -46,7 +46,7 @@ pub record Next (d : Drive) (v f r : List ℕ) (o : Outcome) : Type 0 where
 
 module _ (g : Geometry) (p : ℕ) (d : Drive) (v f r : List ℕ) where
   block-is : isNone (firstMet (testsOf g (Moves WriteSequential) p d v f r)) ≡ true
-      → does g (Moves WriteSequential) p d v f r .block ≡ setTo f (entryAfter (d .geometry) (d .held) v (d .user) (nameOf f) (position f)) (position f) (position f % 128 + 1)
+      → does g (Moves WriteSequential) p d v f r .fcb ≡ setTo f (entryAfter (d .geometry) (d .held) v (d .user) (nameOf f) (position f)) (position f) (position f % 128 + 1)
   unfolding does carries writeSequentialAct
   block-is e = block-left d v f (position f) (position f % 128 + 1) false r (testsOf g (Moves WriteSequential) p d v f r) e
 
@@ -61,8 +61,8 @@ module _ (g : Geometry) (p : ℕ) (d : Drive) (v f r : List ℕ) where
       record {
         geometry-is = w .geometry-is;
         user-is = w .user-is;
-        name-is = ap nameOf (block-is e) ∙ same-name f (c .block) entry e32 n (n % 128 + 1);
-        position-is = ap position (block-is e) ∙ next-position f (c .block) entry e32 n (n % 128 + 1) refl;
+        name-is = ap nameOf (block-is e) ∙ same-name f (c .fcb) entry e32 n (n % 128 + 1);
+        position-is = ap position (block-is e) ∙ next-position f (c .fcb) entry e32 n (n % 128 + 1) refl;
         written = stores g p d v f r sequential e;
         others-stay = others g p d v f r sequential e;
         apart = still-apart g p d v f r sequential e;
@@ -81,10 +81,10 @@ module _ (g : Geometry) (p : ℕ) where
   below-stays [] d v f a h m l q = record { still-present = q; same-bytes = refl }
   below-stays (r ∷ rs) d v f a h m l q =
       let o = step g (asked 21 p f r) d v in
-      let both = and-parts (succeeded (o .answer)) (allWritten g p rs (o .drive) (o .volume) (o .block)) h in
+      let both = and-parts (succeeded (o .answer)) (allWritten g p rs (o .drive) (o .volume) (o .fcb)) h in
       let x = next g p d v f r (both .0) in
       let s = x .others-stay a m (omega arith) q in
-      let t = below-stays rs (o .drive) (o .volume) (o .block) (rw (x .geometry-is) (x .apart a)) (both .1) m (omega (arith, x .position-is))
+      let t = below-stays rs (o .drive) (o .volume) (o .fcb) (rw (x .geometry-is) (x .apart a)) (both .1) m (omega (arith, x .position-is))
       (rw (x .geometry-is, x .user-is, x .name-is) (s .still-present)) in
       let u = rw (x .geometry-is, x .user-is, x .name-is) at t in
       record { still-present = u .still-present; same-bytes = u .same-bytes ∙ s .same-bytes }
@@ -94,19 +94,19 @@ module _ (g : Geometry) (p : ℕ) where
   sequence [] d v f a h j l = absurd (omega arith)
   sequence (r ∷ rs) d v f a h zero l =
       let o = step g (asked 21 p f r) d v in
-      let both = and-parts (succeeded (o .answer)) (allWritten g p rs (o .drive) (o .volume) (o .block)) h in
+      let both = and-parts (succeeded (o .answer)) (allWritten g p rs (o .drive) (o .volume) (o .fcb)) h in
       let x = next g p d v f r (both .0) in
-      let t = below-stays rs (o .drive) (o .volume) (o .block) (rw (x .geometry-is) (x .apart a)) (both .1) (position f) (omega (arith, x .position-is))
+      let t = below-stays rs (o .drive) (o .volume) (o .fcb) (rw (x .geometry-is) (x .apart a)) (both .1) (position f) (omega (arith, x .position-is))
       (rw (x .geometry-is, x .user-is, x .name-is) (x .written .is-present)) in
       let u = rw (x .geometry-is, x .user-is, x .name-is) at t in
       let z : position f + 0 ≡ position f = omega arith in
       rw z (record { is-present = u .still-present; has-bytes = u .same-bytes ∙ x .written .has-bytes })
   sequence (r ∷ rs) d v f a h (suc j) l =
       let o = step g (asked 21 p f r) d v in
-      let both = and-parts (succeeded (o .answer)) (allWritten g p rs (o .drive) (o .volume) (o .block)) h in
+      let both = and-parts (succeeded (o .answer)) (allWritten g p rs (o .drive) (o .volume) (o .fcb)) h in
       let x = next g p d v f r (both .0) in
-      let t = sequence rs (o .drive) (o .volume) (o .block) (rw (x .geometry-is) (x .apart a)) (both .1) j (omega arith) in
-      let z : position f + suc j ≡ position (o .block) + j = omega (arith, x .position-is) in
+      let t = sequence rs (o .drive) (o .volume) (o .fcb) (rw (x .geometry-is) (x .apart a)) (both .1) j (omega arith) in
+      let z : position f + suc j ≡ position (o .fcb) + j = omega (arith, x .position-is) in
       rw z
       (record {
         is-present = rw (x .geometry-is, x .user-is, x .name-is) at (t .is-present);

@@ -10,32 +10,32 @@ use lib.ListN.{length, set, length-set}
 use lib.Seq.{getD-set-same, getD-set-other}
 use Rattle.lists.specs.Bytes.{byte, part}
 use Rattle.lists.proofs.PartLaws.{length-part, byte-out, part-apart, part-part}
-use Rattle.geometry.specs.declared.Geometry.{Geometry}
-use Rattle.geometry.specs.Geometry.{bytes}
-use Rattle.volume.specs.Name.{strip, nameAt, nameOf}
-use Rattle.volume.specs.Entry.{Entry, countOf}
-use Rattle.volume.specs.Record.{present}
-use Rattle.control.specs.Block.{position, random, setTo}
-use Rattle.answers.specs.declared.Refusal.the-variants.{Protected}
-use Rattle.answers.specs.Refusal.{Test, isNone, firstMet}
-use Rattle.answers.proofs.Ladder.{unmet}
-use Rattle.deciding.specs.Write.{writeTests}
-use Rattle.deciding.specs.WritePlan.{entryAfter, volumeAfter, heldAfter}
-use Rattle.writing.proofs.AfterLaws.{after-present}
-use Rattle.entries.proofs.HeadLaws.{head, head-set}
+use Rattle.disk_geometry.specs.declared.Geometry.{Geometry}
+use Rattle.disk_geometry.specs.Geometry.{bytes}
+use Rattle.disk_volume.specs.Name.{strip, nameAt, nameOf}
+use Rattle.disk_volume.specs.Entry.{Entry, countOf}
+use Rattle.disk_volume.specs.Record.{present}
+use Rattle.call_fcb.specs.Fcb.{position, random, setTo}
+use Rattle.call_answers.specs.declared.Refusal.the-variants.{Protected}
+use Rattle.call_answers.specs.Refusal.{Test, isNone, firstMet}
+use Rattle.call_answers.proofs.Ladder.{unmet}
+use Rattle.call_decide.specs.Write.{entryAfter, writeTests}
+use Rattle.call_write.specs.CodeAfter.{volumeAfter, heldAfter}
+use Rattle.call_write.proofs.AfterLaws.{after-present}
+use Rattle.call_entry.proofs.HeadLaws.{head, head-set}
 use Rattle.filecalls.specs.declared.Drive.{Drive}
 use Rattle.filecalls.specs.Outcome.{unless, Outcome, outcome}
-use Rattle.filecalls.specs.Ready.{Open, Lent}
-use Rattle.filecalls.specs.Lent.{namedTests, sequentialLent, randomLent}
+use Rattle.filecalls.specs.CodeReady.{OpenState, Lent}
+use Rattle.filecalls.specs.CodeLadder.{namedTests, sequentialLent, randomLent}
 use Rattle.filecalls.specs.Read.{sequentialTests, randomTests}
 use Rattle.filecalls.specs.Write.{writeDone, directoryTests, writeSequentialAct, writeRandomAct, writeZeroFillAct}
 use Rattle.filecalls.proofs.LentLaws.{sequential-lent, random-lent}
 use Rattle.filecalls.proofs.OutcomeLaws as laws
 use Rattle.filecalls.proofs.StateLaws.{both-clear, named-clear}
 use Rattle.filecalls.proofs.WriteLaws.{leaves}
-use Rattle.served.specs.declared.Call.{Call}
-use Rattle.served.specs.declared.Call.the-variants.{Moves}
-use Rattle.served.specs.declared.Transfer.the-variants.{WriteSequential, WriteRandom, WriteZeroFill}
+use Rattle.call_served.specs.declared.Call.{Call}
+use Rattle.call_served.specs.declared.Call.the-variants.{Moves}
+use Rattle.call_served.specs.declared.Transfer.the-variants.{WriteSequential, WriteRandom, WriteZeroFill}
 use Rattle.bdos.specs.Step.{carries, does}
 use Rattle.demands.specs.Order.{testsOf}
 use Rattle.demands.specs.Demand2.{Writes, sequential, direct, zero-filling, Present}
@@ -45,16 +45,16 @@ use Rattle.demands.proofs.Demand2Others.{is-present, Stays, bytes-after
 -- ---- what the tests tell
 -- a write whose tests are not met: what is lent is right, and the directory's tests pass
 pub record Clear (d : Drive) (v f r : List ℕ) (n : ℕ) : Type 0 where
-  pub state : Open d
+  pub state : OpenState d
   pub size : length v ≡ bytes (d .geometry)
-  pub block : length f ≡ 36
+  pub fcb : length f ≡ 36
   pub record128 : length r ≡ 128
   pub passed : isNone (firstMet (writeTests (d .geometry) (d .held) v (d .user) (nameOf f) n)) ≡ true
 
 module _ (d : Drive) (v f : List ℕ) where
   clear : {b : ℕ} (r : List ℕ) (n : ℕ) → Lent d (length v) (length f) b → length r ≡ 128 → isNone (firstMet (directoryTests d v f n)) ≡ true → Clear d v f r n
   clear r n l r128 e =
-      record { state = l .state; size = l .volume; block = l .block; record128 = r128; passed = unmet Protected _ _ refl e .1 }
+      record { state = l .state; size = l .volume; fcb = l .fcb; record128 = r128; passed = unmet Protected _ _ refl e .1 }
 
   clear-sequential : (b : List ℕ) → isNone (firstMet (sequentialTests d v f b ++ directoryTests d v f (position f))) ≡ true → Clear d v f b (position f)
   unfolding sequentialLent
@@ -91,8 +91,8 @@ module _ (d : Drive) (v f : List ℕ) (n cr : ℕ) (fills : Bool) (b : List ℕ)
       }
 
   pub block-left : (ts : List Test) → isNone (firstMet ts) ≡ true
-      → outcome d v f b (unless ts (writeDone d v f n cr fills b)) .block ≡ setTo f (entryAfter (d .geometry) (d .held) v (d .user) (nameOf f) n) n cr
-  block-left ts e = ap (λ (o : Outcome). o .block) (ap (outcome d v f b) (laws.does ts (writeDone d v f n cr fills b) e) ∙ leaves d v f n cr fills b)
+      → outcome d v f b (unless ts (writeDone d v f n cr fills b)) .fcb ≡ setTo f (entryAfter (d .geometry) (d .held) v (d .user) (nameOf f) n) n cr
+  block-left ts e = ap (λ (o : Outcome). o .fcb) (ap (outcome d v f b) (laws.does ts (writeDone d v f n cr fills b) e) ∙ leaves d v f n cr fills b)
 
 -- ---- the three writes
 -- does it fill a block that it gives?

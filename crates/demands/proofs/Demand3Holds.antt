@@ -5,22 +5,22 @@ use mathlib.Core.Bool.{true, false, _&&_, _||_}
 use mathlib.Core.List.{List, [], _∷_}
 use Prim.Native.Nat.{ℕ, _≤_}
 use lib.ListN.{length}
-use Rattle.geometry.specs.declared.Geometry.{Geometry}
-use Rattle.geometry.specs.Geometry.{lawful, bytes, slots}
-use Rattle.blocks.specs.Held.{freeCount}
-use Rattle.answers.specs.declared.Answer.the-variants.{Ready}
-use Rattle.answers.specs.Answer.{succeeded}
-use Rattle.goodslots.specs.GoodSlot.{lowestBad}
-use Rattle.goodslots.specs.Named.{heldOf}
-use Rattle.goodslots.proofs.AcceptedLaws.{one-place}
-use Rattle.sweeping.proofs.EditLaws.{or-false}
+use Rattle.disk_geometry.specs.declared.Geometry.{Geometry}
+use Rattle.disk_geometry.specs.Geometry.{lawful, bytes, slots}
+use Rattle.disk_held.specs.Held.{freeCount}
+use Rattle.call_answers.specs.declared.Answer.the-variants.{Ready}
+use Rattle.call_answers.specs.Answer.{succeeded}
+use Rattle.disk_rules.specs.GoodSlot.{lowestBad}
+use Rattle.disk_rules.specs.Named.{heldOf}
+use Rattle.disk_rules.proofs.AcceptedLaws.{one-place}
+use Rattle.call_sweep.proofs.EditLaws.{or-false}
 use Rattle.filecalls.specs.declared.Drive.{Drive}
 use Rattle.filecalls.specs.State.{loggedIn}
 use Rattle.filecalls.specs.Outcome.{Outcome, withHeld}
-use Rattle.served.specs.declared.Call.the-variants.{LogIn}
+use Rattle.call_served.specs.declared.Call.the-variants.{LogIn}
 use Rattle.bdos.specs.Step.{does, step}
-use Rattle.served.specs.Asked.{Asked}
-use Rattle.served.specs.Calls.{callOf}
+use Rattle.call_served.specs.Asked.{Asked}
+use Rattle.call_served.specs.Calls.{callOf}
 use Rattle.demands.specs.Run.{Seen, seen, answers, final, plainStep}
 use Rattle.demands.specs.Demand3.{Bytes, BytesLent, touches, touched, Kept, Demand3, NoBlockTwice}
 use Rattle.demands.proofs.Inspected.{accepted-sound, sound-accepted, held-of}
@@ -30,20 +30,20 @@ use Rattle.demands.proofs.Agree.{does-alike}
 use Rattle.demands.proofs.CallsKeep.{log-in-is, logged-in, does-keeps}
 
 -- ---- one call
-pub step-keeps : (g : Geometry) (c : Asked) (d : Drive) (v : List ℕ) → d .geometry ≡ g → Consistent d v → Bytes (c .block)
+pub step-keeps : (g : Geometry) (c : Asked) (d : Drive) (v : List ℕ) → d .geometry ≡ g → Consistent d v → Bytes (c .fcb)
     → StepKeeps (λ u name. touches c d u name) d v (step g c d v)
 unfolding step touches
-step-keeps g c d v same k small = does-keeps g (c .parameter) d v (c .block) (c .buffer) same k small (callOf (c .function))
+step-keeps g c d v same k small = does-keeps g (c .parameter) d v (c .fcb) (c .buffer) same k small (callOf (c .function))
 
 plain-alike : (g : Geometry) (c : Asked) (d : Drive) (k v : List ℕ) → Consistent d v → Alike (step g c d v) (plainStep g c (withHeld d k) v)
 unfolding step plainStep
 plain-alike g c d k v s =
-    does-alike d (heldOf (d .geometry) v) v (c .block) (c .buffer) s
+    does-alike d (heldOf (d .geometry) v) v (c .fcb) (c .buffer) s
     (record { law = s .law; size = s .size; sound = s .sound; held = held-of (d .geometry) v (s .law) })
     g (callOf (c .function)) (c .parameter)
 
 seen-alike : {o p : Outcome} → Alike o p → seen o ≡ seen p
-seen-alike a = λ i. record { answer = a .answer i; block = a .block i; buffer = a .buffer i }
+seen-alike a = λ i. record { answer = a .answer i; fcb = a .fcb i; buffer = a .buffer i }
 
 -- ---- a run from a consistent state; the plain way's state differs at most in what it holds
 runs : (g : Geometry) (cs : List Asked) (d : Drive) (k v : List ℕ) → d .geometry ≡ g → Consistent d v → BytesLent cs → Kept g v cs d (withHeld d k)
@@ -81,10 +81,10 @@ module _ (g : Geometry) (law : lawful g ≡ true) (v : List ℕ) (size : length 
   -- what it leaves, by either way and from any state
   abbrev pub ready : Outcome
   ready = record {
-    answer = Ready (freeCount (heldOf g v) (g .directory) (g .total));
+    answer = Ready (freeCount (heldOf g v) (g .«directory_blocks») (g .blocks));
     drive = loggedIn g (heldOf g v);
     volume = v;
-    block = login .block;
+    fcb = login .fcb;
     buffer = login .buffer;
   }
 

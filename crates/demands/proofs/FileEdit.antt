@@ -8,14 +8,14 @@ use native.Mathlib.Omega.{arith}
 use lib.Dec.{eqb}
 use lib.ListN.{length}
 use Rattle.lists.specs.Bytes.{byte}
-use Rattle.geometry.specs.declared.Geometry.{Geometry}
-use Rattle.geometry.specs.Geometry.{lawful, bytes, slots, groupOf}
-use Rattle.volume.specs.Name.{nameOf, goodName, same}
-use Rattle.volume.specs.Entry.{Entry, extent, blockIn, ofFile}
-use Rattle.volume.specs.Directory.{slotAt, mapSlots}
-use Rattle.volume.proofs.DirectoryLaws.{slot-length}
-use Rattle.sweeping.proofs.SweepLaws.{mapSlots-length, mapSlots-slot, mapSlots-record}
-use Rattle.goodslots.proofs.TwinLaws.{Twins}
+use Rattle.disk_geometry.specs.declared.Geometry.{Geometry}
+use Rattle.disk_geometry.specs.Geometry.{lawful, bytes, slots, groupOf}
+use Rattle.disk_volume.specs.Name.{nameOf, goodName, same}
+use Rattle.disk_volume.specs.Entry.{Entry, extent, blockIn, ofFile}
+use Rattle.disk_volume.specs.Directory.{slotAt, mapSlots}
+use Rattle.disk_volume.proofs.DirectoryLaws.{slot-length}
+use Rattle.call_sweep.proofs.SweepLaws.{mapSlots-length, mapSlots-slot, mapSlots-record}
+use Rattle.disk_rules.proofs.TwinLaws.{Twins}
 use Rattle.demands.proofs.Orderly.{InOrder, Orderly, Changed, Held, sound-changed, held-changed}
 use Rattle.demands.proofs.Frame.{Touch, unchanged, foreign, Apart}
 use Rattle.demands.proofs.Files.{IsOf, is-of, of-file, other-file, file-block}

@@ -9,13 +9,13 @@ use lib.Dec.{eqb}
 use borrow.Author.Tests.{eqb-true, eq-eqb, ne-eqb}
 use Rattle.lists.specs.Bytes.{byte}
 use Rattle.lists.proofs.BoolLaws.{and-parts}
-use Rattle.volume.specs.Name.{nameOf, same, like}
-use Rattle.geometry.specs.declared.Geometry.{Geometry}
-use Rattle.geometry.specs.Geometry.{slots, places}
-use Rattle.volume.specs.Entry.{Entry, blockIn, ofFile, matches}
-use Rattle.volume.specs.Directory.{slotAt}
-use Rattle.volume.proofs.NameLaws.{same-refl, same-true}
-use Rattle.geometry.proofs.InsideLaws.{inside-is}
+use Rattle.disk_volume.specs.Name.{nameOf, same, like}
+use Rattle.disk_geometry.specs.declared.Geometry.{Geometry}
+use Rattle.disk_geometry.specs.Geometry.{slots, places}
+use Rattle.disk_volume.specs.Entry.{Entry, blockIn, ofFile, matches}
+use Rattle.disk_volume.specs.Directory.{slotAt}
+use Rattle.disk_volume.proofs.NameLaws.{same-refl, same-true}
+use Rattle.disk_geometry.proofs.InsideLaws.{inside-is}
 use Rattle.demands.proofs.Orderly.{Live, Orderly}
 
 pub record IsOf (u : ℕ) (name : List ℕ) (e : Entry) : Type 0 where
@@ -75,7 +75,7 @@ pub file-live : (u : ℕ) (name : List ℕ) (e : Entry) → u ≤ 15 → ofFile 
 file-live u name e u15 own = user-live e (omega (arith, is-of u name e own .user))
 
 pub file-block : (g : Geometry) (v : List ℕ) → Orderly g (slotAt g v) → (u : ℕ) (name : List ℕ) → u ≤ 15 → (j p : ℕ) → j < slots g → p < places g
-    → ofFile u name (slotAt g v j) ≡ true → blockIn g (slotAt g v j) p ≢ 0 → (g .directory ≤ blockIn g (slotAt g v j) p) × (blockIn g (slotAt g v j) p < g .total)
+    → ofFile u name (slotAt g v j) ≡ true → blockIn g (slotAt g v j) p ≢ 0 → (g .«directory_blocks» ≤ blockIn g (slotAt g v j) p) × (blockIn g (slotAt g v j) p < g .blocks)
 file-block g v sound u name u15 j p j< p< own nz =
     inside-is g (blockIn g (slotAt g v j) p) (sound .order j j< (file-live u name (slotAt g v j) u15 own) .range p p< nz)
 

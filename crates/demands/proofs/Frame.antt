@@ -8,16 +8,16 @@ use native.Mathlib.Omega.{arith}
 use lib.Dec.{ltb, eqb}
 use borrow.Author.Tests.{ltb-true, not-true, eqb-false}
 use Rattle.lists.proofs.BoolLaws.{and-left, and-right, and-parts}
-use Rattle.lists.proofs.SearchLaws.{low-ext}
-use Rattle.geometry.specs.declared.Geometry.{Geometry}
-use Rattle.volume.specs.declared.Wanted.the-variants.{Group}
-use Rattle.geometry.specs.Geometry.{lawful, slots, groupOf, placeOf, places}
-use Rattle.volume.specs.Entry.{Entry, blockIn, countOf, ofFile, ofGroup}
-use Rattle.volume.specs.Directory.{slotAt, findSlot, slotFits}
-use Rattle.volume.specs.Record.{recordSlot, recordBlock, recordAt, counted, present}
-use Rattle.volume.proofs.FindLaws.{found-fits}
-use Rattle.geometry.proofs.GeometryLaws.{place-lt}
-use Rattle.reading.specs.Read.{readBlock, readBytes}
+use Rattle.lists.proofs.BoundedLaws.{low-ext}
+use Rattle.disk_geometry.specs.declared.Geometry.{Geometry}
+use Rattle.disk_volume.specs.declared.Wanted.the-variants.{Group}
+use Rattle.disk_geometry.specs.Geometry.{lawful, slots, groupOf, placeOf, places}
+use Rattle.disk_volume.specs.Entry.{Entry, blockIn, countOf, ofFile, ofGroup}
+use Rattle.disk_volume.specs.Directory.{slotAt, findSlot, slotFits}
+use Rattle.disk_volume.specs.Record.{recordSlot, recordBlock, recordAt, counted, present}
+use Rattle.disk_volume.proofs.FindLaws.{found-fits}
+use Rattle.disk_geometry.proofs.GeometryLaws.{place-lt}
+use Rattle.call_read.specs.Read.{readBlock, readBytes}
 
 -- an entry is as it was, or it was none of the file's and is none
 pub data Touch (u : ℕ) (name : List ℕ) (e e′ : Entry) : Type 0 where

@@ -8,18 +8,18 @@ use native.Mathlib.Omega.{arith}
 use native.Mathlib.Decide.{ℕ-discrete}
 use lib.Dec.{eqb}
 use Rattle.lists.proofs.BoolLaws.{and-right}
-use Rattle.geometry.specs.declared.Geometry.{Geometry}
-use Rattle.geometry.specs.Geometry.{lawful, slots, inside, places}
-use Rattle.volume.specs.Entry.{isEmpty, blockIn}
-use Rattle.volume.specs.Directory.{slotAt}
-use Rattle.geometry.proofs.GeometryLaws.{bounds}
-use Rattle.goodslots.specs.GoodSlot.{namedBelow, goodSlot, lowestBad}
-use Rattle.goodslots.specs.Named.{named, heldOf}
-use Rattle.goodslots.proofs.GoodLaws.{Good, is-good, fields-good, good-fields}
-use Rattle.goodslots.proofs.TwinLaws.{twin, twin-true, twins}
-use Rattle.goodslots.proofs.AcceptedLaws.{accepts, good-entry, one-place, one-entry}
-use Rattle.goodslots.proofs.NamedLaws.{named-at, at-named, holds-held, words-held}
-use Rattle.geometry.proofs.InsideLaws.{is-inside}
+use Rattle.disk_geometry.specs.declared.Geometry.{Geometry}
+use Rattle.disk_geometry.specs.Geometry.{lawful, slots, inside, places}
+use Rattle.disk_volume.specs.Entry.{isEmpty, blockIn}
+use Rattle.disk_volume.specs.Directory.{slotAt}
+use Rattle.disk_geometry.proofs.GeometryLaws.{bounds}
+use Rattle.disk_rules.specs.GoodSlot.{namedBelow, goodSlot, lowestBad}
+use Rattle.disk_rules.specs.Named.{named, heldOf}
+use Rattle.disk_rules.proofs.GoodLaws.{Good, is-good, fields-good, good-fields}
+use Rattle.disk_rules.proofs.TwinLaws.{twin, twin-true, twins}
+use Rattle.disk_rules.proofs.AcceptedLaws.{accepts, good-entry, one-place, one-entry}
+use Rattle.disk_rules.proofs.NamedLaws.{named-at, at-named, holds-held, words-held}
+use Rattle.disk_geometry.proofs.InsideLaws.{is-inside}
 use Rattle.demands.proofs.Orderly.{Live, InOrder, Orderly, HeldBy, Held}
 
 module _ (g : Geometry) (v : List ℕ) where
@@ -88,6 +88,6 @@ module _ (g : Geometry) (v : List ℕ) where
   pub held-of : lawful g ≡ true → Held g (heldOf g v) (slotAt g v)
   held-of law = record {
     four = words-held g v .four;
-    sound = λ b low high t. held-sound b (sym (holds-held g v b (omega (arith, bounds g law .total-high))) ∙ t);
-    whole = λ b low high w. holds-held g v b (omega (arith, bounds g law .total-high)) ∙ held-whole b (is-inside g b low high) w;
+    sound = λ b low high t. held-sound b (sym (holds-held g v b (omega (arith, bounds g law .blocks-high))) ∙ t);
+    whole = λ b low high w. holds-held g v b (omega (arith, bounds g law .blocks-high)) ∙ held-whole b (is-inside g b low high) w;
   }

@@ -19,7 +19,6 @@ pub mod MakeKeeps
 pub mod WrittenEntry
 pub mod WriteKeeps
 pub mod WritesKeep
-pub mod FreeMatches
 pub mod DeleteKeeps
 pub mod NamedEntry
 pub mod FileEdit

@@ -9,20 +9,20 @@ use native.Mathlib.Decide.{ℕ-discrete}
 use lib.Dec.{eqb}
 use lib.ListN.{length}
 use borrow.Author.Tests.{not-false, eqb-true, ltb-false, leb-false}
-use Rattle.geometry.specs.declared.Geometry.{Geometry}
-use Rattle.volume.specs.declared.Wanted.the-variants.{Empty, File}
-use Rattle.geometry.specs.Geometry.{bytes, slots, places}
-use Rattle.volume.specs.Name.{nameOf, goodName, same}
-use Rattle.volume.specs.Entry.{Entry, isEmpty, blockIn, ofFile}
-use Rattle.volume.specs.Directory.{slotAt, putSlot, findSlot}
-use Rattle.volume.specs.Record.{recordAt}
-use Rattle.volume.proofs.FindLaws.{found-fits, not-found}
-use Rattle.geometry.proofs.GeometryLaws.{bounds}
-use Rattle.volume.proofs.DirectoryLaws.{putSlot-length, slot-putSlot, slot-putSlot-other, record-putSlot}
-use Rattle.answers.specs.declared.Refusal.the-variants.{Closed, VolumeLength, BlockLength, DriveCode, Name, Untypeable, Position, Protected, Exists, NoRoom}
-use Rattle.answers.specs.Refusal.{isNone, firstMet}
-use Rattle.answers.proofs.Ladder.{unmet}
-use Rattle.making.specs.Make.{makeTests, freshEntry}
+use Rattle.disk_geometry.specs.declared.Geometry.{Geometry}
+use Rattle.disk_volume.specs.declared.Wanted.the-variants.{Empty, File}
+use Rattle.disk_geometry.specs.Geometry.{bytes, slots, places}
+use Rattle.disk_volume.specs.Name.{nameOf, goodName, same}
+use Rattle.disk_volume.specs.Entry.{Entry, isEmpty, blockIn, ofFile}
+use Rattle.disk_volume.specs.Directory.{slotAt, putSlot, findSlot}
+use Rattle.disk_volume.specs.Record.{recordAt}
+use Rattle.disk_volume.proofs.FindLaws.{found-fits, not-found}
+use Rattle.disk_geometry.proofs.GeometryLaws.{bounds}
+use Rattle.disk_volume.proofs.DirectoryLaws.{putSlot-length, slot-putSlot, slot-putSlot-other, record-putSlot}
+use Rattle.call_answers.specs.declared.Refusal.the-variants.{Closed, VolumeLength, FcbLength, DriveCode, Name, Untypeable, Position, Protected, Exists, NoRoom}
+use Rattle.call_answers.specs.Refusal.{isNone, firstMet}
+use Rattle.call_answers.proofs.Ladder.{unmet}
+use Rattle.call_make.specs.Make.{makeTests, freshEntry}
 use Rattle.filecalls.specs.declared.Drive.{Drive}
 use Rattle.filecalls.specs.State.{isOpen}
 use Rattle.filecalls.specs.Outcome.{keeps, stored, storedAll, changedState}
@@ -37,7 +37,7 @@ use Rattle.demands.proofs.NewEntry.{fresh-32, fresh-user, fresh-name, f
 -- what is known once no test of make is met
 record Ready (d : Drive) (v f : List ℕ) : Type 0 where
   user15 : d .user ≤ 15
-  block36 : length f ≡ 36
+  fcb36 : length f ≡ 36
   good-name : goodName false (nameOf f) ≡ true
   unused : slots (d .geometry) ≤ findSlot (d .geometry) v (d .user) (nameOf f) File
   room : findSlot (d .geometry) v (d .user) (nameOf f) Empty < slots (d .geometry)
@@ -47,8 +47,8 @@ unfolding makeLadder makeTests
 ready d v f h =
     let closed = unmet Closed _ _ refl h in
     let volume = unmet VolumeLength _ _ refl (closed .1) in
-    let block = unmet BlockLength _ _ refl (volume .1) in
-    let drive = unmet DriveCode _ _ refl (block .1) in
+    let fcb = unmet FcbLength _ _ refl (volume .1) in
+    let drive = unmet DriveCode _ _ refl (fcb .1) in
     let name = unmet Name _ _ refl (drive .1) in
     let typing = unmet Untypeable _ _ refl (name .1) in
     let position = unmet Position _ _ refl (typing .1) in
@@ -57,7 +57,7 @@ ready d v f h =
     let full = unmet NoRoom _ _ refl (exists .1) in
     record {
       user15 = is-open d (not-false (isOpen d) (closed .0)) .user15;
-      block36 = eqb-true (length f) 36 (not-false _ (block .0));
+      fcb36 = eqb-true (length f) 36 (not-false _ (fcb .0));
       good-name = not-false _ (name .0);
       unused = ltb-false _ _ (exists .0);
       room = leb-false _ _ (full .0);
@@ -77,28 +77,28 @@ module _ (d : Drive) (v f : List ℕ) (c : Consistent d v) (r : Ready d v f) whe
   v′ = putSlot (d .geometry) v (findSlot (d .geometry) v (d .user) (nameOf f) Empty) (freshEntry (d .user) (nameOf f))
 
   e32 : length e ≡ 32
-  e32 = fresh-32 (d .user) f (r .block36)
+  e32 = fresh-32 (d .user) f (r .fcb36)
 
   was-empty : isEmpty (slotAt g v i) ≡ true
   was-empty = found-fits g v (d .user) (nameOf f) Empty (r .room)
 
   live : Live e
-  live = user-live e (rw (fresh-user (d .user) f (r .block36)) (r .user15))
+  live = user-live e (rw (fresh-user (d .user) f (r .fcb36)) (r .user15))
 
   laid : Laid g (slotAt g v) (slotAt g v′) i e
   laid = record { here = slot-putSlot g (c .law) v (c .size) i (r .room) e e32; there = slot-putSlot-other g (c .law) v (c .size) i (r .room) e e32 }
 
   fresh : Fresh g (slotAt g v) i e
   fresh = record {
-    blocks = λ j p q j< ne l p< q< nz same. nz (fresh-block (d .user) f (r .block36) g p);
+    blocks = λ j p q j< ne l p< q< nz same. nz (fresh-block (d .user) f (r .fcb36) g p);
     unlike = λ j j< ne l k. true≢false
         (sym (of-file (d .user) (nameOf f) (slotAt g v j)
-        (record { user = sym (k .user) ∙ fresh-user (d .user) f (r .block36); name-is = sym (k .name) ∙ fresh-name (d .user) f (r .block36) }))
+        (record { user = sym (k .user) ∙ fresh-user (d .user) f (r .fcb36); name-is = sym (k .name) ∙ fresh-name (d .user) f (r .fcb36) }))
         ∙ not-found g v (d .user) (nameOf f) File (r .unused) j j<);
   }
 
-  no-block : (p : ℕ) → g .directory ≤ blockIn g e p → ⊥
-  no-block p h = omega (arith, bounds g (c .law) .directory-low, fresh-block (d .user) f (r .block36) g p)
+  no-block : (p : ℕ) → g .«directory_blocks» ≤ blockIn g e p → ⊥
+  no-block p h = omega (arith, bounds g (c .law) .directory-low, fresh-block (d .user) f (r .fcb36) g p)
 
   anew : HeldAnew g (d .held) (d .held) (slotAt g v) i e
   anew = record {
@@ -114,7 +114,7 @@ module _ (d : Drive) (v f : List ℕ) (c : Consistent d v) (r : Ready d v f) whe
   consistent = record {
     law = c .law;
     size = putSlot-length g (c .law) v (c .size) i (r .room) e e32 ∙ c .size;
-    sound = sound-laid g (slotAt g v) (slotAt g v′) i e (c .sound) laid (fresh-in-order (d .user) f (r .block36) g (r .user15) (r .good-name)) fresh;
+    sound = sound-laid g (slotAt g v) (slotAt g v′) i e (c .sound) laid (fresh-in-order (d .user) f (r .fcb36) g (r .user15) (r .good-name)) fresh;
     held = held-laid g (d .held) (d .held) (slotAt g v) (slotAt g v′) i e (r .room) (c .held) laid anew;
   }
 
@@ -126,7 +126,7 @@ module _ (d : Drive) (v f : List ℕ) (c : Consistent d v) (r : Ready d v f) whe
       entry j j< (yes z) =
           foreign (ap (λ (x : ℕ). ofFile u name (slotAt g v x)) z ∙ empty-foreign u name (slotAt g v i) u15 was-empty)
           (ap (λ (x : ℕ). ofFile u name (slotAt g v′ x)) z ∙ ap (ofFile u name) (laid .here)
-          ∙ other-file (d .user) (nameOf f) u name e other (fresh-user (d .user) f (r .block36)) (fresh-name (d .user) f (r .block36)))
+          ∙ other-file (d .user) (nameOf f) u name e other (fresh-user (d .user) f (r .fcb36)) (fresh-name (d .user) f (r .fcb36)))
 
       bytes-there : (j p n : ℕ) → j < slots g → p < places g → ofFile u name (slotAt g v j) ≡ true → blockIn g (slotAt g v j) p ≢ 0
           → recordAt g v′ (blockIn g (slotAt g v j) p) n ≡ recordAt g v (blockIn g (slotAt g v j) p) n

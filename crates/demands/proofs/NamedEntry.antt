@@ -11,13 +11,13 @@ use lib.ListN.{length, set, length-set}
 use lib.Seq.{getD-set-same, getD-set-other, ext-getD}
 use Rattle.lists.specs.Bytes.{byte, part, put}
 use Rattle.lists.proofs.PartLaws.{length-part, length-put, part-put, part-apart, byte-part}
-use Rattle.volume.specs.Name.{strip, nameAt, nameOf}
-use Rattle.volume.specs.Entry.{Entry}
-use Rattle.volume.proofs.NameLaws.{length-strip, byte-strip, strip-strip}
-use Rattle.goodslots.specs.GoodSlot.{goodTopBits}
-use Rattle.goodslots.proofs.GoodLaws.{top-bits-good, good-top-bits}
-use Rattle.sweeping.specs.Sweep.{marked, renamed, attributed}
-use Rattle.sweeping.proofs.EditLaws.{named-and-marked}
+use Rattle.disk_volume.specs.Name.{strip, nameAt, nameOf}
+use Rattle.disk_volume.specs.Entry.{Entry}
+use Rattle.disk_volume.proofs.NameLaws.{length-strip, byte-strip, strip-strip}
+use Rattle.disk_rules.specs.GoodSlot.{goodTopBits}
+use Rattle.disk_rules.proofs.GoodLaws.{top-bits-good, good-top-bits}
+use Rattle.call_sweep.specs.Sweep.{withTopBit, renamed, attributed}
+use Rattle.call_sweep.proofs.EditLaws.{named-and-marked}
 
 -- ---- what an edit that gives an entry the name `to` owes
 pub record Renames (to : List ℕ) (e e′ : Entry) : Type 0 where
@@ -68,8 +68,8 @@ module _ (e : Entry) (e32 : length e ≡ 32) (x y : ℕ) where
 pub attributes-renames : (e : Entry) (new : List ℕ) → length e ≡ 32 → Renames (nameOf e) e (attributed e new)
 unfolding attributed
 attributes-renames e new e32 =
-    let x = marked (byte e 9) (byte new 8) in
-    let y = marked (byte e 10) (byte new 9) in
+    let x = withTopBit (byte e 9) (byte new 8) in
+    let y = withTopBit (byte e 10) (byte new 9) in
     record {
       length-32 = marks-length e e32 x y;
       user = marks-other e e32 x y 0 (omega arith) (omega arith);
@@ -107,8 +107,8 @@ rename-renames e new e32 n11 =
     let s11 : length (strip new) ≡ 11 = length-strip new ∙ n11 in
     let m = put e 1 11 (strip new) in
     let m32 = laid-length e e32 (strip new) s11 in
-    let x = marked (byte new 8) (byte e 9) in
-    let y = marked (byte new 9) (byte e 10) in
+    let x = withTopBit (byte new 8) (byte e 9) in
+    let y = withTopBit (byte new 9) (byte e 10) in
     let nine : byte m 9 ≡ byte new 8 % 128 = laid-byte e e32 (strip new) s11 8 (omega arith) ∙ byte-strip new 8 in
     let ten : byte m 10 ≡ byte new 9 % 128 = laid-byte e e32 (strip new) s11 9 (omega arith) ∙ byte-strip new 9 in
     let low : goodTopBits m ≡ true = good-top-bits m (λ k a b c. rw (laid-byte e e32 (strip new) s11 k a, byte-strip new k) (omega arith)) in

@@ -10,13 +10,13 @@ use lib.ListN.{length, take, drop, replicate, length-append}
 use lib.Seq.{take-at, getD-append-add, take-all}
 use Rattle.lists.specs.Bytes.{byte, part}
 use Rattle.lists.proofs.PartLaws.{length-part, part-part, byte-part}
-use Rattle.geometry.specs.declared.Geometry.{Geometry}
-use Rattle.volume.specs.Name.{strip, nameAt, nameOf, goodName}
-use Rattle.volume.specs.Entry.{Entry, blockIn}
-use Rattle.volume.proofs.NameLaws.{length-strip, byte-strip, strip-strip}
-use Rattle.goodslots.proofs.GoodLaws.{top-bits-good, good-top-bits}
-use Rattle.making.specs.Make.{freshEntry}
-use Rattle.entries.specs.Grown.{likeEntry}
+use Rattle.disk_geometry.specs.declared.Geometry.{Geometry}
+use Rattle.disk_volume.specs.Name.{strip, nameAt, nameOf, goodName}
+use Rattle.disk_volume.specs.Entry.{Entry, blockIn}
+use Rattle.disk_volume.proofs.NameLaws.{length-strip, byte-strip, strip-strip}
+use Rattle.disk_rules.proofs.GoodLaws.{top-bits-good, good-top-bits}
+use Rattle.call_make.specs.Make.{freshEntry}
+use Rattle.call_entry.specs.Grown.{likeEntry}
 use Rattle.demands.proofs.Orderly.{InOrder}
 
 byte-zeros : (n k : ℕ) → byte (replicate n 0) k ≡ 0

@@ -9,14 +9,14 @@ use mathlib.Core.List.{List}
 use Prim.Native.Nat.{ℕ, _≤_, _<_}
 use native.Mathlib.Decide.{ℕ-discrete}
 use lib.ListN.{length}
-use Rattle.geometry.specs.declared.Geometry.{Geometry}
-use Rattle.geometry.specs.Geometry.{slots, inside, places}
-use Rattle.volume.specs.Name.{nameOf, goodName}
-use Rattle.volume.specs.Entry.{Entry, isEmpty, blockIn}
-use Rattle.blocks.specs.Held.{holds}
-use Rattle.goodslots.specs.GoodSlot.{goodTopBits}
-use Rattle.goodslots.proofs.GoodLaws.{Fields}
-use Rattle.goodslots.proofs.TwinLaws.{Twins}
+use Rattle.disk_geometry.specs.declared.Geometry.{Geometry}
+use Rattle.disk_geometry.specs.Geometry.{slots, inside, places}
+use Rattle.disk_volume.specs.Name.{nameOf, goodName}
+use Rattle.disk_volume.specs.Entry.{Entry, isEmpty, blockIn}
+use Rattle.disk_held.specs.Held.{holds}
+use Rattle.disk_rules.specs.GoodSlot.{goodTopBits}
+use Rattle.disk_rules.proofs.GoodLaws.{Fields}
+use Rattle.disk_rules.proofs.TwinLaws.{Twins}
 
 abbrev pub Directory : Type 0
 Directory = ℕ → Entry
@@ -146,11 +146,11 @@ pub record HeldBy (g : Geometry) (d : Directory) (b : ℕ) : Type 0 where
 -- of the blocks from D to T-1, these words hold exactly those that entries name
 pub record Held (g : Geometry) (held : List ℕ) (d : Directory) : Type 0 where
   pub four : length held ≡ 4
-  pub sound : (b : ℕ) → g .directory ≤ b → b < g .total → holds held b ≡ true → HeldBy g d b
-  pub whole : (b : ℕ) → g .directory ≤ b → b < g .total → HeldBy g d b → holds held b ≡ true
+  pub sound : (b : ℕ) → g .«directory_blocks» ≤ b → b < g .blocks → holds held b ≡ true → HeldBy g d b
+  pub whole : (b : ℕ) → g .«directory_blocks» ≤ b → b < g .blocks → HeldBy g d b → holds held b ≡ true
 
 -- two states that hold the directory's blocks hold the same
-pub held-agree : (g : Geometry) (h k : List ℕ) (d : Directory) → Held g h d → Held g k d → (b : ℕ) → g .directory ≤ b → b < g .total → holds h b ≡ holds k b
+pub held-agree : (g : Geometry) (h k : List ℕ) (d : Directory) → Held g h d → Held g k d → (b : ℕ) → g .«directory_blocks» ≤ b → b < g .blocks → holds h b ≡ holds k b
 held-agree g h k d x y b low high = go (holds h b) refl (holds k b) refl
   where
     go : (s : Bool) → holds h b ≡ s → (t : Bool) → holds k b ≡ t → holds h b ≡ holds k b
@@ -183,9 +183,9 @@ pub record HeldAnew (g : Geometry) (h h′ : List ℕ) (d : Directory) (i : ℕ)
   pub four : length h′ ≡ 4
   pub live : Live e
   pub stays : (b : ℕ) → holds h b ≡ true → holds h′ b ≡ true
-  pub only : (b : ℕ) → g .directory ≤ b → b < g .total → holds h′ b ≡ true → (holds h b ≡ true) ⊎ InMap g e b
-  pub keeps : (p : ℕ) → p < places g → Live (d i) → g .directory ≤ blockIn g (d i) p → InMap g e (blockIn g (d i) p)
-  pub holds-all : (p : ℕ) → p < places g → g .directory ≤ blockIn g e p → blockIn g e p < g .total → holds h′ (blockIn g e p) ≡ true
+  pub only : (b : ℕ) → g .«directory_blocks» ≤ b → b < g .blocks → holds h′ b ≡ true → (holds h b ≡ true) ⊎ InMap g e b
+  pub keeps : (p : ℕ) → p < places g → Live (d i) → g .«directory_blocks» ≤ blockIn g (d i) p → InMap g e (blockIn g (d i) p)
+  pub holds-all : (p : ℕ) → p < places g → g .«directory_blocks» ≤ blockIn g e p → blockIn g e p < g .blocks → holds h′ (blockIn g e p) ≡ true
 
 pub held-laid : (g : Geometry) (h h′ : List ℕ) (d d′ : Directory) (i : ℕ) (e : Entry) → i < slots g → Held g h d → Laid g d d′ i e → HeldAnew g h h′ d i e → Held g h′ d′
 held-laid g h h′ d d′ i e i< held laid anew = record { four = anew .four; sound = sound; whole = whole }
@@ -193,7 +193,7 @@ held-laid g h h′ d d′ i e i< held laid anew = record { four = anew .four; so
     at-i : (b : ℕ) → InMap g e b → HeldBy g d′ b
     at-i b m = record { slot = i; place = m .place; slot< = i<; place< = m .place<; live = rw (laid .here) (anew .live); is = rw (laid .here) (m .is) }
 
-    sound : (b : ℕ) → g .directory ≤ b → b < g .total → holds h′ b ≡ true → HeldBy g d′ b
+    sound : (b : ℕ) → g .«directory_blocks» ≤ b → b < g .blocks → holds h′ b ≡ true → HeldBy g d′ b
     sound b low high t = go (anew .only b low high t)
       where
         via : HeldBy g d b → HeldBy g d′ b
@@ -213,7 +213,7 @@ held-laid g h h′ d d′ i e i< held laid anew = record { four = anew .four; so
         go (inl q) = via (held .sound b low high q)
         go (inr m) = at-i b m
 
-    whole : (b : ℕ) → g .directory ≤ b → b < g .total → HeldBy g d′ b → holds h′ b ≡ true
+    whole : (b : ℕ) → g .«directory_blocks» ≤ b → b < g .blocks → HeldBy g d′ b → holds h′ b ≡ true
     whole b low high w = at (ℕ-discrete (w .slot) i)
       where
         at : Dec (w .slot ≡ i) → holds h′ b ≡ true

@@ -9,19 +9,19 @@ use lib.ListN.{length}
 use borrow.Author.Tests.{not-false, eqb-true, ltb-false}
 use Rattle.lists.specs.Bytes.{part}
 use Rattle.lists.proofs.PartLaws.{length-part}
-use Rattle.volume.specs.declared.Wanted.the-variants.{File}
-use Rattle.geometry.specs.Geometry.{slots}
-use Rattle.volume.specs.Name.{nameAt, nameOf, goodName, same}
-use Rattle.volume.specs.Entry.{Entry, ofFile}
-use Rattle.volume.specs.Directory.{slotAt, findSlot}
-use Rattle.volume.proofs.FindLaws.{not-found}
-use Rattle.control.specs.Block.{newName}
-use Rattle.answers.specs.declared.Refusal.the-variants.{Closed, VolumeLength, BlockLength, DriveCode, Name, Untypeable, Protected, NoMatch, ReadOnly, Exists}
-use Rattle.answers.specs.Refusal.{isNone, firstMet}
-use Rattle.answers.proofs.Ladder.{unmet}
-use Rattle.sweeping.specs.declared.Edit.the-variants.{Rename}
-use Rattle.sweeping.specs.Sweep.{renamed, changed}
-use Rattle.naming.specs.Rename.{renameTests}
+use Rattle.disk_volume.specs.declared.Wanted.the-variants.{File}
+use Rattle.disk_geometry.specs.Geometry.{slots}
+use Rattle.disk_volume.specs.Name.{nameAt, nameOf, goodName, same}
+use Rattle.disk_volume.specs.Entry.{Entry, ofFile}
+use Rattle.disk_volume.specs.Directory.{slotAt, findSlot}
+use Rattle.disk_volume.proofs.FindLaws.{not-found}
+use Rattle.call_fcb.specs.Fcb.{newName}
+use Rattle.call_answers.specs.declared.Refusal.the-variants.{Closed, VolumeLength, FcbLength, DriveCode, Name, Untypeable, Protected, NoMatch, ReadOnly, Exists}
+use Rattle.call_answers.specs.Refusal.{isNone, firstMet}
+use Rattle.call_answers.proofs.Ladder.{unmet}
+use Rattle.call_sweep.specs.declared.Edit.the-variants.{Rename}
+use Rattle.call_sweep.specs.Sweep.{renamed, changed}
+use Rattle.call_rename.specs.Rename.{renameTests}
 use Rattle.filecalls.specs.declared.Drive.{Drive}
 use Rattle.filecalls.specs.Outcome.{stored, storedAll, changedState}
 use Rattle.filecalls.specs.Names.{renameLadder, renameAct}
@@ -32,7 +32,7 @@ use Rattle.demands.proofs.FileEdit.{Edits, edit-size, edit-sound, edit-
 
 -- what is known once no test of rename is met
 record Ready (d : Drive) (v f : List ℕ) : Type 0 where
-  block36 : length f ≡ 36
+  fcb36 : length f ≡ 36
   good-name : goodName false (newName f) ≡ true
   unused : slots (d .geometry) ≤ findSlot (d .geometry) v (d .user) (newName f) File
 
@@ -41,8 +41,8 @@ unfolding renameLadder renameTests
 ready d v f h =
     let closed = unmet Closed _ _ refl h in
     let volume = unmet VolumeLength _ _ refl (closed .1) in
-    let block = unmet BlockLength _ _ refl (volume .1) in
-    let drive = unmet DriveCode _ _ refl (block .1) in
+    let fcb = unmet FcbLength _ _ refl (volume .1) in
+    let drive = unmet DriveCode _ _ refl (fcb .1) in
     let name = unmet Name _ _ refl (drive .1) in
     let new = unmet Name _ _ refl (name .1) in
     let typing = unmet Untypeable _ _ refl (new .1) in
@@ -50,7 +50,7 @@ ready d v f h =
     let match = unmet NoMatch _ _ refl (protection .1) in
     let read-only = unmet ReadOnly _ _ refl (match .1) in
     let exists = unmet Exists _ _ refl (read-only .1) in
-    record { block36 = eqb-true (length f) 36 (not-false _ (block .0)); good-name = not-false _ (new .0); unused = ltb-false _ _ (exists .0) }
+    record { fcb36 = eqb-true (length f) 36 (not-false _ (fcb .0)); good-name = not-false _ (new .0); unused = ltb-false _ _ (exists .0) }
 
 pub rename-hit : (u : ℕ) (name new : List ℕ) (e : Entry) → ofFile u name e ≡ true → changed Rename u name new e ≡ renamed e new
 unfolding changed
@@ -84,7 +84,7 @@ unfolding renameAct stored storedAll changedState
 rename-keeps d v f c = keeps-unless (renameLadder d v f) _ (λ h.
     let g = d .geometry in
     let r = ready d v f h in
-    let edits = rename-edits (d .user) (nameOf f) f (r .block36) in
+    let edits = rename-edits (d .user) (nameOf f) f (r .fcb36) in
     let free : (j : ℕ) → j < slots g → ofFile (d .user) (nameOf f) (slotAt g v j) ≡ false → ofFile (d .user) (newName f) (slotAt g v j) ≡ false
     = λ j j< q. not-found g v (d .user) (newName f) File (r .unused) j j< in
     does (record {

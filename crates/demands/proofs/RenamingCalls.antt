@@ -9,23 +9,23 @@ use lib.ListN.{length}
 use borrow.Author.Tests.{ltb-true, ltb-false, lt-ltb, le-ltb, lt-leb, leb-false, eq-eqb}
 use Rattle.lists.specs.Bytes.{byte, part}
 use Rattle.lists.proofs.PartLaws.{length-part}
-use Rattle.volume.specs.declared.Wanted.{Wanted}
-use Rattle.volume.specs.declared.Wanted.the-variants.{File, ReadOnlyFile}
-use Rattle.geometry.specs.Geometry.{lawful, bytes, slots}
-use Rattle.volume.specs.Name.{strip, nameAt, same, goodName}
-use Rattle.typing.specs.Typing.{typeable}
-use Rattle.volume.specs.Entry.{Entry, readOnly, ofFile}
-use Rattle.volume.specs.Directory.{slotAt, slotFits, findSlot, mapSlots}
-use Rattle.volume.proofs.NameLaws.{same-refl, byte-strip}
-use Rattle.volume.proofs.FindLaws.{found-fits, not-found, find-low}
-use Rattle.volume.proofs.DirectoryLaws.{slot-length}
-use Rattle.sweeping.proofs.SweepLaws.{mapSlots-length, mapSlots-slot}
-use Rattle.answers.specs.declared.Refusal.the-variants.{Closed, VolumeLength, BlockLength, DriveCode, Name, Untypeable, Protected, NoMatch, ReadOnly, Exists}
-use Rattle.answers.specs.declared.Answer.the-variants.{Done}
-use Rattle.sweeping.specs.declared.Edit.the-variants.{Rename}
-use Rattle.sweeping.specs.Sweep.{renamed, changed}
-use Rattle.naming.specs.Rename.{renameTests}
-use Rattle.sweeping.proofs.EditLaws.{changed-keeps}
+use Rattle.disk_volume.specs.declared.Wanted.{Wanted}
+use Rattle.disk_volume.specs.declared.Wanted.the-variants.{File, ReadOnlyFile}
+use Rattle.disk_geometry.specs.Geometry.{lawful, bytes, slots}
+use Rattle.disk_volume.specs.Name.{strip, nameAt, same, goodName}
+use Rattle.call_typing.specs.Typing.{typeable}
+use Rattle.disk_volume.specs.Entry.{Entry, readOnly, ofFile}
+use Rattle.disk_volume.specs.Directory.{slotAt, slotFits, findSlot, mapSlots}
+use Rattle.disk_volume.proofs.NameLaws.{same-refl, byte-strip}
+use Rattle.disk_volume.proofs.FindLaws.{found-fits, not-found, find-low}
+use Rattle.disk_volume.proofs.DirectoryLaws.{slot-length}
+use Rattle.call_sweep.proofs.SweepLaws.{mapSlots-length, mapSlots-slot}
+use Rattle.call_answers.specs.declared.Refusal.the-variants.{Closed, VolumeLength, FcbLength, DriveCode, Name, Untypeable, Protected, NoMatch, ReadOnly, Exists}
+use Rattle.call_answers.specs.declared.Answer.the-variants.{Done}
+use Rattle.call_sweep.specs.declared.Edit.the-variants.{Rename}
+use Rattle.call_sweep.specs.Sweep.{renamed, changed}
+use Rattle.call_rename.specs.Rename.{renameTests}
+use Rattle.call_sweep.proofs.EditLaws.{changed-keeps}
 use Rattle.filecalls.specs.declared.Drive.{Drive}
 use Rattle.filecalls.specs.State.{isOpen}
 use Rattle.filecalls.specs.Outcome.{keeps, eachEntry, done, stored, storedAll, changedState, outcome}
@@ -82,7 +82,7 @@ module _ {d : Drive} {v f old new : List ℕ} (r : Granted d v f old new) where
       rw (r .asks .old-name, r .asks .new-name)
       (goes-by Closed _ _ _ (ap not (r .state-open))
       ∙ goes-by VolumeLength _ _ _ (ap not (eq-eqb (length v) (bytes (d .geometry)) (r .volume-length)))
-      ∙ goes-by BlockLength _ _ _ (ap not (eq-eqb (length f) 36 (r .asks .length-36)))
+      ∙ goes-by FcbLength _ _ _ (ap not (eq-eqb (length f) 36 (r .asks .length-36)))
       ∙ goes-by DriveCode _ _ _ (le-ltb 1 (byte f 0) (r .asks .drive-code))
       ∙ goes-by Name _ _ _ (ap not (r .old-permitted))
       ∙ goes-by Name _ _ _ (ap not (r .new-permitted))
@@ -94,7 +94,7 @@ module _ {d : Drive} {v f old new : List ℕ} (r : Granted d v f old new) where
       ∙ all-passed _)
 
   -- all that it leaves
-  pub leaves : rename d v f ≡ record { answer = Done 0; drive = d; volume = after d v f old; block = f; buffer = [] }
+  pub leaves : rename d v f ≡ record { answer = Done 0; drive = d; volume = after d v f old; fcb = f; buffer = [] }
   unfolding outcome changedState stored storedAll
   leaves = rw goes
 

@@ -7,16 +7,16 @@ use mathlib.Core.List.{List}
 use Prim.Native.Nat.{ℕ, _<_}
 use lib.ListN.{length}
 use Rattle.lists.specs.Bytes.{part}
-use Rattle.geometry.specs.Geometry.{slots}
-use Rattle.volume.specs.Name.{same, goodName}
-use Rattle.typing.specs.Typing.{typeable}
-use Rattle.volume.specs.Entry.{Entry, ofFile}
-use Rattle.volume.specs.Directory.{slotAt}
-use Rattle.volume.proofs.NameLaws.{same-refl, same-true}
-use Rattle.goodslots.specs.GoodSlot.{goodTopBits}
-use Rattle.goodslots.proofs.AcceptedLaws.{good-entry}
-use Rattle.sweeping.specs.declared.Edit.the-variants.{Rename}
-use Rattle.sweeping.specs.Sweep.{renamed, changed}
+use Rattle.disk_geometry.specs.Geometry.{slots}
+use Rattle.disk_volume.specs.Name.{same, goodName}
+use Rattle.call_typing.specs.Typing.{typeable}
+use Rattle.disk_volume.specs.Entry.{Entry, ofFile}
+use Rattle.disk_volume.specs.Directory.{slotAt}
+use Rattle.disk_volume.proofs.NameLaws.{same-refl, same-true}
+use Rattle.disk_rules.specs.GoodSlot.{goodTopBits}
+use Rattle.disk_rules.proofs.AcceptedLaws.{good-entry}
+use Rattle.call_sweep.specs.declared.Edit.the-variants.{Rename}
+use Rattle.call_sweep.specs.Sweep.{renamed, changed}
 use Rattle.filecalls.specs.declared.Drive.{Drive}
 use Rattle.filecalls.specs.Outcome.{Outcome}
 use Rattle.filecalls.proofs.StateLaws.{is-open}

@@ -7,16 +7,16 @@ use mathlib.Core.List.{List}
 use Prim.Native.Nat.{ℕ, zero, suc, _+_, _≤_, _<_}
 use native.Mathlib.Omega.{arith}
 use lib.ListN.{length}
-use Rattle.lists.specs.Search.{fold}
+use Rattle.lists.specs.Bounded.{fold}
 use Rattle.lists.specs.Bytes.{put}
 use Rattle.lists.proofs.PartLaws.{put-put}
-use Rattle.geometry.specs.declared.Geometry.{Geometry}
-use Rattle.geometry.specs.Geometry.{lawful, bytes, slots, slotStart}
-use Rattle.volume.specs.Entry.{Entry}
-use Rattle.volume.specs.Directory.{slotAt, putSlot, mapSlot, mapSlots}
-use Rattle.geometry.proofs.GeometryLaws.{slots-apart}
-use Rattle.volume.proofs.DirectoryLaws.{slot-inside, slot-length, putSlot-same, slot-putSlot, slot-putSlot-other}
-use Rattle.sweeping.proofs.SweepLaws.{mapSlot-length, mapSlot-other}
+use Rattle.disk_geometry.specs.declared.Geometry.{Geometry}
+use Rattle.disk_geometry.specs.Geometry.{lawful, bytes, slots, slotStart}
+use Rattle.disk_volume.specs.Entry.{Entry}
+use Rattle.disk_volume.specs.Directory.{slotAt, putSlot, mapSlot, mapSlots}
+use Rattle.disk_geometry.proofs.GeometryLaws.{slots-apart}
+use Rattle.disk_volume.proofs.DirectoryLaws.{slot-inside, slot-length, putSlot-same, slot-putSlot, slot-putSlot-other}
+use Rattle.call_sweep.proofs.SweepLaws.{mapSlot-length, mapSlot-other}
 use Rattle.demands.proofs.RenamingParts.{put-either}
 
 -- ---- two entries laid

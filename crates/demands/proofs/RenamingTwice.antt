@@ -5,11 +5,11 @@ use mathlib.Core.Bool.{true, false}
 use mathlib.Core.List.{List, []}
 use Prim.Native.Nat.{ℕ, _<_}
 use Rattle.lists.specs.Bytes.{part}
-use Rattle.geometry.specs.Geometry.{slots}
-use Rattle.volume.specs.Entry.{ofFile}
-use Rattle.volume.specs.Directory.{slotAt, mapSlots}
-use Rattle.answers.specs.declared.Answer.the-variants.{Done}
-use Rattle.sweeping.specs.Sweep.{renamed}
+use Rattle.disk_geometry.specs.Geometry.{slots}
+use Rattle.disk_volume.specs.Entry.{ofFile}
+use Rattle.disk_volume.specs.Directory.{slotAt, mapSlots}
+use Rattle.call_answers.specs.declared.Answer.the-variants.{Done}
+use Rattle.call_sweep.specs.Sweep.{renamed}
 use Rattle.filecalls.specs.declared.Drive.{Drive}
 use Rattle.demands.specs.Renaming.{rename, thenRename}
 use Rattle.demands.proofs.Files.{of-file}
@@ -19,7 +19,7 @@ use Rattle.demands.proofs.RenamingCalls.{none-of, Granted, edit, after,
 
 module _ {d : Drive} {v f h first second last : List ℕ} (r : Granted d v f first second) (s : Granted d (after d v f first) h second last) where
   -- all that they leave
-  pub both : thenRename (rename d v f) h ≡ record { answer = Done 0; drive = d; volume = after d (after d v f first) h second; block = h; buffer = [] }
+  pub both : thenRename (rename d v f) h ≡ record { answer = Done 0; drive = d; volume = after d (after d v f first) h second; fcb = h; buffer = [] }
   both = rw (leaves r) (leaves s)
 
   -- both sweeps are one

@@ -5,9 +5,9 @@ use mathlib.Core.List.{List, [], _∷_}
 use Prim.Native.Nat.{ℕ}
 use lib.Dec.{eqb}
 use borrow.Author.Tests.{eq-eqb}
-use Rattle.answers.specs.declared.Answer.{Answer}
-use Rattle.answers.specs.Refusal.{Test, refusalNumber, isNone, refusing, first, firstMet}
-use Rattle.answers.specs.Answer.{numberOf, succeeded}
+use Rattle.call_answers.specs.declared.Answer.{Answer}
+use Rattle.call_answers.specs.Refusal.{Test, refusalNumber, isNone, refusing, first, firstMet}
+use Rattle.call_answers.specs.Answer.{numberOf, succeeded}
 use Rattle.demands.specs.Order.{numbersOf, reasons, among}
 
 pub record Says (a : Answer) (ts : List Test) (ok : ℕ → Bool) : Type 0 where

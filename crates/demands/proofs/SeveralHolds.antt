@@ -1,7 +1,7 @@
 -- At the door several records are single calls: by the definitions.
 use mathlib.Core.Path.{refl}
 use Rattle.bdos.specs.Step.{carries, does, step}
-use Rattle.served.specs.Calls.{callOf}
+use Rattle.call_served.specs.Calls.{callOf}
 use Rattle.demands.specs.Several.{EqualsSingles}
 
 pub equals-singles : EqualsSingles

@@ -6,15 +6,16 @@ use mathlib.Core.List.{List}
 use Prim.Native.Nat.{ℕ, _*_, _≤_}
 use lib.Dec.{eqb}
 use Rattle.lists.specs.Bytes.{part}
-use Rattle.geometry.specs.declared.Geometry.{Geometry}
-use Rattle.volume.specs.Name.{nameOf, same}
-use Rattle.answers.specs.Answer.{succeeded}
+use Rattle.disk_geometry.specs.declared.Geometry.{Geometry}
+use Rattle.disk_volume.specs.Name.{nameOf, same}
+use Rattle.call_answers.specs.Answer.{succeeded}
+use Rattle.filecalls.specs.Leaves.{writeSequentialLeaves}
 use Rattle.filecalls.specs.declared.Drive.{Drive}
 use Rattle.filecalls.specs.Outcome.{Outcome}
 use Rattle.filecalls.specs.Write.{writeSequentialAct}
-use Rattle.several.specs.Several.{Single, writeOne, onPiece, several}
-use Rattle.several.proofs.SinglesLaws.{Holds, Refuses}
-use Rattle.several.proofs.SeveralLaws as laws
+use Rattle.filecalls.specs.Several.{Single, onPiece, several}
+use Rattle.filecalls.proofs.SinglesLaws.{Holds, Refuses}
+use Rattle.filecalls.proofs.SeveralLaws as laws
 use Rattle.bdos.specs.Step.{carries, does}
 use Rattle.demands.proofs.Acts.{Consistent, Leaves, leaves-all, StepKeeps, outcome-keeps}
 use Rattle.demands.proofs.WritesKeep.{write-sequential-keeps}
@@ -34,7 +35,7 @@ and-false false b e = refl
 module _ (single : Single) (names : ℕ → List ℕ → ℕ → List ℕ → Bool) (refuses : Refuses single)
     (one : (d : Drive) (v f b : List ℕ) → Consistent d v → StepKeeps (λ u name. names (d .user) f u name) d v (single d v f b))
     (same-file : (d : Drive) (v f b : List ℕ) (u : ℕ) (name : List ℕ)
-    → names (single d v f b .drive .user) (single d v f b .block) u name ≡ names (d .user) f u name) where
+    → names (single d v f b .drive .user) (single d v f b .fcb) u name ≡ names (d .user) f u name) where
   -- what holds from the first single call, of d₀, v₀ and f₀, to any later one
   record Along (d₀ : Drive) (v₀ f₀ : List ℕ) (d : Drive) (v f b : List ℕ) : Type 0 where
     consistent : Consistent d v
@@ -76,28 +77,28 @@ module _ (single : Single) (names : ℕ → List ℕ → ℕ → List ℕ → Bo
 -- ---- the writes: each leaves the user, and the name in the control block
 module _ (d : Drive) (v f b : List ℕ) where
   record SameFile : Type 0 where
-    user-is : writeOne d v f b .drive .user ≡ d .user
-    name-is : nameOf (writeOne d v f b .block) ≡ nameOf f
+    user-is : writeSequentialLeaves d v f b .drive .user ≡ d .user
+    name-is : nameOf (writeSequentialLeaves d v f b .fcb) ≡ nameOf f
 
-  done-same : succeeded (writeOne d v f b .answer) ≡ true → SameFile
+  done-same : succeeded (writeSequentialLeaves d v f b .answer) ≡ true → SameFile
   unfolding does carries
   done-same e = let n = next-call (d .geometry) 0 d v f b e in record { user-is = n .user-is; name-is = n .name-is }
 
-  refused-same : succeeded (writeOne d v f b .answer) ≡ false → SameFile
+  refused-same : succeeded (writeSequentialLeaves d v f b .answer) ≡ false → SameFile
   refused-same e =
       let z = laws.write-refuses d v f b e in
-      record { user-is = ap (λ (o : Outcome). o .drive .user) z; name-is = ap (λ (o : Outcome). nameOf (o .block)) z }
+      record { user-is = ap (λ (o : Outcome). o .drive .user) z; name-is = ap (λ (o : Outcome). nameOf (o .fcb)) z }
 
   same-file : SameFile
-  same-file = go (succeeded (writeOne d v f b .answer)) refl
+  same-file = go (succeeded (writeSequentialLeaves d v f b .answer)) refl
     where
-      go : (t : Bool) → succeeded (writeOne d v f b .answer) ≡ t → SameFile
+      go : (t : Bool) → succeeded (writeSequentialLeaves d v f b .answer) ≡ t → SameFile
       go true e = done-same e
       go false e = refused-same e
 
 pub write-several-keeps : (d : Drive) (v f b : List ℕ) (k : ℕ) → Consistent d v
-    → StepKeeps (λ u name. eqb u (d .user) && same name (nameOf f)) d v (several writeOne d v f b k)
+    → StepKeeps (λ u name. eqb u (d .user) && same name (nameOf f)) d v (several writeSequentialLeaves d v f b k)
 write-several-keeps =
-    several-keeps writeOne (λ w h u name. eqb u w && same name (nameOf h)) laws.write-refuses
+    several-keeps writeSequentialLeaves (λ w h u name. eqb u w && same name (nameOf h)) laws.write-refuses
     (λ d v f b c. outcome-keeps (λ u name. eqb u (d .user) && same name (nameOf f)) d v f b (writeSequentialAct d v f b) c (write-sequential-keeps d v f b c))
     (λ d v f b u name. let s = same-file d v f b in rw (s .user-is, s .name-is))

@@ -12,29 +12,29 @@ use lib.ListN.{length}
 use borrow.Author.Tests.{ltb-true, ltb-false, eqb-true, eq-eqb}
 use Rattle.lists.specs.Bytes.{byte}
 use Rattle.lists.proofs.BoolLaws.{and-left, and-right}
-use Rattle.geometry.specs.declared.Geometry.{Geometry}
-use Rattle.volume.specs.declared.Wanted.the-variants.{Empty, File, Group}
-use Rattle.geometry.specs.Geometry.{lawful, bytes, slots, inside, groupOf, placeOf, places}
-use Rattle.volume.specs.Name.{nameOf, same}
-use Rattle.volume.specs.Entry.{Entry, isEmpty, extent, blockIn, ofFile, ofGroup}
-use Rattle.volume.specs.Directory.{slotAt, findSlot}
-use Rattle.volume.specs.Record.{recordSlot, recordBlock, recordAt}
-use Rattle.volume.proofs.FindLaws.{found-fits, not-found}
-use Rattle.geometry.proofs.GeometryLaws.{bounds, place-lt}
-use Rattle.volume.proofs.DirectoryLaws.{slot-length}
-use Rattle.blocks.specs.Held.{holds, hold}
-use Rattle.blocks.proofs.HoldLaws.{length-hold, holds-hold-same, holds-hold-other}
-use Rattle.answers.specs.Refusal.{isNone, firstMet}
-use Rattle.goodslots.proofs.TwinLaws.{Twins}
-use Rattle.deciding.specs.Write.{hasGroup, writeSlot, baseEntry, needsBlock, writeBlock, writeTests}
-use Rattle.entries.specs.Grown.{likeEntry}
-use Rattle.entries.specs.Alloc.{alloc}
-use Rattle.deciding.specs.WritePlan.{entryAfter, volumeAfter, heldAfter}
-use Rattle.entries.proofs.AllocLaws.{alloc-given}
-use Rattle.entries.proofs.GrowLaws.{written-block, written-other}
-use Rattle.deciding.proofs.WriteLaws.{length-base, write-passed}
-use Rattle.geometry.proofs.InsideLaws.{is-inside}
-use Rattle.writing.proofs.AfterLaws.{after-file, after-group, after-size, after-slot, after-slot-other, after-record-other}
+use Rattle.disk_geometry.specs.declared.Geometry.{Geometry}
+use Rattle.disk_volume.specs.declared.Wanted.the-variants.{Empty, File, Group}
+use Rattle.disk_geometry.specs.Geometry.{lawful, bytes, slots, inside, groupOf, placeOf, places}
+use Rattle.disk_volume.specs.Name.{nameOf, same}
+use Rattle.disk_volume.specs.Entry.{Entry, isEmpty, extent, blockIn, ofFile, ofGroup}
+use Rattle.disk_volume.specs.Directory.{slotAt, findSlot}
+use Rattle.disk_volume.specs.Record.{recordSlot, recordBlock, recordAt}
+use Rattle.disk_volume.proofs.FindLaws.{found-fits, not-found}
+use Rattle.disk_geometry.proofs.GeometryLaws.{bounds, place-lt}
+use Rattle.disk_volume.proofs.DirectoryLaws.{slot-length}
+use Rattle.disk_held.specs.Held.{holds, hold}
+use Rattle.disk_held.proofs.HoldLaws.{length-hold, holds-hold-same, holds-hold-other}
+use Rattle.call_answers.specs.Refusal.{isNone, firstMet}
+use Rattle.disk_rules.proofs.TwinLaws.{Twins}
+use Rattle.call_decide.specs.Write.{hasGroup, writeSlot, baseEntry, needsBlock, writeBlock, entryAfter, writeTests}
+use Rattle.call_entry.specs.Grown.{likeEntry}
+use Rattle.call_entry.specs.Alloc.{alloc}
+use Rattle.call_write.specs.CodeAfter.{volumeAfter, heldAfter}
+use Rattle.call_entry.proofs.AllocLaws.{alloc-given}
+use Rattle.call_entry.proofs.GrowLaws.{written-block, written-other}
+use Rattle.call_decide.proofs.WriteLaws.{length-base, write-passed}
+use Rattle.disk_geometry.proofs.InsideLaws.{is-inside}
+use Rattle.call_write.proofs.AfterLaws.{after-file, after-group, after-size, after-slot, after-slot-other, after-record-other}
 use Rattle.demands.proofs.Orderly.{Live, InOrder, Orderly, Laid, Fresh, Held, InMap, HeldAnew, sound-laid, held-laid}
 use Rattle.demands.proofs.Frame.{Touch, unchanged, foreign, Apart}
 use Rattle.demands.proofs.Files.{IsOf, is-of, of-file, other-file, user-live, file-live, file-block, empty-foreign}
@@ -115,16 +115,16 @@ module _ (g : Geometry) (law : lawful g ≡ true) (v : List ℕ) (size : length 
   slot-in : i < slots g
   slot-in = write-passed g h v u name n passed .slot-in
 
-  low : g .directory ≤ b
+  low : g .«directory_blocks» ≤ b
   low = write-passed g h v u name n passed .block-low
 
-  high : b < g .total
+  high : b < g .blocks
   high = write-passed g h v u name n passed .block-high
 
   below-256 : b < 256
-  below-256 = omega (arith, bounds g law .total-high, high)
+  below-256 = omega (arith, bounds g law .blocks-high, high)
 
-  some-directory : 1 ≤ g .directory
+  some-directory : 1 ≤ g .«directory_blocks»
   some-directory = bounds g law .directory-low
 
   base-32 : length base ≡ 32
@@ -181,7 +181,7 @@ module _ (g : Geometry) (law : lawful g ≡ true) (v : List ℕ) (size : length 
           taken q (place-zero g h v u name n q) (rw z (alloc-given g h base at (rw z at high) .free))
 
   -- a block of an entry is held
-  named-held : (j p c : ℕ) → j < slots g → Live (slotAt g v j) → p < places g → blockIn g (slotAt g v j) p ≡ c → g .directory ≤ c → c < g .total → holds h c ≡ true
+  named-held : (j p c : ℕ) → j < slots g → Live (slotAt g v j) → p < places g → blockIn g (slotAt g v j) p ≡ c → g .«directory_blocks» ≤ c → c < g .blocks → holds h c ≡ true
   named-held j p c j< l p< z lo hi = held .whole c lo hi (record { slot = j; place = p; slot< = j<; place< = p<; live = l; is = z })
 
   -- no other place of the entry has the block
@@ -264,7 +264,7 @@ module _ (g : Geometry) (law : lawful g ≡ true) (v : List ℕ) (size : length 
   e-live = file-live u name e u15 (after-file g h v u name n law size passed)
 
   -- ---- the held blocks
-  old-held : (p : ℕ) → p < places g → p ≢ at → g .directory ≤ blockIn g e p → blockIn g e p < g .total → From → holds h (blockIn g e p) ≡ true
+  old-held : (p : ℕ) → p < places g → p ≢ at → g .«directory_blocks» ≤ blockIn g e p → blockIn g e p < g .blocks → From → holds h (blockIn g e p) ≡ true
   old-held p p< ne lo hi (old s gr) = named-held i p (blockIn g e p) slot-in (ap isEmpty s ∙ base-live) p< (ap (λ (x : Entry). blockIn g x p) s ∙ sym (there p ne)) lo hi
   old-held p p< ne lo hi (new em zs none) = let x : blockIn g e p ≡ 0 = there p ne ∙ zs p in absurd (omega (arith, some-directory))
 
@@ -286,7 +286,7 @@ module _ (g : Geometry) (law : lawful g ≡ true) (v : List ℕ) (size : length 
       keeps p p< l (no ne) (old s gr) = in-e p p< ne s
       keeps p p< l (yes z) (old s gr) = record { place = p; place< = p<; is = ap (blockIn g e) z ∙ here ∙ sym y ∙ ap (blockIn g base) (sym z) ∙ ap (λ (x : Entry). blockIn g x p) (sym s) }
 
-      all : (p : ℕ) → p < places g → g .directory ≤ blockIn g e p → blockIn g e p < g .total → Dec (p ≡ at) → From → holds h (blockIn g e p) ≡ true
+      all : (p : ℕ) → p < places g → g .«directory_blocks» ≤ blockIn g e p → blockIn g e p < g .blocks → Dec (p ≡ at) → From → holds h (blockIn g e p) ≡ true
       all p p< lo hi (no ne) f = old-held p p< ne lo hi f
       all p p< lo hi (yes z) (old s gr) =
           named-held i p (blockIn g e p) slot-in (ap isEmpty s ∙ base-live) p< (ap (λ (x : Entry). blockIn g x p) s ∙ ap (blockIn g base) z ∙ y ∙ sym here ∙ ap (blockIn g e) (sym z)) lo hi
@@ -313,14 +313,14 @@ module _ (g : Geometry) (law : lawful g ≡ true) (v : List ℕ) (size : length 
       only c t (yes z) = inr (record { place = at; place< = place-lt g law n; is = here ∙ sym z })
       only c t (no z) = inl (sym (holds-hold-other h (held .four) b below-256 c z) ∙ t)
 
-      keeps : (p : ℕ) → p < places g → Live (slotAt g v i) → g .directory ≤ blockIn g (slotAt g v i) p → Dec (p ≡ at) → From → InMap g e (blockIn g (slotAt g v i) p)
+      keeps : (p : ℕ) → p < places g → Live (slotAt g v i) → g .«directory_blocks» ≤ blockIn g (slotAt g v i) p → Dec (p ≡ at) → From → InMap g e (blockIn g (slotAt g v i) p)
       keeps p p< l lo d (new em zs none) = absurd (true≢false (sym em ∙ l))
       keeps p p< l lo (no ne) (old s gr) = in-e p p< ne s
       keeps p p< l lo (yes z) (old s gr) =
           let x : blockIn g (slotAt g v i) p ≡ 0 = ap (λ (x : Entry). blockIn g x p) s ∙ ap (blockIn g base) z ∙ y in
           absurd (omega (arith, some-directory))
 
-      all : (p : ℕ) → p < places g → g .directory ≤ blockIn g e p → blockIn g e p < g .total → Dec (p ≡ at) → holds (hold h b) (blockIn g e p) ≡ true
+      all : (p : ℕ) → p < places g → g .«directory_blocks» ≤ blockIn g e p → blockIn g e p < g .blocks → Dec (p ≡ at) → holds (hold h b) (blockIn g e p) ≡ true
       all p p< lo hi (no ne) = stays (blockIn g e p) (old-held p p< ne lo hi from)
       all p p< lo hi (yes z) = let x : blockIn g e p ≡ b = ap (blockIn g e) z ∙ here in rw x (holds-hold-same h (held .four) b below-256)
 

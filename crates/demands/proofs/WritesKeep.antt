@@ -1,37 +1,31 @@
 -- The three writes keep state and volume consistent and leave every file but the one that they name.
 use mathlib.Core.Path.{_≡_, refl, sym, ap, _∙_}
-use mathlib.Core.Bool.{Bool, true, false, not, cond, _&&_}
+use mathlib.Core.Bool.{Bool, true, false, not, _&&_}
 use mathlib.Core.List.{List, _++_}
 use Prim.Native.Nat.{ℕ, _+_, _%_, _<_}
 use native.Mathlib.Omega.{arith}
 use lib.Dec.{eqb}
 use lib.ListN.{length}
-use Rattle.volume.specs.Name.{nameOf, same}
-use Rattle.blocks.specs.Held.{hold}
-use Rattle.control.specs.Block.{position, random}
-use Rattle.answers.specs.declared.Refusal.the-variants.{Protected}
-use Rattle.answers.specs.Refusal.{isNone, firstMet}
-use Rattle.answers.proofs.Ladder.{unmet}
-use Rattle.deciding.specs.Write.{needsBlock, writeBlock, writeTests}
-use Rattle.deciding.specs.WritePlan.{volumeAfter}
+use Rattle.disk_volume.specs.Name.{nameOf, same}
+use Rattle.call_fcb.specs.Fcb.{position, random}
+use Rattle.call_answers.specs.declared.Refusal.the-variants.{Protected}
+use Rattle.call_answers.specs.Refusal.{isNone, firstMet}
+use Rattle.call_answers.proofs.Ladder.{unmet}
+use Rattle.call_decide.specs.Write.{needsBlock, writeBlock, writeTests}
+use Rattle.call_write.specs.CodeAfter.{volumeAfter}
 use Rattle.filecalls.specs.declared.Drive.{Drive}
-use Rattle.filecalls.specs.Ready.{Open}
-use Rattle.filecalls.specs.Outcome.{keeps, takes, stored, storedAll, changedState, withHeld}
+use Rattle.filecalls.specs.CodeReady.{OpenState}
+use Rattle.filecalls.specs.Outcome.{stored, storedAll, changedState}
 use Rattle.filecalls.specs.Read.{sequentialTests, randomTests}
 use Rattle.filecalls.specs.Write.{writeEntry, writeChange, writeDone, directoryTests, writeSequentialAct, writeDirectAct, writeRandomAct, writeZeroFillAct}
 use Rattle.filecalls.proofs.LentLaws.{sequential-lent, random-lent, sequential-passed, random-passed}
 use Rattle.filecalls.proofs.StateLaws.{both-clear}
+use Rattle.filecalls.proofs.WriteLaws.{taken}
 use Rattle.demands.specs.Demand3.{Bytes}
 use Rattle.demands.proofs.Acts.{Consistent, Keeps, does, keeps-unless, leaves-apart}
 use Rattle.demands.proofs.WriteKeeps.{write-size, write-sound, write-held, write-apart}
 
--- the state where block x is taken if t
-taken : (d : Drive) (v : List ℕ) (t : Bool) (x : ℕ) → changedState d v (cond t (takes x) keeps) ≡ withHeld d (cond t (hold (d .held) x) (d .held))
-unfolding changedState
-taken d v true x = refl
-taken d v false x = refl
-
-module _ (d : Drive) (v f : List ℕ) (c : Consistent d v) (o : Open d) where
+module _ (d : Drive) (v f : List ℕ) (c : Consistent d v) (o : OpenState d) where
   -- record n is written with the bytes r
   module _ (n : ℕ) (fills : Bool) (r : List ℕ) (n< : n < 65536) (r128 : length r ≡ 128) (h : isNone (firstMet (directoryTests d v f n)) ≡ true) where
     passed : isNone (firstMet (writeTests (d .geometry) (d .held) v (d .user) (nameOf f) n)) ≡ true

@@ -7,15 +7,15 @@ use native.Mathlib.Decide.{decLt}
 use lib.ListN.{length, set, length-set}
 use lib.Seq.{getD-set-same, getD-set-other}
 use Rattle.lists.specs.Bytes.{byte}
-use Rattle.geometry.specs.declared.Geometry.{Geometry}
-use Rattle.geometry.specs.Geometry.{placeOf}
-use Rattle.volume.specs.Name.{nameOf}
-use Rattle.volume.specs.Entry.{Entry, extent, withBlock}
-use Rattle.goodslots.specs.GoodSlot.{goodTopBits}
-use Rattle.goodslots.proofs.GoodLaws.{Fields, top-bits-good, good-top-bits}
-use Rattle.entries.specs.Grown.{grown, writtenEntry}
-use Rattle.entries.proofs.HeadLaws.{head-byte, head-name}
-use Rattle.entries.proofs.GrowLaws.{grown-later, grown-own, grown-earlier, byte-grown, head-written, length-written}
+use Rattle.disk_geometry.specs.declared.Geometry.{Geometry}
+use Rattle.disk_geometry.specs.Geometry.{placeOf}
+use Rattle.disk_volume.specs.Name.{nameOf}
+use Rattle.disk_volume.specs.Entry.{Entry, extent, withBlock}
+use Rattle.disk_rules.specs.GoodSlot.{goodTopBits}
+use Rattle.disk_rules.proofs.GoodLaws.{Fields, top-bits-good, good-top-bits}
+use Rattle.call_entry.specs.Grown.{grown, writtenEntry}
+use Rattle.call_entry.proofs.HeadLaws.{head-byte, head-name}
+use Rattle.call_entry.proofs.GrowLaws.{grown-later, grown-own, grown-earlier, byte-grown, head-written, length-written}
 
 module _ (e : Entry) (n : ℕ) (e32 : length e ≡ 32) (n< : n < 65536) (f : Fields e) where
   grown-fields : Fields (grown e n)

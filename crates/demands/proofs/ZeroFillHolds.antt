@@ -8,22 +8,22 @@ use Prim.Native.Nat.{ℕ, _+_, _*_, _/_, _%_}
 use native.Mathlib.Nat.{div-add-mod'}
 use lib.ListN.{length, replicate}
 use Rattle.lists.specs.Bytes.{byte}
-use Rattle.geometry.specs.declared.Geometry.{Geometry}
-use Rattle.volume.specs.declared.Wanted.the-variants.{Group}
-use Rattle.geometry.specs.Geometry.{bytes, records}
-use Rattle.volume.specs.Name.{nameOf}
-use Rattle.volume.specs.Entry.{Entry, blockIn}
-use Rattle.volume.specs.Directory.{slotAt, findSlot}
-use Rattle.volume.specs.Record.{recordSlot, recordBlock, recordAt, OffBlock}
-use Rattle.geometry.proofs.GeometryLaws.{same-place, same-group}
-use Rattle.control.specs.Block.{random, setTo}
-use Rattle.answers.specs.declared.Answer.the-variants.{Done, Refused}
-use Rattle.answers.specs.Refusal.{Test, isNone, firstMet}
-use Rattle.answers.specs.Answer.{succeeded}
-use Rattle.reading.specs.Read.{readBlock, readBytes}
-use Rattle.deciding.specs.Write.{writeSlot}
-use Rattle.deciding.specs.WritePlan.{entryAfter, volumeAfter, heldAfter}
-use Rattle.writing.proofs.AfterLaws.{after-size, after-byte, after-block, after-slot, after-recordSlot, after-record-within}
+use Rattle.disk_geometry.specs.declared.Geometry.{Geometry}
+use Rattle.disk_volume.specs.declared.Wanted.the-variants.{Group}
+use Rattle.disk_geometry.specs.Geometry.{bytes, records}
+use Rattle.disk_volume.specs.Name.{nameOf}
+use Rattle.disk_volume.specs.Entry.{Entry, blockIn}
+use Rattle.disk_volume.specs.Directory.{slotAt, findSlot}
+use Rattle.disk_volume.specs.Record.{recordSlot, recordBlock, recordAt, OffBlock}
+use Rattle.disk_geometry.proofs.GeometryLaws.{same-place, same-group}
+use Rattle.call_fcb.specs.Fcb.{random, setTo}
+use Rattle.call_answers.specs.declared.Answer.the-variants.{Done, Refused}
+use Rattle.call_answers.specs.Refusal.{Test, isNone, firstMet}
+use Rattle.call_answers.specs.Answer.{succeeded}
+use Rattle.call_read.specs.Read.{readBlock, readBytes}
+use Rattle.call_decide.specs.Write.{writeSlot, entryAfter}
+use Rattle.call_write.specs.CodeAfter.{volumeAfter, heldAfter}
+use Rattle.call_write.proofs.AfterLaws.{after-size, after-byte, after-block, after-slot, after-recordSlot, after-record-within}
 use Rattle.filecalls.specs.declared.Drive.{Drive}
 use Rattle.filecalls.specs.Outcome.{Outcome, outcome, withHeld}
 use Rattle.filecalls.specs.Read.{randomTests}
@@ -31,7 +31,7 @@ use Rattle.filecalls.specs.Write.{directoryTests, writeDone, writeDirectAct, wr
 use Rattle.filecalls.proofs.OutcomeLaws as laws
 use Rattle.filecalls.proofs.WriteLaws.{leaves}
 use Rattle.bdos.specs.Step.{carries, does, step}
-use Rattle.served.specs.Calls.{callOf}
+use Rattle.call_served.specs.Calls.{callOf}
 use Rattle.demands.specs.ZeroFill.{gives, blockOf, ZeroFill}
 use Rattle.demands.proofs.Demand2Writes.{Clear, clear-random}
 
@@ -53,10 +53,10 @@ module _ (d : Drive) (v f b : List ℕ) where
         answer = Done 0;
         drive = withHeld d (heldAfter (d .geometry) (d .held) v (d .user) (nameOf f) n);
         volume = volumeAfter (d .geometry) (d .held) v (d .user) (nameOf f) n fills b;
-        block = setTo f (entryAfter (d .geometry) (d .held) v (d .user) (nameOf f) n) n (n % 128);
+        fcb = setTo f (entryAfter (d .geometry) (d .held) v (d .user) (nameOf f) n) n (n % 128);
         buffer = b;
       }
-  result false fills = record { answer = Refused (firstMet tests); drive = d; volume = v; block = f; buffer = b }
+  result false fills = record { answer = Refused (firstMet tests); drive = d; volume = v; fcb = f; buffer = b }
 
   result-is : (fills t : Bool) → isNone (firstMet tests) ≡ t → outcome d v f b (writeDirectAct fills d v f b) ≡ result t fills
   result-is fills true e = ap (outcome d v f b) (laws.does tests (writeDone d v f n (n % 128) fills b) e) ∙ leaves d v f n (n % 128) fills b
@@ -75,7 +75,7 @@ module _ (d : Drive) (v f b : List ℕ) where
         answer = result t false .answer;
         drive = result t false .drive;
         volume = result t true .volume;
-        block = result t false .block;
+        fcb = result t false .fcb;
         buffer = result t false .buffer;
       }
   but-volume true = refl
@@ -153,7 +153,7 @@ unfolding step does carries callOf writeRandomAct writeZeroFillAct
 zero-fill = record {
   same-answer = λ g p d v f b. alike d v f b (λ o. o .answer) (λ t e. ap (λ (o : Outcome). o .answer) (but-volume d v f b t));
   same-state = λ g p d v f b. alike d v f b (λ o. o .drive) (λ t e. ap (λ (o : Outcome). o .drive) (but-volume d v f b t));
-  same-block = λ g p d v f b. alike d v f b (λ o. o .block) (λ t e. ap (λ (o : Outcome). o .block) (but-volume d v f b t));
+  same-fcb = λ g p d v f b. alike d v f b (λ o. o .fcb) (λ t e. ap (λ (o : Outcome). o .fcb) (but-volume d v f b t));
   same-buffer = λ g p d v f b. alike d v f b (λ o. o .buffer) (λ t e. ap (λ (o : Outcome). o .buffer) (but-volume d v f b t));
   same-volume = λ g p d v f b h. alike d v f b (λ o. o .volume) (λ t e. no-block d v f b h t);
   same-length = λ g p d v f b. alike d v f b (λ o. length (o .volume)) (sizes d v f b);

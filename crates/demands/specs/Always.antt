@@ -5,14 +5,14 @@ use mathlib.Core.Bool.{true}
 use mathlib.Core.List.{List, _∷_}
 use Prim.Native.Nat.{ℕ}
 use lib.ListN.{length}
-use Rattle.geometry.specs.declared.Geometry.{Geometry}
-use Rattle.geometry.specs.Geometry.{lawful, bytes, slots}
-use Rattle.goodslots.specs.GoodSlot.{lowestBad}
+use Rattle.disk_geometry.specs.declared.Geometry.{Geometry}
+use Rattle.disk_geometry.specs.Geometry.{lawful, bytes, slots}
+use Rattle.disk_rules.specs.GoodSlot.{lowestBad}
 use Rattle.filecalls.specs.declared.Drive.{Drive}
-use Rattle.served.specs.declared.Call.the-variants.{LogIn}
+use Rattle.call_served.specs.declared.Call.the-variants.{LogIn}
 use Rattle.bdos.specs.Step.{step}
-use Rattle.served.specs.Asked.{Asked}
-use Rattle.served.specs.Calls.{callOf}
+use Rattle.call_served.specs.Asked.{Asked}
+use Rattle.call_served.specs.Calls.{callOf}
 use Rattle.demands.specs.Run.{final, finalState}
 use Rattle.demands.specs.Demand2.{Sound}
 use Rattle.demands.specs.Demand3.{BytesLent}

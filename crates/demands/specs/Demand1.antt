@@ -8,18 +8,18 @@ use mathlib.Core.Bool.{true, false}
 use mathlib.Core.Logic.{_≢_}
 use mathlib.Core.List.{List, [], _∷_}
 use Prim.Native.Nat.{ℕ}
-use Rattle.geometry.specs.declared.Geometry.{Geometry}
-use Rattle.answers.specs.declared.Answer.{Answer}
-use Rattle.answers.specs.Refusal.{Test, refusalNumber, isNone, firstMet}
-use Rattle.answers.specs.Answer.{numberOf, succeeded}
+use Rattle.disk_geometry.specs.declared.Geometry.{Geometry}
+use Rattle.call_answers.specs.declared.Answer.{Answer}
+use Rattle.call_answers.specs.Refusal.{Test, refusalNumber, isNone, firstMet}
+use Rattle.call_answers.specs.Answer.{numberOf, succeeded}
 use Rattle.filecalls.specs.declared.Drive.{Drive}
 use Rattle.filecalls.specs.Outcome.{Outcome}
 use Rattle.filecalls.specs.State.{closed}
-use Rattle.served.specs.declared.Call.{Call}
-use Rattle.served.specs.declared.Call.the-variants.{LogIn, Unserved}
+use Rattle.call_served.specs.declared.Call.{Call}
+use Rattle.call_served.specs.declared.Call.the-variants.{LogIn, Unserved}
 use Rattle.bdos.specs.Step.{step}
-use Rattle.served.specs.Asked.{Asked}
-use Rattle.served.specs.Calls.{callOf}
+use Rattle.call_served.specs.Asked.{Asked}
+use Rattle.call_served.specs.Calls.{callOf}
 use Rattle.demands.specs.Order.{paperTable, numbersOf, reasons, inOrder, testsOf, refusalsOf, among, answersOf}
 
 -- ---- what the statement is written with
@@ -28,26 +28,26 @@ abbrev pub call : Asked → Call
 call c = callOf (c .function)
 
 abbrev pub tests : Geometry → Asked → Drive → List ℕ → List Test
-tests g c d v = testsOf g (call c) (c .parameter) d v (c .block) (c .buffer)
+tests g c d v = testsOf g (call c) (c .parameter) d v (c .fcb) (c .buffer)
 
 abbrev pub answer : Geometry → Asked → Drive → List ℕ → Answer
 answer g c d v = step g c d v .answer
 
 -- the state is s; volume, control block and buffer are as given
-pub record Leaves (o : Outcome) (s : Drive) (v f b : List ℕ) : Type 0 where
+pub record Leaves (o : Outcome) (s : Drive) (v fcb b : List ℕ) : Type 0 where
   pub state-is : o .drive ≡ s
   pub volume-kept : o .volume ≡ v
-  pub block-kept : o .block ≡ f
+  pub fcb-kept : o .fcb ≡ fcb
   pub buffer-kept : o .buffer ≡ b
 
 -- ---- the statement
 pub record Demand1 : Type 0 where
   -- "a refused call leaves volume, control block, buffer and state as given"
   pub refused-leaves-all : (g : Geometry) (c : Asked) (d : Drive) (v : List ℕ) → call c ≢ LogIn → succeeded (answer g c d v) ≡ false
-      → Leaves (step g c d v) d v (c .block) (c .buffer)
+      → Leaves (step g c d v) d v (c .fcb) (c .buffer)
   -- "a refused log-in hands back the closed value"
   pub refused-log-in-closes : (g : Geometry) (c : Asked) (d : Drive) (v : List ℕ) → call c ≡ LogIn → succeeded (answer g c d v) ≡ false
-      → Leaves (step g c d v) closed v (c .block) (c .buffer)
+      → Leaves (step g c d v) closed v (c .fcb) (c .buffer)
   -- "the answer is one of the paper's for that call": a code of its success (of several records also the number that
   -- stopped it), or the number of one of its refusals
   pub success-of-paper : (g : Geometry) (c : Asked) (d : Drive) (v : List ℕ) → succeeded (answer g c d v) ≡ true
@@ -61,7 +61,7 @@ pub record Demand1 : Type 0 where
       → succeeded (answer g c d v) ≡ true
   -- "the tests of each call stand in the order of the paper's table": whatever is given, they are the call's refusals, and
   -- those of the twenty calls are a part of one list
-  pub tests-are : (g : Geometry) (k : Call) (p : ℕ) (d : Drive) (v f b : List ℕ) → reasons (testsOf g k p d v f b) ≡ refusalsOf k
+  pub tests-are : (g : Geometry) (k : Call) (p : ℕ) (d : Drive) (v fcb b : List ℕ) → reasons (testsOf g k p d v fcb b) ≡ refusalsOf k
   pub in-table-order : (k : Call) → k ≢ Unserved → inOrder (refusalsOf k) paperTable ≡ true
   pub table-numbers : numbersOf paperTable
       ≡ 32 ∷ 33 ∷ 34 ∷ 46 ∷ 35 ∷ 42 ∷ 44 ∷ 39 ∷ 45 ∷ 40 ∷ 6 ∷ 36 ∷ 37 ∷ 255 ∷ 3 ∷ 38 ∷ 43 ∷ 4 ∷ 1 ∷ 41 ∷ 5 ∷ 255 ∷ 2 ∷ []

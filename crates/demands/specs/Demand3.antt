@@ -17,23 +17,23 @@ use Prim.Native.Nat.{ℕ, _≤_, _<_}
 use lib.Dec.{eqb}
 use lib.ListN.{length}
 use Rattle.lists.specs.Bytes.{byte}
-use Rattle.geometry.specs.declared.Geometry.{Geometry}
-use Rattle.geometry.specs.Geometry.{lawful, bytes, slots, places}
-use Rattle.volume.specs.Name.{nameOf, same, like}
-use Rattle.volume.specs.Entry.{isEmpty, blockIn}
-use Rattle.volume.specs.Directory.{slotAt}
-use Rattle.volume.specs.Record.{present}
-use Rattle.control.specs.Block.{newName}
-use Rattle.answers.specs.Answer.{succeeded}
-use Rattle.goodslots.specs.GoodSlot.{lowestBad}
-use Rattle.reading.specs.Read.{readBytes}
+use Rattle.disk_geometry.specs.declared.Geometry.{Geometry}
+use Rattle.disk_geometry.specs.Geometry.{lawful, bytes, slots, places}
+use Rattle.disk_volume.specs.Name.{nameOf, same, like}
+use Rattle.disk_volume.specs.Entry.{isEmpty, blockIn}
+use Rattle.disk_volume.specs.Directory.{slotAt}
+use Rattle.disk_volume.specs.Record.{present}
+use Rattle.call_fcb.specs.Fcb.{newName}
+use Rattle.call_answers.specs.Answer.{succeeded}
+use Rattle.disk_rules.specs.GoodSlot.{lowestBad}
+use Rattle.call_read.specs.Read.{readBytes}
 use Rattle.filecalls.specs.declared.Drive.{Drive}
-use Rattle.served.specs.declared.Call.{Call}
-use Rattle.served.specs.declared.Call.the-variants.{LogIn, Open, Close, SearchFirst, SearchNext, Delete, Make, Rename, Protect, Attributes, User, Size, SetRandom, Moves, Unserved}
-use Rattle.served.specs.declared.Transfer.the-variants.{ReadSequential, WriteSequential, ReadRandom, WriteRandom, WriteZeroFill, ReadSeveral, WriteSeveral}
+use Rattle.call_served.specs.declared.Call.{Call}
+use Rattle.call_served.specs.declared.Call.the-variants.{LogIn, Open, Close, SearchFirst, SearchNext, Delete, Make, Rename, Protect, Attributes, User, Size, SetRandom, Moves, Unserved}
+use Rattle.call_served.specs.declared.Transfer.the-variants.{ReadSequential, WriteSequential, ReadRandom, WriteRandom, WriteZeroFill, ReadSeveral, WriteSeveral}
 use Rattle.bdos.specs.Step.{step}
-use Rattle.served.specs.Asked.{Asked}
-use Rattle.served.specs.Calls.{callOf}
+use Rattle.call_served.specs.Asked.{Asked}
+use Rattle.call_served.specs.Calls.{callOf}
 use Rattle.demands.specs.Run.{answers, final, plainStep}
 
 -- bytes are below 256
@@ -42,35 +42,35 @@ Bytes l = (k : ℕ) → byte l k < 256
 
 abbrev pub BytesLent : List Asked → Type 0
 BytesLent [] = Unit {0}
-BytesLent (c ∷ cs) = Bytes (c .block) × BytesLent cs
+BytesLent (c ∷ cs) = Bytes (c .fcb) × BytesLent cs
 
 -- a call of the user w with this control block, which changes what it names: does it name or match the file (u, name)?
-abbrev pub names : Call → ℕ → List ℕ → ℕ → List ℕ → Bool
-names Delete w f u name = eqb u w && like name (nameOf f)
-names Make w f u name = eqb u w && same name (nameOf f)
-names (Moves WriteSequential) w f u name = eqb u w && same name (nameOf f)
-names (Moves WriteRandom) w f u name = eqb u w && same name (nameOf f)
-names (Moves WriteZeroFill) w f u name = eqb u w && same name (nameOf f)
-names Attributes w f u name = eqb u w && same name (nameOf f)
-names Rename w f u name = eqb u w && (same name (nameOf f) || same name (newName f))
-names (Moves WriteSeveral) w f u name = eqb u w && same name (nameOf f)
-names LogIn w f u name = false
-names Open w f u name = false
-names Close w f u name = false
-names SearchFirst w f u name = false
-names SearchNext w f u name = false
-names (Moves ReadSequential) w f u name = false
-names (Moves ReadRandom) w f u name = false
-names (Moves ReadSeveral) w f u name = false
-names Size w f u name = false
-names Protect w f u name = false
-names User w f u name = false
-names SetRandom w f u name = false
-names Unserved w f u name = false
+abbrev pub namesFile : Call → ℕ → List ℕ → ℕ → List ℕ → Bool
+namesFile Delete w fcb u name = eqb u w && like name (nameOf fcb)
+namesFile Make w fcb u name = eqb u w && same name (nameOf fcb)
+namesFile (Moves WriteSequential) w fcb u name = eqb u w && same name (nameOf fcb)
+namesFile (Moves WriteRandom) w fcb u name = eqb u w && same name (nameOf fcb)
+namesFile (Moves WriteZeroFill) w fcb u name = eqb u w && same name (nameOf fcb)
+namesFile Attributes w fcb u name = eqb u w && same name (nameOf fcb)
+namesFile Rename w fcb u name = eqb u w && (same name (nameOf fcb) || same name (newName fcb))
+namesFile (Moves WriteSeveral) w fcb u name = eqb u w && same name (nameOf fcb)
+namesFile LogIn w fcb u name = false
+namesFile Open w fcb u name = false
+namesFile Close w fcb u name = false
+namesFile SearchFirst w fcb u name = false
+namesFile SearchNext w fcb u name = false
+namesFile (Moves ReadSequential) w fcb u name = false
+namesFile (Moves ReadRandom) w fcb u name = false
+namesFile (Moves ReadSeveral) w fcb u name = false
+namesFile Size w fcb u name = false
+namesFile Protect w fcb u name = false
+namesFile User w fcb u name = false
+namesFile SetRandom w fcb u name = false
+namesFile Unserved w fcb u name = false
 
 -- in the state d
 unfoldable pub touches : Asked → Drive → ℕ → List ℕ → Bool
-touches c d u name = names (callOf (c .function)) (d .user) (c .block) u name
+touches c d u name = namesFile (callOf (c .function)) (d .user) (c .fcb) u name
 
 -- a successful call of the run touches the file
 unfoldable pub touched : Geometry → List Asked → Drive → List ℕ → ℕ → List ℕ → Bool

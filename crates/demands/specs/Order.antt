@@ -4,13 +4,13 @@ use mathlib.Core.Bool.{Bool, true, false, cond, _||_}
 use mathlib.Core.List.{List, [], _∷_, _++_}
 use Prim.Native.Nat.{ℕ}
 use lib.Dec.{ltb, eqb}
-use Rattle.geometry.specs.declared.Geometry.{Geometry}
-use Rattle.volume.specs.Name.{nameOf}
-use Rattle.control.specs.Block.{position, positionFits, random}
-use Rattle.answers.specs.declared.Refusal.{Refusal}
-use Rattle.answers.specs.declared.Refusal.the-variants.{None, NotServed, Closed, VolumeLength, BlockLength, BadCount, BufferLength, DriveCode, UserCode, Name, Untypeable, Position, Beyond, BadSlot, Protected, NoMatch, NoFile, ReadOnly, Exists, NoGroup, Absent, Outside, NoSlot, NoRoom, NoBlock}
-use Rattle.answers.specs.Refusal.{refusalNumber, Test, test}
-use Rattle.reading.specs.Read.{readTests}
+use Rattle.disk_geometry.specs.declared.Geometry.{Geometry}
+use Rattle.disk_volume.specs.Name.{nameOf}
+use Rattle.call_fcb.specs.Fcb.{position, positionFits, random}
+use Rattle.call_answers.specs.declared.Refusal.{Refusal}
+use Rattle.call_answers.specs.declared.Refusal.the-variants.{None, NotServed, Closed, VolumeLength, FcbLength, BadCount, BufferLength, DriveCode, UserCode, Name, Untypeable, Position, Beyond, BadSlot, Protected, NoMatch, NoFile, ReadOnly, Exists, NoGroup, Absent, Outside, NoSlot, NoRoom, NoBlock}
+use Rattle.call_answers.specs.Refusal.{refusalNumber, Test, test}
+use Rattle.call_read.specs.Read.{readTests}
 use Rattle.filecalls.specs.declared.Drive.{Drive}
 use Rattle.filecalls.specs.Tests.{driveCode, badName, tooLarge, beyond}
 use Rattle.filecalls.specs.LogIn.{logInTests}
@@ -20,16 +20,16 @@ use Rattle.filecalls.specs.Names.{deleteLadder, makeLadder, renameLadder, attri
 use Rattle.filecalls.specs.Read.{sequentialTests, randomTests}
 use Rattle.filecalls.specs.Write.{directoryTests}
 use Rattle.filecalls.specs.Small.{protectTests, userTests, setRandomTests}
-use Rattle.lent.specs.Lent.{severalTests}
-use Rattle.served.specs.declared.Call.{Call}
-use Rattle.served.specs.declared.Call.the-variants.{LogIn, Open, Close, SearchFirst, SearchNext, Delete, Make, Rename, Protect, Attributes, User, Size, SetRandom, Moves, Unserved}
-use Rattle.served.specs.declared.Transfer.the-variants.{ReadSequential, WriteSequential, ReadRandom, WriteRandom, WriteZeroFill, ReadSeveral, WriteSeveral}
+use Rattle.filecalls.specs.Several.{severalTests}
+use Rattle.call_served.specs.declared.Call.{Call}
+use Rattle.call_served.specs.declared.Call.the-variants.{LogIn, Open, Close, SearchFirst, SearchNext, Delete, Make, Rename, Protect, Attributes, User, Size, SetRandom, Moves, Unserved}
+use Rattle.call_served.specs.declared.Transfer.the-variants.{ReadSequential, WriteSequential, ReadRandom, WriteRandom, WriteZeroFill, ReadSeveral, WriteSeveral}
 
 -- the paper's table from top to bottom, 46 "straight before 35" and 45 "straight after 39"; "5 .. make answers 255 here" is two
 -- cases of one row
 abbrev pub paperTable : List Refusal
 paperTable =
-    Closed ∷ VolumeLength ∷ BlockLength ∷ BadCount ∷ BufferLength ∷ DriveCode ∷ UserCode ∷ Name ∷ Untypeable ∷ Position ∷ Beyond
+    Closed ∷ VolumeLength ∷ FcbLength ∷ BadCount ∷ BufferLength ∷ DriveCode ∷ UserCode ∷ Name ∷ Untypeable ∷ Position ∷ Beyond
     ∷ BadSlot ∷ Protected ∷ NoMatch ∷ NoFile ∷ ReadOnly ∷ Exists ∷ NoGroup ∷ Absent ∷ Outside ∷ NoSlot ∷ NoRoom ∷ NoBlock ∷ []
 
 -- the numbers of refusals, and those that tests give
@@ -47,7 +47,7 @@ caseOf None = 0
 caseOf NotServed = 1
 caseOf Closed = 2
 caseOf VolumeLength = 3
-caseOf BlockLength = 4
+caseOf FcbLength = 4
 caseOf BadCount = 5
 caseOf BufferLength = 6
 caseOf DriveCode = 7
@@ -84,65 +84,65 @@ inOrder ws [] = noneLeft ws
 inOrder ws (row ∷ rows) = inOrder (after row ws) rows
 
 -- what a sequential call tests of the control block once what is lent is right
-abbrev pub blockTests : List ℕ → List Test
-blockTests f = driveCode f ∷ badName false f 1 ∷ tooLarge (positionFits f) ∷ beyond (eqb (position f) 65536) ∷ []
+abbrev pub fcbTests : List ℕ → List Test
+fcbTests fcb = driveCode fcb ∷ badName false fcb 1 ∷ tooLarge (positionFits fcb) ∷ beyond (eqb (position fcb) 65536) ∷ []
 
 -- every call's tests, whatever it is given; those of several records are of the first of them: where one is met none is done
 abbrev pub testsOf : Geometry → Call → ℕ → Drive → List ℕ → List ℕ → List ℕ → List Test
-testsOf g LogIn p d v f b = logInTests g v
-testsOf g Open p d v f b = openTests d v f
-testsOf g Close p d v f b = closeTests d v f
-testsOf g SearchFirst p d v f b = firstTests d v f b
-testsOf g SearchNext p d v f b = nextTests d v b
-testsOf g Delete p d v f b = deleteLadder d v f
-testsOf g (Moves ReadSequential) p d v f b = sequentialTests d v f b ++ readTests (d .geometry) v (d .user) (nameOf f) (position f) Absent
-testsOf g (Moves WriteSequential) p d v f b = sequentialTests d v f b ++ directoryTests d v f (position f)
-testsOf g Make p d v f b = makeLadder d v f
-testsOf g Rename p d v f b = renameLadder d v f
-testsOf g Protect p d v f b = protectTests d
-testsOf g Attributes p d v f b = attributesLadder d v f
-testsOf g User p d v f b = userTests d p
-testsOf g (Moves ReadRandom) p d v f b = randomTests d v f b ++ readTests (d .geometry) v (d .user) (nameOf f) (random f) NoGroup
-testsOf g (Moves WriteRandom) p d v f b = randomTests d v f b ++ directoryTests d v f (random f)
-testsOf g Size p d v f b = sizeTests d v f
-testsOf g SetRandom p d v f b = setRandomTests d f
-testsOf g (Moves WriteZeroFill) p d v f b = randomTests d v f b ++ directoryTests d v f (random f)
-testsOf g (Moves ReadSeveral) p d v f b = severalTests d v f b p ++ (blockTests f ++ readTests (d .geometry) v (d .user) (nameOf f) (position f) Absent)
-testsOf g (Moves WriteSeveral) p d v f b = severalTests d v f b p ++ (blockTests f ++ directoryTests d v f (position f))
-testsOf g Unserved p d v f b = test NotServed true ∷ []
+testsOf g LogIn p d v fcb b = logInTests g v
+testsOf g Open p d v fcb b = openTests d v fcb
+testsOf g Close p d v fcb b = closeTests d v fcb
+testsOf g SearchFirst p d v fcb b = firstTests d v fcb b
+testsOf g SearchNext p d v fcb b = nextTests d v b
+testsOf g Delete p d v fcb b = deleteLadder d v fcb
+testsOf g (Moves ReadSequential) p d v fcb b = sequentialTests d v fcb b ++ readTests (d .geometry) v (d .user) (nameOf fcb) (position fcb) Absent
+testsOf g (Moves WriteSequential) p d v fcb b = sequentialTests d v fcb b ++ directoryTests d v fcb (position fcb)
+testsOf g Make p d v fcb b = makeLadder d v fcb
+testsOf g Rename p d v fcb b = renameLadder d v fcb
+testsOf g Protect p d v fcb b = protectTests d
+testsOf g Attributes p d v fcb b = attributesLadder d v fcb
+testsOf g User p d v fcb b = userTests d p
+testsOf g (Moves ReadRandom) p d v fcb b = randomTests d v fcb b ++ readTests (d .geometry) v (d .user) (nameOf fcb) (random fcb) NoGroup
+testsOf g (Moves WriteRandom) p d v fcb b = randomTests d v fcb b ++ directoryTests d v fcb (random fcb)
+testsOf g Size p d v fcb b = sizeTests d v fcb
+testsOf g SetRandom p d v fcb b = setRandomTests d fcb
+testsOf g (Moves WriteZeroFill) p d v fcb b = randomTests d v fcb b ++ directoryTests d v fcb (random fcb)
+testsOf g (Moves ReadSeveral) p d v fcb b = severalTests d v fcb b p ++ (fcbTests fcb ++ readTests (d .geometry) v (d .user) (nameOf fcb) (position fcb) Absent)
+testsOf g (Moves WriteSeveral) p d v fcb b = severalTests d v fcb b p ++ (fcbTests fcb ++ directoryTests d v fcb (position fcb))
+testsOf g Unserved p d v fcb b = test NotServed true ∷ []
 
 -- the refusals of every call, as the paper's table gives them
 abbrev pub refusalsOf : Call → List Refusal
 refusalsOf LogIn = Closed ∷ VolumeLength ∷ BadSlot ∷ []
-refusalsOf Open = Closed ∷ VolumeLength ∷ BlockLength ∷ DriveCode ∷ Name ∷ Position ∷ NoMatch ∷ []
-refusalsOf Close = Closed ∷ VolumeLength ∷ BlockLength ∷ DriveCode ∷ Name ∷ Position ∷ NoMatch ∷ []
-refusalsOf SearchFirst = Closed ∷ VolumeLength ∷ BlockLength ∷ BufferLength ∷ DriveCode ∷ Name ∷ Position ∷ NoMatch ∷ []
+refusalsOf Open = Closed ∷ VolumeLength ∷ FcbLength ∷ DriveCode ∷ Name ∷ Position ∷ NoMatch ∷ []
+refusalsOf Close = Closed ∷ VolumeLength ∷ FcbLength ∷ DriveCode ∷ Name ∷ Position ∷ NoMatch ∷ []
+refusalsOf SearchFirst = Closed ∷ VolumeLength ∷ FcbLength ∷ BufferLength ∷ DriveCode ∷ Name ∷ Position ∷ NoMatch ∷ []
 refusalsOf SearchNext = Closed ∷ VolumeLength ∷ BufferLength ∷ NoMatch ∷ []
-refusalsOf Delete = Closed ∷ VolumeLength ∷ BlockLength ∷ DriveCode ∷ Name ∷ Protected ∷ NoMatch ∷ ReadOnly ∷ []
+refusalsOf Delete = Closed ∷ VolumeLength ∷ FcbLength ∷ DriveCode ∷ Name ∷ Protected ∷ NoMatch ∷ ReadOnly ∷ []
 refusalsOf (Moves ReadSequential) =
-    Closed ∷ VolumeLength ∷ BlockLength ∷ BufferLength ∷ DriveCode ∷ Name ∷ Position ∷ Beyond ∷ NoFile ∷ Absent ∷ Absent ∷ Outside ∷ []
+    Closed ∷ VolumeLength ∷ FcbLength ∷ BufferLength ∷ DriveCode ∷ Name ∷ Position ∷ Beyond ∷ NoFile ∷ Absent ∷ Absent ∷ Outside ∷ []
 refusalsOf (Moves WriteSequential) =
-    Closed ∷ VolumeLength ∷ BlockLength ∷ BufferLength ∷ DriveCode ∷ Name ∷ Position ∷ Beyond ∷ Protected ∷ NoFile ∷ ReadOnly ∷ Outside
+    Closed ∷ VolumeLength ∷ FcbLength ∷ BufferLength ∷ DriveCode ∷ Name ∷ Position ∷ Beyond ∷ Protected ∷ NoFile ∷ ReadOnly ∷ Outside
     ∷ NoSlot ∷ NoBlock ∷ []
-refusalsOf Make = Closed ∷ VolumeLength ∷ BlockLength ∷ DriveCode ∷ Name ∷ Untypeable ∷ Position ∷ Protected ∷ Exists ∷ NoRoom ∷ []
-refusalsOf Rename = Closed ∷ VolumeLength ∷ BlockLength ∷ DriveCode ∷ Name ∷ Name ∷ Untypeable ∷ Protected ∷ NoMatch ∷ ReadOnly ∷ Exists ∷ []
+refusalsOf Make = Closed ∷ VolumeLength ∷ FcbLength ∷ DriveCode ∷ Name ∷ Untypeable ∷ Position ∷ Protected ∷ Exists ∷ NoRoom ∷ []
+refusalsOf Rename = Closed ∷ VolumeLength ∷ FcbLength ∷ DriveCode ∷ Name ∷ Name ∷ Untypeable ∷ Protected ∷ NoMatch ∷ ReadOnly ∷ Exists ∷ []
 refusalsOf Protect = Closed ∷ []
-refusalsOf Attributes = Closed ∷ VolumeLength ∷ BlockLength ∷ DriveCode ∷ Name ∷ Protected ∷ NoMatch ∷ []
+refusalsOf Attributes = Closed ∷ VolumeLength ∷ FcbLength ∷ DriveCode ∷ Name ∷ Protected ∷ NoMatch ∷ []
 refusalsOf User = Closed ∷ UserCode ∷ []
 refusalsOf (Moves ReadRandom) =
-    Closed ∷ VolumeLength ∷ BlockLength ∷ BufferLength ∷ DriveCode ∷ Name ∷ Beyond ∷ NoFile ∷ NoGroup ∷ Absent ∷ Outside ∷ []
+    Closed ∷ VolumeLength ∷ FcbLength ∷ BufferLength ∷ DriveCode ∷ Name ∷ Beyond ∷ NoFile ∷ NoGroup ∷ Absent ∷ Outside ∷ []
 refusalsOf (Moves WriteRandom) =
-    Closed ∷ VolumeLength ∷ BlockLength ∷ BufferLength ∷ DriveCode ∷ Name ∷ Beyond ∷ Protected ∷ NoFile ∷ ReadOnly ∷ Outside ∷ NoSlot
+    Closed ∷ VolumeLength ∷ FcbLength ∷ BufferLength ∷ DriveCode ∷ Name ∷ Beyond ∷ Protected ∷ NoFile ∷ ReadOnly ∷ Outside ∷ NoSlot
     ∷ NoBlock ∷ []
-refusalsOf Size = Closed ∷ VolumeLength ∷ BlockLength ∷ DriveCode ∷ Name ∷ NoMatch ∷ []
-refusalsOf SetRandom = Closed ∷ BlockLength ∷ DriveCode ∷ Position ∷ []
+refusalsOf Size = Closed ∷ VolumeLength ∷ FcbLength ∷ DriveCode ∷ Name ∷ NoMatch ∷ []
+refusalsOf SetRandom = Closed ∷ FcbLength ∷ DriveCode ∷ Position ∷ []
 refusalsOf (Moves WriteZeroFill) =
-    Closed ∷ VolumeLength ∷ BlockLength ∷ BufferLength ∷ DriveCode ∷ Name ∷ Beyond ∷ Protected ∷ NoFile ∷ ReadOnly ∷ Outside ∷ NoSlot
+    Closed ∷ VolumeLength ∷ FcbLength ∷ BufferLength ∷ DriveCode ∷ Name ∷ Beyond ∷ Protected ∷ NoFile ∷ ReadOnly ∷ Outside ∷ NoSlot
     ∷ NoBlock ∷ []
 refusalsOf (Moves ReadSeveral) =
-    Closed ∷ VolumeLength ∷ BlockLength ∷ BadCount ∷ BufferLength ∷ DriveCode ∷ Name ∷ Position ∷ Beyond ∷ NoFile ∷ Absent ∷ Absent ∷ Outside ∷ []
+    Closed ∷ VolumeLength ∷ FcbLength ∷ BadCount ∷ BufferLength ∷ DriveCode ∷ Name ∷ Position ∷ Beyond ∷ NoFile ∷ Absent ∷ Absent ∷ Outside ∷ []
 refusalsOf (Moves WriteSeveral) =
-    Closed ∷ VolumeLength ∷ BlockLength ∷ BadCount ∷ BufferLength ∷ DriveCode ∷ Name ∷ Position ∷ Beyond ∷ Protected ∷ NoFile ∷ ReadOnly
+    Closed ∷ VolumeLength ∷ FcbLength ∷ BadCount ∷ BufferLength ∷ DriveCode ∷ Name ∷ Position ∷ Beyond ∷ Protected ∷ NoFile ∷ ReadOnly
     ∷ Outside ∷ NoSlot ∷ NoBlock ∷ []
 refusalsOf Unserved = NotServed ∷ []
 

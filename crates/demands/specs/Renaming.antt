@@ -12,15 +12,15 @@ use Prim.Native.Nat.{ℕ, _≤_, _<_}
 use lib.Dec.{ltb}
 use lib.ListN.{length}
 use Rattle.lists.specs.Bytes.{byte}
-use Rattle.volume.specs.declared.Wanted.the-variants.{File, ReadOnlyFile}
-use Rattle.geometry.specs.Geometry.{bytes, slots}
-use Rattle.volume.specs.Name.{topBit, nameOf, same, goodName}
-use Rattle.typing.specs.Typing.{typeable}
-use Rattle.volume.specs.Entry.{Entry}
-use Rattle.volume.specs.Directory.{slotAt, findSlot}
-use Rattle.control.specs.Block.{newName}
-use Rattle.answers.specs.declared.Answer.the-variants.{Done}
-use Rattle.goodslots.specs.GoodSlot.{lowestBad}
+use Rattle.disk_volume.specs.declared.Wanted.the-variants.{File, ReadOnlyFile}
+use Rattle.disk_geometry.specs.Geometry.{bytes, slots}
+use Rattle.disk_volume.specs.Name.{topBit, nameOf, same, goodName}
+use Rattle.call_typing.specs.Typing.{typeable}
+use Rattle.disk_volume.specs.Entry.{Entry}
+use Rattle.disk_volume.specs.Directory.{slotAt, findSlot}
+use Rattle.call_fcb.specs.Fcb.{newName}
+use Rattle.call_answers.specs.declared.Answer.the-variants.{Done}
+use Rattle.disk_rules.specs.GoodSlot.{lowestBad}
 use Rattle.filecalls.specs.declared.Drive.{Drive}
 use Rattle.filecalls.specs.State.{isOpen}
 use Rattle.filecalls.specs.Outcome.{Outcome, outcome}
@@ -29,11 +29,11 @@ use Rattle.filecalls.specs.Names.{renameAct}
 -- ---- the calls
 -- all that a rename leaves: by the state, the volume and the control block
 abbrev pub rename : Drive → List ℕ → List ℕ → Outcome
-rename d v f = outcome d v f [] (renameAct d v f)
+rename d v fcb = outcome d v fcb [] (renameAct d v fcb)
 
 -- one more, given the state and the volume that the last call left
 abbrev pub thenRename : Outcome → List ℕ → Outcome
-thenRename o f = rename (o .drive) (o .volume) f
+thenRename o fcb = rename (o .drive) (o .volume) fcb
 
 -- ---- what is asked
 -- the state's user has an entry of that name, and one that is read-only
@@ -69,11 +69,11 @@ PassesInspection d v = lowestBad (d .geometry) v ≡ slots (d .geometry)
 
 -- A control block that asks to rename old to new: 36 bytes, dr 0 or 1, "old name in 1..11, new in 17..27". The two names are
 -- its bytes without top bits, so these bytes may carry any; all other bytes may be any.
-pub record Asks (f old new : List ℕ) : Type 0 where
-  pub length-36 : length f ≡ 36
-  pub drive-code : byte f 0 ≤ 1
-  pub old-name : nameOf f ≡ old
-  pub new-name : newName f ≡ new
+pub record Asks (fcb old new : List ℕ) : Type 0 where
+  pub length-36 : length fcb ≡ 36
+  pub drive-code : byte fcb 0 ≤ 1
+  pub old-name : nameOf fcb ≡ old
+  pub new-name : newName fcb ≡ new
 
 -- ---- what is promised
 -- the attribute bits of an entry: the top bits of bytes 9 and 10

@@ -8,21 +8,21 @@ use mathlib.Core.List.{List, [], _∷_, _++_}
 use Prim.Native.Nat.{ℕ, _+_}
 use native.Mathlib.Omega.{arith}
 use lib.ListN.{replicate, set}
-use Rattle.lists.specs.Search.{lowFrom, anyFrom, everyFrom, countFrom, fold}
+use Rattle.lists.specs.Bounded.{lowFrom, anyFrom, everyFrom, countFrom, fold}
 use Rattle.lists.specs.Bytes.{byte, part, put, all}
-use Rattle.geometry.specs.declared.Geometry.{Geometry}
-use Rattle.geometry.specs.Geometry.{lawful, start, slotStart, groupOf, inside, places}
-use Rattle.volume.specs.Name.{strip, nameAt, same, goodName}
-use Rattle.typing.specs.Typing.{typeableByte, blankBefore, typeable}
-use Rattle.volume.specs.Entry.{Entry, blockIn, ofFile, ofGroup}
-use Rattle.volume.specs.Directory.{slotAt, putSlot, findSlot, mapSlot}
-use Rattle.blocks.specs.Held.{digit, holds, wordOf, wordsOf, freeCount}
-use Rattle.answers.specs.declared.Answer.the-variants.{Done, Ready}
-use Rattle.answers.specs.Refusal.{firstMet}
-use Rattle.goodslots.specs.GoodSlot.{goodFields, goodTopBits, inPlaces, names, namedBelow, goodPlace, seenBelow, goodSlot, lowestBad}
-use Rattle.goodslots.specs.Named.{named, heldOf}
-use Rattle.sweeping.specs.Sweep.{renamed, changed}
-use Rattle.naming.specs.Rename.{renameTests}
+use Rattle.disk_geometry.specs.declared.Geometry.{Geometry}
+use Rattle.disk_geometry.specs.Geometry.{lawful, start, slotStart, groupOf, inside, places, geometryOf}
+use Rattle.disk_volume.specs.Name.{strip, nameAt, same, goodName}
+use Rattle.call_typing.specs.Typing.{typeableByte, blankBefore, typeable}
+use Rattle.disk_volume.specs.Entry.{Entry, blockIn, ofFile, ofGroup}
+use Rattle.disk_volume.specs.Directory.{slotAt, putSlot, findSlot, mapSlot}
+use Rattle.disk_held.specs.Held.{digit, holds, wordOf, wordsOf, freeCount}
+use Rattle.call_answers.specs.declared.Answer.the-variants.{Done, Ready}
+use Rattle.call_answers.specs.Refusal.{firstMet}
+use Rattle.disk_rules.specs.GoodSlot.{goodFields, goodTopBits, inPlaces, namesBlock, namedBelow, goodPlace, seenBelow, goodSlot, lowestBad}
+use Rattle.disk_rules.specs.Named.{named, heldOf}
+use Rattle.call_sweep.specs.Sweep.{renamed, changed}
+use Rattle.call_rename.specs.Rename.{renameTests}
 use Rattle.filecalls.specs.declared.Drive.{Drive}
 use Rattle.filecalls.specs.State.{isOpen, loggedIn}
 use Rattle.filecalls.specs.Outcome.{Outcome, outcome, unless, stored, storedAll, changedState}
@@ -32,7 +32,7 @@ use Rattle.demands.specs.Renaming.{rename, thenRename, Drafts, PassesIns
 
 -- "Volume V: B 1,024, T 40, D 1", and a state with blocks 1 to 5 held, which is the one that log-in gives
 abbrev pub geometryV : Geometry
-geometryV = record { block = 1024; total = 40; directory = 1 }
+geometryV = geometryOf 1024 40 1
 
 abbrev pub stateV : Drive
 stateV = loggedIn geometryV (62 ∷ 0 ∷ 0 ∷ 0 ∷ [])
@@ -85,12 +85,12 @@ abbrev pub back : List ℕ
 back = topped 25 (renaming temporary draft)
 
 pub logged-in : logIn geometryV (volumeV draft) ≡ record { answer = Ready 34; drive = stateV }
-unfolding logIn logInTests firstMet lawful heldOf named wordOf wordsOf freeCount digit holds countFrom lowestBad goodSlot goodFields goodTopBits goodPlace inPlaces names namedBelow seenBelow lowFrom anyFrom everyFrom part all start slotStart groupOf inside strip nameAt same goodName places blockIn ofFile ofGroup slotAt
+unfolding logIn logInTests firstMet lawful heldOf named wordOf wordsOf freeCount digit holds countFrom lowestBad goodSlot goodFields goodTopBits goodPlace inPlaces namesBlock namedBelow seenBelow lowFrom anyFrom everyFrom part all start slotStart groupOf inside strip nameAt same goodName places blockIn ofFile ofGroup slotAt
 logged-in = refl
 
 -- ---- what is asked is met
 pub inspected : PassesInspection stateV (volumeV draft)
-unfolding lowestBad goodSlot goodFields goodTopBits goodPlace inPlaces names namedBelow seenBelow lowFrom anyFrom everyFrom part all start slotStart groupOf inside strip nameAt same goodName places blockIn ofFile ofGroup slotAt
+unfolding lowestBad goodSlot goodFields goodTopBits goodPlace inPlaces namesBlock namedBelow seenBelow lowFrom anyFrom everyFrom part all start slotStart groupOf inside strip nameAt same goodName places blockIn ofFile ofGroup slotAt
 inspected = refl
 
 pub drafts : Drafts stateV (volumeV draft) draft temporary finished
@@ -136,7 +136,7 @@ asks-back = record { length-36 = refl; drive-code = omega arith; old-name = refl
 -- ---- the calls evaluated
 -- a call answers 0 and hands back the state and the control block as they were
 abbrev pub done : Drive → List ℕ → List ℕ → Outcome
-done d f v = record { answer = Done 0; drive = d; volume = v; block = f; buffer = [] }
+done d fcb v = record { answer = Done 0; drive = d; volume = v; fcb = fcb; buffer = [] }
 
 -- each call on the volume that the last left, with every byte that it leaves
 pub record OnV : Type 0 where
@@ -152,7 +152,7 @@ on-v = record { there-is = refl; on-is = refl; direct-is = refl; back-is = refl 
 -- ---- an altered volume: B 1,024, T 2, D 1, and an entry with a top bit on byte 1. All is met but inspection, and renaming
 -- there and back takes the top bit off: so the second half of the request can't do without inspection
 abbrev pub stateAltered : Drive
-stateAltered = loggedIn (record { block = 1024; total = 2; directory = 1 }) (0 ∷ 0 ∷ 0 ∷ 0 ∷ [])
+stateAltered = loggedIn (geometryOf 1024 2 1) (0 ∷ 0 ∷ 0 ∷ 0 ∷ [])
 
 abbrev pub volumeAltered : Entry → List ℕ
 volumeAltered e = e ++ (replicate 992 0xE5 ++ replicate 1024 7)
@@ -161,7 +161,7 @@ abbrev pub topped1 : Entry
 topped1 = topped 1 (entry 0 draft 0 0 0 0)
 
 pub refused-altered : lowestBad (stateAltered .geometry) (volumeAltered topped1) ≡ 0
-unfolding lowestBad goodSlot goodFields goodTopBits goodPlace inPlaces names namedBelow seenBelow lowFrom anyFrom everyFrom part all start slotStart groupOf inside strip nameAt same goodName places blockIn ofFile ofGroup slotAt
+unfolding lowestBad goodSlot goodFields goodTopBits goodPlace inPlaces namesBlock namedBelow seenBelow lowFrom anyFrom everyFrom part all start slotStart groupOf inside strip nameAt same goodName places blockIn ofFile ofGroup slotAt
 refused-altered = refl
 
 pub drafts-altered : Drafts stateAltered (volumeAltered topped1) draft temporary finished

@@ -3,22 +3,22 @@
 -- the directory before every call and otherwise does what `step` does.
 use mathlib.Core.List.{List, [], _∷_}
 use Prim.Native.Nat.{ℕ}
-use Rattle.geometry.specs.declared.Geometry.{Geometry}
-use Rattle.answers.specs.declared.Answer.{Answer}
-use Rattle.goodslots.specs.Named.{heldOf}
+use Rattle.disk_geometry.specs.declared.Geometry.{Geometry}
+use Rattle.call_answers.specs.declared.Answer.{Answer}
+use Rattle.disk_rules.specs.Named.{heldOf}
 use Rattle.filecalls.specs.declared.Drive.{Drive}
 use Rattle.filecalls.specs.Outcome.{Outcome, withHeld}
 use Rattle.bdos.specs.Step.{step}
-use Rattle.served.specs.Asked.{Asked}
+use Rattle.call_served.specs.Asked.{Asked}
 
 -- what a program sees of a call: the answer, the control block and the transfer buffer
 pub record Seen : Type 0 where
   pub answer : Answer
-  pub block : List ℕ
+  pub fcb : List ℕ
   pub buffer : List ℕ
 
 abbrev pub seen : Outcome → Seen
-seen o = record { answer = o .answer; block = o .block; buffer = o .buffer }
+seen o = record { answer = o .answer; fcb = o .fcb; buffer = o .buffer }
 
 -- a way to do calls: by the call, the state and the volume
 abbrev pub Way : Type 0

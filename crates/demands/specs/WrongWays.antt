@@ -7,30 +7,30 @@ use mathlib.Core.List.{List, [], _∷_, _++_}
 use Prim.Native.Nat.{ℕ, _+_}
 use lib.Dec.{eqb}
 use lib.ListN.{replicate, set}
-use Rattle.lists.specs.Search.{lowFrom, anyFrom, everyFrom, countFrom, fold, every}
+use Rattle.lists.specs.Bounded.{lowFrom, anyFrom, everyFrom, countFrom, fold, every}
 use Rattle.lists.specs.Bytes.{byte, part, put, all}
-use Rattle.geometry.specs.declared.Geometry.{Geometry}
-use Rattle.geometry.specs.Geometry.{lawful, start, slots, slotStart, recordStart, groupOf, placeOf, inside, places}
-use Rattle.volume.specs.Name.{strip, nameAt, nameOf, same, like, goodName}
-use Rattle.typing.specs.Typing.{typeableByte, blankBefore, typeable}
-use Rattle.volume.specs.Entry.{isEmpty, blockIn, withBlock, countOf, ofFile, ofGroup, matches}
-use Rattle.volume.specs.Directory.{slotAt, putSlot, findSlot, mapSlot}
-use Rattle.volume.specs.Record.{recordSlot, counted, present, recordAt, putRecord, fillRecord, putFilled}
-use Rattle.blocks.specs.Held.{digit, holds, hold, release, wordOf, wordsOf, lowestFree, freeCount}
-use Rattle.control.specs.Block.{random, setTo, made}
-use Rattle.answers.specs.declared.Refusal.the-variants.{NotServed}
-use Rattle.answers.specs.declared.Answer.the-variants.{Refused, Ready}
-use Rattle.answers.specs.Refusal.{firstMet}
-use Rattle.answers.specs.Answer.{succeeded}
-use Rattle.goodslots.specs.GoodSlot.{goodFields, goodTopBits, inPlaces, names, namedBelow, goodPlace, seenBelow, goodSlot, lowestBad}
-use Rattle.goodslots.specs.Named.{named, heldOf}
-use Rattle.reading.specs.Read.{readBlock, readTests, readBytes}
-use Rattle.sweeping.specs.Sweep.{changed}
-use Rattle.deleting.specs.Delete.{deleteTests, freePlace, freeEntry, freeSlot, freeMatches}
-use Rattle.making.specs.Make.{makeTests, freshEntry}
-use Rattle.deciding.specs.Write.{writeSlot, baseEntry, needsBlock, writeBlock, writeTests}
-use Rattle.entries.specs.Grown.{likeEntry, grown, writtenEntry}
-use Rattle.entries.specs.Alloc.{alloc}
+use Rattle.disk_geometry.specs.declared.Geometry.{Geometry}
+use Rattle.disk_geometry.specs.Geometry.{lawful, start, slots, slotStart, recordStart, groupOf, placeOf, inside, places, blocks, directoryBlocks, geometryOf}
+use Rattle.disk_volume.specs.Name.{strip, nameAt, nameOf, same, like, goodName}
+use Rattle.call_typing.specs.Typing.{typeableByte, blankBefore, typeable}
+use Rattle.disk_volume.specs.Entry.{isEmpty, blockIn, withBlock, countOf, ofFile, ofGroup, matches}
+use Rattle.disk_volume.specs.Directory.{slotAt, putSlot, findSlot, mapSlot}
+use Rattle.disk_volume.specs.Record.{recordSlot, counted, present, recordAt, putRecord, fillRecord, putFilled}
+use Rattle.disk_held.specs.Held.{digit, holds, hold, release, wordOf, wordsOf, lowestFree, freeCount}
+use Rattle.call_fcb.specs.Fcb.{random, setTo, made}
+use Rattle.call_answers.specs.declared.Refusal.the-variants.{NotServed}
+use Rattle.call_answers.specs.declared.Answer.the-variants.{Refused, Ready}
+use Rattle.call_answers.specs.Refusal.{firstMet}
+use Rattle.call_answers.specs.Answer.{succeeded}
+use Rattle.disk_rules.specs.GoodSlot.{goodFields, goodTopBits, inPlaces, namesBlock, namedBelow, goodPlace, seenBelow, goodSlot, lowestBad}
+use Rattle.disk_rules.specs.Named.{named, heldOf}
+use Rattle.call_read.specs.Read.{readBlock, readTests, readBytes}
+use Rattle.call_sweep.specs.Sweep.{changed}
+use Rattle.call_delete.specs.Delete.{deleteTests, freePlace, freeEntry, freeSlot, freeMatches}
+use Rattle.call_make.specs.Make.{makeTests, freshEntry}
+use Rattle.call_decide.specs.Write.{writeSlot, baseEntry, needsBlock, writeBlock, writeTests}
+use Rattle.call_entry.specs.Grown.{likeEntry, grown, writtenEntry}
+use Rattle.call_entry.specs.Alloc.{alloc}
 use Rattle.filecalls.specs.declared.Drive.{Drive}
 use Rattle.filecalls.specs.Outcome.{Outcome, unless, outcome, left, withHeld, stored, storedAll, changedState}
 use Rattle.filecalls.specs.State.{isOpen, closed, loggedIn}
@@ -39,18 +39,18 @@ use Rattle.filecalls.specs.Names.{deleteLadder, deleteAct, makeLadder, makeAct}
 use Rattle.filecalls.specs.Read.{randomTests, readDone, readRandomAct}
 use Rattle.filecalls.specs.Write.{writeEntry, writeChange, writeDone, writeRandomAct, writeZeroFillAct}
 use Rattle.bdos.specs.Step.{carries, does, step}
-use Rattle.served.specs.Asked.{Asked, asked}
-use Rattle.served.specs.Calls.{callOf}
+use Rattle.call_served.specs.Asked.{Asked, asked}
+use Rattle.call_served.specs.Calls.{callOf}
 
 -- ---- a way to do the calls, and the wrong ones
 abbrev pub Way : Type 0
 Way = Geometry → Asked → Drive → List ℕ → Outcome
 
 abbrev withDrive : Outcome → Drive → Outcome
-withDrive o d = record { answer = o .answer; drive = d; volume = o .volume; block = o .block; buffer = o .buffer }
+withDrive o d = record { answer = o .answer; drive = d; volume = o .volume; fcb = o .fcb; buffer = o .buffer }
 
 abbrev withVolume : Outcome → List ℕ → Outcome
-withVolume o v = record { answer = o .answer; drive = o .drive; volume = v; block = o .block; buffer = o .buffer }
+withVolume o v = record { answer = o .answer; drive = o .drive; volume = v; fcb = o .fcb; buffer = o .buffer }
 
 -- function n is done by another way
 abbrev instead : ℕ → Way → Way
@@ -63,11 +63,11 @@ heldNotUpdated = instead 34 (λ g c d v. let o = step g c d v in withDrive o (wi
 -- a delete frees a block too many: block D
 abbrev pub freesTooMany : Way
 freesTooMany =
-    instead 19 (λ g c d v. let o = step g c d v in withDrive o (withHeld (o .drive) (release (o .drive .held) (d .geometry .directory))))
+    instead 19 (λ g c d v. let o = step g c d v in withDrive o (withHeld (o .drive) (release (o .drive .held) (directoryBlocks (d .geometry)))))
 
 -- a write takes a block that is held: block D, as if it were free
 abbrev pub takesHeld : Way
-takesHeld = instead 34 (λ g c d v. step g c (withHeld d (release (d .held) (d .geometry .directory))) v)
+takesHeld = instead 34 (λ g c d v. step g c (withHeld d (release (d .held) (directoryBlocks (d .geometry)))) v)
 
 -- a write stores its bytes into another file's block: into block D, whichever block the entry names
 abbrev pub storesElsewhere : Way
@@ -75,11 +75,11 @@ storesElsewhere =
     instead 34
     (λ g c d v.
     let o = step g c d v in
-    withVolume o (putRecord (d .geometry) (o .volume) (d .geometry .directory) (random (c .block)) (c .buffer)))
+    withVolume o (putRecord (d .geometry) (o .volume) (directoryBlocks (d .geometry)) (random (c .fcb)) (c .buffer)))
 
 -- a write stores nothing: the block keeps its old bytes
 abbrev writtenTo : Asked → Drive → List ℕ → ℕ
-writtenTo c d v = writeBlock (d .geometry) (d .held) v (d .user) (nameOf (c .block)) (random (c .block))
+writtenTo c d v = writeBlock (d .geometry) (d .held) v (d .user) (nameOf (c .fcb)) (random (c .fcb))
 
 abbrev pub storesNothing : Way
 storesNothing =
@@ -87,11 +87,11 @@ storesNothing =
     (λ g c d v.
     let o = step g c d v in
     withVolume o
-    (putRecord (d .geometry) (o .volume) (writtenTo c d v) (random (c .block)) (recordAt (d .geometry) v (writtenTo c d v) (random (c .block)))))
+    (putRecord (d .geometry) (o .volume) (writtenTo c d v) (random (c .fcb)) (recordAt (d .geometry) v (writtenTo c d v) (random (c .fcb)))))
 
 -- function 40 fills no block: it is 34
 abbrev pub fillsNothing : Way
-fillsNothing = instead 40 (λ g c d v. step g (asked 34 (c .parameter) (c .block) (c .buffer)) d v)
+fillsNothing = instead 40 (λ g c d v. step g (asked 34 (c .parameter) (c .fcb) (c .buffer)) d v)
 
 -- function 40 fills every block that it writes to
 abbrev pub fillsAlways : Way
@@ -99,11 +99,11 @@ fillsAlways =
     instead 40
     (λ g c d v.
     let o = step g c d v in
-    withVolume o (putFilled (d .geometry) true (o .volume) (writtenTo c d v) (random (c .block)) (c .buffer)))
+    withVolume o (putFilled (d .geometry) true (o .volume) (writtenTo c d v) (random (c .fcb)) (c .buffer)))
 
 -- function 40 throws the program's bytes away and writes zeros
 abbrev pub throwsAway : Way
-throwsAway = instead 40 (λ g c d v. step g (asked 40 (c .parameter) (c .block) (replicate 128 0)) d v)
+throwsAway = instead 40 (λ g c d v. step g (asked 40 (c .parameter) (c .fcb) (replicate 128 0)) d v)
 
 -- an inspection overlooks a block that is named twice
 abbrev looksGood : Geometry → List ℕ → ℕ → Bool
@@ -120,7 +120,7 @@ overlooksTwice =
     instead 37
     (λ g c d v.
     cond (every (slots g) (looksGood g v))
-    (left (record { answer = Ready (freeCount (heldOf g v) (g .directory) (g .total)); drive = loggedIn g (heldOf g v) }) v (c .block) (c .buffer))
+    (left (record { answer = Ready (freeCount (heldOf g v) (directoryBlocks g) (blocks g)); drive = loggedIn g (heldOf g v) }) v (c .fcb) (c .buffer))
     (step g c d v))
 
 -- a refused call moves cr
@@ -131,13 +131,13 @@ movesCr g c d v =
       answer = o .answer;
       drive = o .drive;
       volume = o .volume;
-      block = cond (succeeded (o .answer)) (o .block) (set (o .block) 32 (byte (o .block) 32 + 1));
+      fcb = cond (succeeded (o .answer)) (o .fcb) (set (o .fcb) 32 (byte (o .fcb) 32 + 1));
       buffer = o .buffer;
     }
 
 -- ---- the runs: B 1,024, T 4, D 1, two files
 abbrev small : Geometry
-small = record { block = 1024; total = 4; directory = 1 }
+small = geometryOf 1024 4 1
 
 abbrev nameA : List ℕ
 nameA = 65 ∷ replicate 10 32
@@ -186,7 +186,7 @@ ran way [] o = o
 ran way (c ∷ cs) o = let next : Outcome = way small c (o .drive) (o .volume) in ran way cs next
 
 abbrev pub from : List ℕ → Outcome
-from v = record { answer = Refused NotServed; drive = closed; volume = v; block = []; buffer = [] }
+from v = record { answer = Refused NotServed; drive = closed; volume = v; fcb = []; buffer = [] }
 
 -- record 0 of A is written; then B is made and written, deleted, made and written again; then record 8 of A is written
 abbrev pub twoFiles : List Asked
@@ -210,7 +210,7 @@ oldBlock = logsIn ∷ makes nameA ∷ writes nameA 0 7 ∷ deletes nameA ∷ mak
 -- demand 2: after its write record 0 of A has the bytes written, and it keeps them through what other files and other
 -- records are given
 unfoldable pub keepsRecord : Way → Bool
-unfolding ran lowFrom anyFrom everyFrom countFrom fold part put all lawful start slotStart recordStart groupOf placeOf inside strip nameAt same like goodName typeable typeableByte blankBefore places blockIn withBlock countOf ofFile ofGroup matches slotAt putSlot findSlot mapSlot recordSlot counted present recordAt putRecord putFilled digit holds hold release wordOf wordsOf lowestFree freeCount random setTo made firstMet goodFields goodTopBits inPlaces names namedBelow goodPlace seenBelow goodSlot lowestBad named heldOf readBlock readTests readBytes changed deleteTests freePlace freeEntry freeSlot freeMatches makeTests freshEntry alloc likeEntry grown writeSlot baseEntry needsBlock writeBlock writtenEntry writeTests isOpen outcome unless stored storedAll changedState logIn logInTests refusedLogIn deleteLadder deleteAct makeLadder makeAct randomTests writeEntry writeChange writeDone writeRandomAct callOf does carries step
+unfolding ran lowFrom anyFrom everyFrom countFrom fold part put all lawful start slotStart recordStart groupOf placeOf inside strip nameAt same like goodName typeable typeableByte blankBefore places blockIn withBlock countOf ofFile ofGroup matches slotAt putSlot findSlot mapSlot recordSlot counted present recordAt putRecord putFilled digit holds hold release wordOf wordsOf lowestFree freeCount random setTo made firstMet goodFields goodTopBits inPlaces namesBlock namedBelow goodPlace seenBelow goodSlot lowestBad named heldOf readBlock readTests readBytes changed deleteTests freePlace freeEntry freeSlot freeMatches makeTests freshEntry alloc likeEntry grown writeSlot baseEntry needsBlock writeBlock writtenEntry writeTests isOpen outcome unless stored storedAll changedState logIn logInTests refusedLogIn deleteLadder deleteAct makeLadder makeAct randomTests writeEntry writeChange writeDone writeRandomAct callOf does carries step
 keepsRecord way =
     let o : Outcome = ran way twoFiles (from emptyVolume) in
     present small (o .volume) 0 nameA 0 && same (readBytes small (o .volume) 0 nameA 0) (bytesOf 7)
@@ -235,7 +235,7 @@ unfoldable pub leavesBlock : Way → Bool
 unfolding keepsRecord readDone readRandomAct
 leavesBlock way =
     let o : Outcome = ran way (logsIn ∷ makes nameA ∷ reads nameA 5 ∷ []) (from emptyVolume) in
-    not (succeeded (o .answer)) && same (o .block) (fileBlock nameA 5)
+    not (succeeded (o .answer)) && same (o .fcb) (fileBlock nameA 5)
 
 -- ---- the right way, and every wrong one
 pub right-way : keepsRecord step && fillsOnce step && passesInspection step twoFiles emptyVolume && passesInspection step (logsIn ∷ []) sharedVolume && leavesBlock step ≡ true

@@ -9,51 +9,51 @@ use mathlib.Core.List.{List}
 use Prim.Native.Nat.{ℕ, _/_, _%_}
 use lib.ListN.{length, replicate}
 use Rattle.lists.specs.Bytes.{byte}
-use Rattle.geometry.specs.declared.Geometry.{Geometry}
-use Rattle.geometry.specs.Geometry.{records}
-use Rattle.volume.specs.Name.{nameOf}
-use Rattle.volume.specs.Record.{recordAt, OffBlock}
-use Rattle.control.specs.Block.{random}
-use Rattle.answers.specs.Answer.{succeeded}
-use Rattle.deciding.specs.Write.{needsBlock, writeBlock}
+use Rattle.disk_geometry.specs.declared.Geometry.{Geometry}
+use Rattle.disk_geometry.specs.Geometry.{records}
+use Rattle.disk_volume.specs.Name.{nameOf}
+use Rattle.disk_volume.specs.Record.{recordAt, OffBlock}
+use Rattle.call_fcb.specs.Fcb.{random}
+use Rattle.call_answers.specs.Answer.{succeeded}
+use Rattle.call_decide.specs.Write.{needsBlock, writeBlock}
 use Rattle.filecalls.specs.declared.Drive.{Drive}
 use Rattle.filecalls.specs.Outcome.{Outcome}
 use Rattle.bdos.specs.Step.{step}
-use Rattle.served.specs.Asked.{asked}
+use Rattle.call_served.specs.Asked.{asked}
 use Rattle.demands.specs.Demand2.{Present}
 
 -- what is asked of both: geometry and parameter, which they don't look at, state, volume, control block and buffer
-module _ (g : Geometry) (p : ℕ) (d : Drive) (v f b : List ℕ) where
+module _ (g : Geometry) (p : ℕ) (d : Drive) (v fcb b : List ℕ) where
   abbrev pub by34 : Outcome
-  by34 = step g (asked 34 p f b) d v
+  by34 = step g (asked 34 p fcb b) d v
 
   abbrev pub by40 : Outcome
-  by40 = step g (asked 40 p f b) d v
+  by40 = step g (asked 40 p fcb b) d v
 
 -- the call has to give a block to its record's place; and the block, the record's own or the one that it is given
 abbrev pub gives : Drive → List ℕ → List ℕ → Bool
-gives d v f = needsBlock (d .geometry) v (d .user) (nameOf f) (random f)
+gives d v fcb = needsBlock (d .geometry) v (d .user) (nameOf fcb) (random fcb)
 
 abbrev pub blockOf : Drive → List ℕ → List ℕ → ℕ
-blockOf d v f = writeBlock (d .geometry) (d .held) v (d .user) (nameOf f) (random f)
+blockOf d v fcb = writeBlock (d .geometry) (d .held) v (d .user) (nameOf fcb) (random fcb)
 
 pub record ZeroFill : Type 0 where
   -- "it is the random write": answer, state, control block and buffer
-  pub same-answer : (g : Geometry) (p : ℕ) (d : Drive) (v f b : List ℕ) → by40 g p d v f b .answer ≡ by34 g p d v f b .answer
-  pub same-state : (g : Geometry) (p : ℕ) (d : Drive) (v f b : List ℕ) → by40 g p d v f b .drive ≡ by34 g p d v f b .drive
-  pub same-block : (g : Geometry) (p : ℕ) (d : Drive) (v f b : List ℕ) → by40 g p d v f b .block ≡ by34 g p d v f b .block
-  pub same-buffer : (g : Geometry) (p : ℕ) (d : Drive) (v f b : List ℕ) → by40 g p d v f b .buffer ≡ by34 g p d v f b .buffer
+  pub same-answer : (g : Geometry) (p : ℕ) (d : Drive) (v fcb b : List ℕ) → by40 g p d v fcb b .answer ≡ by34 g p d v fcb b .answer
+  pub same-state : (g : Geometry) (p : ℕ) (d : Drive) (v fcb b : List ℕ) → by40 g p d v fcb b .drive ≡ by34 g p d v fcb b .drive
+  pub same-fcb : (g : Geometry) (p : ℕ) (d : Drive) (v fcb b : List ℕ) → by40 g p d v fcb b .fcb ≡ by34 g p d v fcb b .fcb
+  pub same-buffer : (g : Geometry) (p : ℕ) (d : Drive) (v fcb b : List ℕ) → by40 g p d v fcb b .buffer ≡ by34 g p d v fcb b .buffer
   -- the volume, where no block is given
-  pub same-volume : (g : Geometry) (p : ℕ) (d : Drive) (v f b : List ℕ) → gives d v f ≡ false → by40 g p d v f b .volume ≡ by34 g p d v f b .volume
+  pub same-volume : (g : Geometry) (p : ℕ) (d : Drive) (v fcb b : List ℕ) → gives d v fcb ≡ false → by40 g p d v fcb b .volume ≡ by34 g p d v fcb b .volume
   -- where one is given, every byte outside it
-  pub same-length : (g : Geometry) (p : ℕ) (d : Drive) (v f b : List ℕ) → length (by40 g p d v f b .volume) ≡ length (by34 g p d v f b .volume)
-  pub same-elsewhere : (g : Geometry) (p : ℕ) (d : Drive) (v f b : List ℕ) (x : ℕ) → OffBlock (d .geometry) (blockOf d v f) x
-      → byte (by40 g p d v f b .volume) x ≡ byte (by34 g p d v f b .volume) x
+  pub same-length : (g : Geometry) (p : ℕ) (d : Drive) (v fcb b : List ℕ) → length (by40 g p d v fcb b .volume) ≡ length (by34 g p d v fcb b .volume)
+  pub same-elsewhere : (g : Geometry) (p : ℕ) (d : Drive) (v fcb b : List ℕ) (x : ℕ) → OffBlock (d .geometry) (blockOf d v fcb) x
+      → byte (by40 g p d v fcb b .volume) x ≡ byte (by34 g p d v fcb b .volume) x
   -- "a block given for the first time is first filled with zeros": so are its other records, all of them
-  pub others-zero : (g : Geometry) (p : ℕ) (d : Drive) (v f b : List ℕ) → succeeded (by40 g p d v f b .answer) ≡ true → gives d v f ≡ true
-      → (m : ℕ) → m % records (d .geometry) ≢ random f % records (d .geometry)
-      → recordAt (d .geometry) (by40 g p d v f b .volume) (blockOf d v f) m ≡ replicate 128 0
+  pub others-zero : (g : Geometry) (p : ℕ) (d : Drive) (v fcb b : List ℕ) → succeeded (by40 g p d v fcb b .answer) ≡ true → gives d v fcb ≡ true
+      → (m : ℕ) → m % records (d .geometry) ≢ random fcb % records (d .geometry)
+      → recordAt (d .geometry) (by40 g p d v fcb b .volume) (blockOf d v fcb) m ≡ replicate 128 0
   -- and where a record of the file in that block counts as present, it reads as zeros
-  pub others-read-zeros : (g : Geometry) (p : ℕ) (d : Drive) (v f b : List ℕ) → succeeded (by40 g p d v f b .answer) ≡ true → gives d v f ≡ true
-      → (m : ℕ) → m ≢ random f → m / records (d .geometry) ≡ random f / records (d .geometry)
-      → (s : List ℕ) → Present d f (by40 g p d v f b .volume) m s → s ≡ replicate 128 0
+  pub others-read-zeros : (g : Geometry) (p : ℕ) (d : Drive) (v fcb b : List ℕ) → succeeded (by40 g p d v fcb b .answer) ≡ true → gives d v fcb ≡ true
+      → (m : ℕ) → m ≢ random fcb → m / records (d .geometry) ≡ random fcb / records (d .geometry)
+      → (s : List ℕ) → Present d fcb (by40 g p d v fcb b .volume) m s → s ≡ replicate 128 0

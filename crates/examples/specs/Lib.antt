@@ -2,7 +2,7 @@
 -- what the table doesn't touch, and scripts for the requests of 02: names that can't be typed, function 40, a file's blocks,
 -- several records a call.
 pub mod Script
-pub mod Pieces
+pub mod Samples
 pub mod Table
 pub mod More
 pub mod Typing

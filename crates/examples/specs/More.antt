@@ -5,18 +5,18 @@ use mathlib.Core.List.{List, [], _∷_, _++_}
 use Prim.Native.Nat.{ℕ, _+_, _^_}
 use lib.Dec.{ltb, eqb}
 use lib.ListN.{replicate, set}
-use Rattle.geometry.specs.declared.Geometry.{Geometry}
-use Rattle.geometry.specs.Geometry.{lawful}
-use Rattle.volume.specs.Name.{strip, nameAt, goodName}
+use Rattle.disk_geometry.specs.declared.Geometry.{Geometry}
+use Rattle.disk_geometry.specs.Geometry.{lawful}
+use Rattle.disk_volume.specs.Name.{strip, nameAt, goodName}
 use Rattle.lists.specs.Bytes.{part, all}
-use Rattle.blocks.specs.Held.{hold, release, wordsOf, noneHeld, lowestFree, freeCount}
-use Rattle.deleting.specs.Delete.{freeMatches}
-use Rattle.finding.specs.declared.Kept.{Kept}
-use Rattle.finding.specs.declared.Kept.the-variants.{Nothing, Pattern, Everything}
+use Rattle.disk_held.specs.Held.{hold, release, wordsOf, noneHeld, lowestFree, freeCount}
+use Rattle.call_delete.specs.Delete.{freeMatches}
+use Rattle.call_search.specs.declared.SearchKind.{SearchKind}
+use Rattle.call_search.specs.declared.SearchKind.the-variants.{Nothing, Pattern, Everything}
 use Rattle.filecalls.specs.declared.Drive.{Drive}
 use Rattle.filecalls.specs.State.{isOpen}
 use Rattle.examples.specs.Script.{logIn, openFile, closeFile, searchFirst, searchNext, delete, readNext, writeNext, make, rename, protect, attributes, user, read, write, size, setRandom, writeZeroFill, done, free, refused, badSlot, Line, call, altered, slotsAre, heldAre, volumeAt, blockAt, blockIs, bufferIs, Script, script, seen, told}
-use Rattle.examples.specs.Pieces.{sigla, lemmata, sized, entry, empty, control, fresh, recordOf, renaming, filled, old}
+use Rattle.examples.specs.Samples.{sigla, lemmata, sized, entry, empty, control, fresh, recordOf, renaming, filled, old}
 use Rattle.examples.specs.Table.{block4in15, block1in12, volumeFull, geometryFull, extentsFrom}
 
 -- SIGLA.TXT with another first byte
@@ -589,7 +589,7 @@ unfolding seen told old
 inspections-hold = refl
 
 -- "A state whose geometry, user or kept search is outside the rules counts as closed."
-abbrev pub state : Geometry → ℕ → Kept → ℕ → ℕ → List ℕ → Drive
+abbrev pub state : Geometry → ℕ → SearchKind → ℕ → ℕ → List ℕ → Drive
 state g current kind searcher last pattern =
     record {
       geometry = g;
@@ -622,24 +622,24 @@ states-hold = refl
 -- What is lent: the first tests of every call, in order. Calls with a volume and a control block f, then those with a
 -- transfer buffer b too; each refused by the same number.
 abbrev pub lentBlock : List ℕ → ℕ → List Line
-lentBlock f number =
-    call (openFile f) (refused number)
-    ∷ call (closeFile f) (refused number)
-    ∷ call (delete f) (refused number)
-    ∷ call (make f) (refused number)
-    ∷ call (rename f) (refused number)
-    ∷ call (attributes f) (refused number)
-    ∷ call (size f) (refused number)
+lentBlock fcb number =
+    call (openFile fcb) (refused number)
+    ∷ call (closeFile fcb) (refused number)
+    ∷ call (delete fcb) (refused number)
+    ∷ call (make fcb) (refused number)
+    ∷ call (rename fcb) (refused number)
+    ∷ call (attributes fcb) (refused number)
+    ∷ call (size fcb) (refused number)
     ∷ []
 
 abbrev pub lentBuffer : List ℕ → List ℕ → ℕ → List Line
-lentBuffer f b number =
-    call (searchFirst f b) (refused number)
-    ∷ call (readNext f b) (refused number)
-    ∷ call (writeNext f b) (refused number)
-    ∷ call (read f b) (refused number)
-    ∷ call (write f b) (refused number)
-    ∷ call (writeZeroFill f b) (refused number)
+lentBuffer fcb b number =
+    call (searchFirst fcb b) (refused number)
+    ∷ call (readNext fcb b) (refused number)
+    ∷ call (writeNext fcb b) (refused number)
+    ∷ call (read fcb b) (refused number)
+    ∷ call (write fcb b) (refused number)
+    ∷ call (writeZeroFill fcb b) (refused number)
     ∷ []
 
 abbrev pub onLent : List Line

@@ -5,47 +5,48 @@ use mathlib.Core.Bool.{cond}
 use mathlib.Core.List.{List, [], _∷_}
 use Prim.Native.Nat.{ℕ}
 use lib.ListN.{length}
-use Rattle.lists.specs.Search.{lowFrom, anyFrom, everyFrom, countFrom, fold}
+use Rattle.lists.specs.Bounded.{lowFrom, anyFrom, everyFrom, countFrom, fold}
 use Rattle.lists.specs.Bytes.{part, put, all}
-use Rattle.geometry.specs.declared.Geometry.{Geometry}
-use Rattle.geometry.specs.Geometry.{lawful, start, slots, slotStart, recordStart, groupOf, placeOf, inside, places}
-use Rattle.volume.specs.Name.{strip, nameAt, same, like, goodName}
-use Rattle.typing.specs.Typing.{typeableByte, blankBefore, typeable}
-use Rattle.volume.specs.Entry.{blockIn, withBlock, countOf, ofFile, ofGroup, matches}
-use Rattle.volume.specs.Directory.{slotAt, putSlot, findSlot, mapSlot}
-use Rattle.volume.specs.Record.{recordSlot, counted, present, recordAt, putRecord, fillRecord, putFilled, slotRecord}
-use Rattle.blocks.specs.Held.{digit, holds, hold, release, wordOf, wordsOf, lowestFree, freeCount}
-use Rattle.control.specs.Block.{position, random, setTo, opened, made, withRandom}
-use Rattle.answers.specs.declared.Refusal.the-variants.{Closed}
-use Rattle.answers.specs.declared.Answer.{Answer}
-use Rattle.answers.specs.declared.Answer.the-variants.{Refused}
-use Rattle.answers.specs.Refusal.{firstMet}
-use Rattle.answers.specs.Answer.{numberOf, valueOf, succeeded}
-use Rattle.goodslots.specs.GoodSlot.{goodFields, goodTopBits, inPlaces, names, namedBelow, goodPlace, seenBelow, goodSlot, lowestBad}
-use Rattle.goodslots.specs.Named.{named, heldOf}
-use Rattle.openclose.specs.Open.{openSlot, closeSlot}
-use Rattle.finding.specs.Search.{patternOf, hitFrom}
-use Rattle.measuring.specs.Size.{entryEnd, larger, sizeOf}
-use Rattle.reading.specs.Read.{readBlock, readTests, readBytes}
-use Rattle.sweeping.specs.Sweep.{renamed, attributed, changed}
-use Rattle.deleting.specs.Delete.{deleteTests, freePlace, freeEntry, freeSlot, freeMatches}
-use Rattle.making.specs.Make.{makeTests, freshEntry}
-use Rattle.naming.specs.Rename.{renameTests}
-use Rattle.deciding.specs.Write.{writeSlot, baseEntry, needsBlock, writeBlock, writeTests}
-use Rattle.entries.specs.Grown.{likeEntry, grown, writtenEntry}
-use Rattle.entries.specs.Alloc.{alloc}
+use Rattle.disk_geometry.specs.declared.Geometry.{Geometry}
+use Rattle.disk_geometry.specs.Geometry.{lawful, start, slots, slotStart, recordStart, groupOf, placeOf, inside, places}
+use Rattle.disk_volume.specs.Name.{strip, nameAt, same, like, goodName}
+use Rattle.call_typing.specs.Typing.{typeableByte, blankBefore, typeable}
+use Rattle.disk_volume.specs.Entry.{blockIn, withBlock, countOf, ofFile, ofGroup, matches}
+use Rattle.disk_volume.specs.Directory.{slotAt, putSlot, findSlot, mapSlot}
+use Rattle.disk_volume.specs.Record.{recordSlot, counted, present, recordAt, putRecord, fillRecord, putFilled, slotRecord}
+use Rattle.disk_held.specs.Held.{digit, holds, hold, release, wordOf, wordsOf, lowestFree, freeCount}
+use Rattle.call_fcb.specs.Fcb.{position, random, setTo, opened, made, withRandom}
+use Rattle.call_answers.specs.declared.Refusal.the-variants.{Closed}
+use Rattle.call_answers.specs.declared.Answer.{Answer}
+use Rattle.call_answers.specs.declared.Answer.the-variants.{Refused}
+use Rattle.call_answers.specs.Refusal.{firstMet}
+use Rattle.call_answers.specs.Answer.{numberOf, valueOf, succeeded}
+use Rattle.disk_rules.specs.GoodSlot.{goodFields, goodTopBits, inPlaces, namesBlock, namedBelow, goodPlace, seenBelow, goodSlot, lowestBad}
+use Rattle.disk_rules.specs.Named.{named, heldOf}
+use Rattle.call_open.specs.Open.{openSlot, closeSlot}
+use Rattle.call_search.specs.Search.{patternOf, hitFrom}
+use Rattle.call_size.specs.Size.{entryEnd, larger, sizeOf}
+use Rattle.call_read.specs.Read.{readBlock, readTests, readBytes}
+use Rattle.call_sweep.specs.Sweep.{renamed, attributed, changed}
+use Rattle.call_delete.specs.Delete.{deleteTests, freePlace, freeEntry, freeSlot, freeMatches}
+use Rattle.call_make.specs.Make.{makeTests, freshEntry}
+use Rattle.call_rename.specs.Rename.{renameTests}
+use Rattle.call_decide.specs.Write.{writeSlot, baseEntry, needsBlock, writeBlock, writeTests}
+use Rattle.call_entry.specs.Grown.{likeEntry, grown, writtenEntry}
+use Rattle.call_entry.specs.Alloc.{alloc}
+use Rattle.filecalls.specs.Leaves.{readSequentialLeaves, writeSequentialLeaves}
 use Rattle.filecalls.specs.declared.Drive.{Drive}
 use Rattle.filecalls.specs.State.{isOpen, closed}
 use Rattle.filecalls.specs.Outcome.{Outcome, outcome, left, unless, stored, storedAll, changedState}
 use Rattle.filecalls.specs.LogIn.{logIn as logInReply, logInTests, refusedLogIn}
 use Rattle.filecalls.specs.Open.{openTests, openAct, closeTests, closeAct, sizeTests, sizeAct}
-use Rattle.filecalls.specs.Search.{keptAt, newSearch, shown, firstTests, searchFirstAct, nextTests, searchNextAct}
+use Rattle.filecalls.specs.Search.{keptAt, newSearch, hitAct, firstTests, searchFirstAct, nextTests, searchNextAct}
 use Rattle.filecalls.specs.Names.{deleteLadder, deleteAct, makeLadder, makeAct, renameLadder, renameAct, attributesLadder, attributesAct}
 use Rattle.filecalls.specs.Read.{sequentialTests, randomTests, readDone, readSequentialAct, readRandomAct}
 use Rattle.filecalls.specs.Write.{writeEntry, writeChange, writeDone, writeSequentialAct, writeRandomAct, writeZeroFillAct}
 use Rattle.filecalls.specs.Small.{protectTests, protectAct, userTests, userAct, setRandomTests, setRandomAct}
-use Rattle.several.specs.Several.{readOne, writeOne, onPiece, singles, several}
-use Rattle.lent.specs.Lent.{severalTests}
+use Rattle.filecalls.specs.Several.{onPiece, singles, several}
+use Rattle.filecalls.specs.Several.{severalTests}
 
 -- The calls that we serve, each with what it is lent beside the volume: a control block, a transfer buffer; those of several
 -- records have their number first.
@@ -74,25 +75,25 @@ pub data Call : Type 0 where
 -- all that a call leaves, by its definition
 unfoldable pub perform : Call → Drive → List ℕ → Outcome
 perform (logIn g) d v = left (logInReply g v) v [] []
-perform (openFile f) d v = outcome d v f [] (openAct d v f)
-perform (closeFile f) d v = outcome d v f [] (closeAct d v f)
-perform (searchFirst f b) d v = outcome d v f b (searchFirstAct d v f b)
+perform (openFile fcb) d v = outcome d v fcb [] (openAct d v fcb)
+perform (closeFile fcb) d v = outcome d v fcb [] (closeAct d v fcb)
+perform (searchFirst fcb b) d v = outcome d v fcb b (searchFirstAct d v fcb b)
 perform (searchNext b) d v = outcome d v [] b (searchNextAct d v b)
-perform (delete f) d v = outcome d v f [] (deleteAct d v f)
-perform (readNext f b) d v = outcome d v f b (readSequentialAct d v f b)
-perform (writeNext f b) d v = outcome d v f b (writeSequentialAct d v f b)
-perform (make f) d v = outcome d v f [] (makeAct d v f)
-perform (rename f) d v = outcome d v f [] (renameAct d v f)
+perform (delete fcb) d v = outcome d v fcb [] (deleteAct d v fcb)
+perform (readNext fcb b) d v = outcome d v fcb b (readSequentialAct d v fcb b)
+perform (writeNext fcb b) d v = outcome d v fcb b (writeSequentialAct d v fcb b)
+perform (make fcb) d v = outcome d v fcb [] (makeAct d v fcb)
+perform (rename fcb) d v = outcome d v fcb [] (renameAct d v fcb)
 perform protect d v = outcome d v [] [] (protectAct d)
-perform (attributes f) d v = outcome d v f [] (attributesAct d v f)
+perform (attributes fcb) d v = outcome d v fcb [] (attributesAct d v fcb)
 perform (user u) d v = outcome d v [] [] (userAct d u)
-perform (read f b) d v = outcome d v f b (readRandomAct d v f b)
-perform (write f b) d v = outcome d v f b (writeRandomAct d v f b)
-perform (size f) d v = outcome d v f [] (sizeAct d v f)
-perform (setRandom f) d v = outcome d v f [] (setRandomAct d f)
-perform (writeZeroFill f b) d v = outcome d v f b (writeZeroFillAct d v f b)
-perform (readSeveral k f b) d v = several readOne d v f b k
-perform (writeSeveral k f b) d v = several writeOne d v f b k
+perform (read fcb b) d v = outcome d v fcb b (readRandomAct d v fcb b)
+perform (write fcb b) d v = outcome d v fcb b (writeRandomAct d v fcb b)
+perform (size fcb) d v = outcome d v fcb [] (sizeAct d v fcb)
+perform (setRandom fcb) d v = outcome d v fcb [] (setRandomAct d fcb)
+perform (writeZeroFill fcb b) d v = outcome d v fcb b (writeZeroFillAct d v fcb b)
+perform (readSeveral k fcb b) d v = several readSequentialLeaves d v fcb b k
+perform (writeSeveral k fcb b) d v = several writeSequentialLeaves d v fcb b k
 
 -- What a call answers: whether it succeeded, the number, and the value beside it.
 abbrev pub answered : Answer → List ℕ
@@ -135,12 +136,12 @@ seenAfter o (call c answer ∷ ls) =
     let next : Outcome = perform c (o .drive) (o .volume) in
     answered (next .answer) ∷ seenAfter next ls
 seenAfter o (altered v ∷ ls) =
-    seenAfter (record { answer = o .answer; drive = o .drive; volume = v; block = o .block; buffer = o .buffer }) ls
+    seenAfter (record { answer = o .answer; drive = o .drive; volume = v; fcb = o .fcb; buffer = o .buffer }) ls
 seenAfter o (slotsAre n ∷ ls) = (slots (o .drive .geometry) ∷ []) ∷ seenAfter o ls
 seenAfter o (heldAre l ∷ ls) = o .drive .held ∷ seenAfter o ls
 seenAfter o (volumeAt a l ∷ ls) = part (o .volume) a (length l) ∷ seenAfter o ls
-seenAfter o (blockAt a l ∷ ls) = part (o .block) a (length l) ∷ seenAfter o ls
-seenAfter o (blockIs l ∷ ls) = o .block ∷ seenAfter o ls
+seenAfter o (blockAt a l ∷ ls) = part (o .fcb) a (length l) ∷ seenAfter o ls
+seenAfter o (blockIs l ∷ ls) = o .fcb ∷ seenAfter o ls
 seenAfter o (bufferIs l ∷ ls) = o .buffer ∷ seenAfter o ls
 
 -- what the lines say
@@ -164,11 +165,11 @@ abbrev pub script : List ℕ → List Line → Script
 script volume lines = record { volume = volume; lines = lines }
 
 abbrev pub before : List ℕ → Outcome
-before v = record { answer = Refused Closed; drive = closed; volume = v; block = []; buffer = [] }
+before v = record { answer = Refused Closed; drive = closed; volume = v; fcb = []; buffer = [] }
 
 -- Both sides of a statement: what the scripts show, and what they say. To unfold `seen` is to unfold every definition.
 unfoldable pub seen : List Script → List (List (List ℕ))
-unfolding seenAfter perform lowFrom anyFrom everyFrom countFrom fold part put all lawful start slotStart recordStart groupOf placeOf inside strip nameAt same like goodName typeable typeableByte blankBefore places blockIn withBlock countOf ofFile ofGroup matches slotAt putSlot findSlot mapSlot recordSlot counted present recordAt putRecord fillRecord putFilled slotRecord digit holds hold release wordOf wordsOf lowestFree freeCount position random setTo opened made withRandom firstMet goodFields goodTopBits inPlaces names namedBelow goodPlace seenBelow goodSlot lowestBad named heldOf openSlot closeSlot patternOf hitFrom entryEnd larger sizeOf readBlock readTests readBytes renamed attributed changed deleteTests freePlace freeEntry freeSlot freeMatches makeTests freshEntry renameTests alloc likeEntry grown writeSlot baseEntry needsBlock writeBlock writtenEntry writeTests isOpen outcome unless stored storedAll changedState logInReply logInTests refusedLogIn openTests openAct closeTests closeAct sizeTests sizeAct keptAt newSearch shown firstTests searchFirstAct nextTests searchNextAct deleteLadder deleteAct makeLadder makeAct renameLadder renameAct attributesLadder attributesAct sequentialTests randomTests readDone readSequentialAct readRandomAct writeEntry writeChange writeDone writeSequentialAct writeRandomAct writeZeroFillAct protectTests protectAct userTests userAct setRandomTests setRandomAct onPiece singles severalTests several
+unfolding seenAfter perform lowFrom anyFrom everyFrom countFrom fold part put all lawful start slotStart recordStart groupOf placeOf inside strip nameAt same like goodName typeable typeableByte blankBefore places blockIn withBlock countOf ofFile ofGroup matches slotAt putSlot findSlot mapSlot recordSlot counted present recordAt putRecord fillRecord putFilled slotRecord digit holds hold release wordOf wordsOf lowestFree freeCount position random setTo opened made withRandom firstMet goodFields goodTopBits inPlaces namesBlock namedBelow goodPlace seenBelow goodSlot lowestBad named heldOf openSlot closeSlot patternOf hitFrom entryEnd larger sizeOf readBlock readTests readBytes renamed attributed changed deleteTests freePlace freeEntry freeSlot freeMatches makeTests freshEntry renameTests alloc likeEntry grown writeSlot baseEntry needsBlock writeBlock writtenEntry writeTests isOpen outcome unless stored storedAll changedState logInReply logInTests refusedLogIn openTests openAct closeTests closeAct sizeTests sizeAct keptAt newSearch hitAct firstTests searchFirstAct nextTests searchNextAct deleteLadder deleteAct makeLadder makeAct renameLadder renameAct attributesLadder attributesAct sequentialTests randomTests readDone readSequentialAct readRandomAct writeEntry writeChange writeDone writeSequentialAct writeRandomAct writeZeroFillAct protectTests protectAct userTests userAct setRandomTests setRandomAct onPiece singles severalTests several
 seen [] = []
 seen (s ∷ ss) = seenAfter (before (s .volume)) (s .lines) ∷ seen ss
 

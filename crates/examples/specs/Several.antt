@@ -4,7 +4,7 @@ use mathlib.Core.List.{List, [], _∷_, _++_}
 use lib.ListN.{replicate, set}
 use Prim.Native.Nat.{ℕ}
 use Rattle.examples.specs.Script.{logIn, make, writeNext, protect, readSeveral, writeSeveral, done, free, refused, someDone, Line, call, volumeAt, blockIs, bufferIs, Script, script, seen, told}
-use Rattle.examples.specs.Pieces.{sigla, lemmata, sized, entry, empty, control, fresh, filled, old}
+use Rattle.examples.specs.Samples.{sigla, lemmata, sized, entry, empty, control, fresh, filled, old}
 use Rattle.examples.specs.Table.{geometryV, volumeV}
 
 -- three pieces, and the control block of SIGLA.TXT with three records in block 1 at the position cr

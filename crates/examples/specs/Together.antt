@@ -6,9 +6,9 @@ use mathlib.Core.Path.{_≡_, refl}
 use mathlib.Core.List.{List, [], _∷_, _++_}
 use Prim.Native.Nat.{ℕ}
 use lib.ListN.{replicate}
-use Rattle.geometry.specs.declared.Geometry.{Geometry}
+use Rattle.disk_geometry.specs.declared.Geometry.{Geometry}
 use Rattle.examples.specs.Script.{logIn, delete, write, writeNext, writeZeroFill, done, free, refused, Line, call, altered, heldAre, volumeAt, blockIs, Script, script, seen, told}
-use Rattle.examples.specs.Pieces.{sigla, lemmata, sized, entry, empty, control, fresh, recordOf, filled, old}
+use Rattle.examples.specs.Samples.{sigla, lemmata, sized, entry, empty, control, fresh, recordOf, filled, old}
 
 -- B 1,024, T 8, D 1: seven blocks behind a directory of 32 slots
 abbrev pub seven : Geometry

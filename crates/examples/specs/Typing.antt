@@ -6,9 +6,9 @@ use mathlib.Core.List.{List, [], _∷_, _++_}
 use Prim.Native.Nat.{ℕ, zero, suc}
 use lib.ListN.{replicate, take, set}
 use Rattle.lists.specs.Bytes.{part, all}
-use Rattle.typing.specs.Typing.{typeableByte, blankBefore, typeable}
+use Rattle.call_typing.specs.Typing.{typeableByte, blankBefore, typeable}
 use Rattle.examples.specs.Script.{logIn, openFile, closeFile, searchFirst, delete, make, rename, protect, attributes, user, read, write, size, done, free, refused, Line, call, heldAre, volumeAt, blockAt, blockIs, bufferIs, Script, script, seen, told}
-use Rattle.examples.specs.Pieces.{sigla, lemmata, entry, empty, control, fresh, recordOf, renaming, filled, old}
+use Rattle.examples.specs.Samples.{sigla, lemmata, entry, empty, control, fresh, recordOf, renaming, filled, old}
 use Rattle.examples.specs.Table.{geometryV}
 use Rattle.examples.specs.More.{from, small, disk}
 

@@ -5,7 +5,7 @@ use mathlib.Core.List.{List, [], _∷_, _++_}
 use Prim.Native.Nat.{ℕ}
 use lib.ListN.{replicate}
 use Rattle.examples.specs.Script.{logIn, delete, make, read, write, writeZeroFill, done, free, refused, Line, call, heldAre, volumeAt, blockIs, bufferIs, Script, script, seen, told}
-use Rattle.examples.specs.Pieces.{sigla, lemmata, entry, empty, control, fresh, recordOf, filled, old}
+use Rattle.examples.specs.Samples.{sigla, lemmata, entry, empty, control, fresh, recordOf, filled, old}
 use Rattle.examples.specs.Table.{geometryV, volumeV, geometry2048, volume2048, block1in12, geometryFull, volumeFull, extentsFrom}
 
 -- so many zeros

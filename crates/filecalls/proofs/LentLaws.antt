@@ -9,15 +9,15 @@ use native.Mathlib.Omega.{arith}
 use borrow.Author.Tests.{not-false, eqb-false, leb-true}
 use Rattle.lists.specs.Bytes.{byte}
 use Rattle.lists.proofs.BoolLaws.{and-parts}
-use Rattle.control.specs.Block.{position, positionFits}
-use Rattle.answers.specs.declared.Refusal.{Refusal}
-use Rattle.answers.specs.declared.Refusal.the-variants.{Position, Beyond}
-use Rattle.answers.specs.Refusal.{isNone, firstMet}
-use Rattle.answers.proofs.Ladder.{unmet}
+use Rattle.call_fcb.specs.Fcb.{position, positionFits}
+use Rattle.call_answers.specs.declared.Refusal.{Refusal}
+use Rattle.call_answers.specs.declared.Refusal.the-variants.{Position, Beyond}
+use Rattle.call_answers.specs.Refusal.{isNone, firstMet}
+use Rattle.call_answers.proofs.Ladder.{unmet}
 use Rattle.filecalls.specs.declared.Drive.{Drive}
 use Rattle.filecalls.specs.Tests.{tooLarge, beyond}
-use Rattle.filecalls.specs.Ready.{Lent}
-use Rattle.filecalls.specs.Lent.{lentTests, namedTests, sequentialLent, randomLent}
+use Rattle.filecalls.specs.CodeReady.{Lent}
+use Rattle.filecalls.specs.CodeLadder.{lentTests, namedTests, sequentialLent, randomLent}
 use Rattle.filecalls.specs.Read.{sequentialTests, randomTests}
 use Rattle.filecalls.proofs.OutcomeLaws.{clears}
 use Rattle.filecalls.proofs.StateLaws.{both-clear, lent-clear, named-clear}

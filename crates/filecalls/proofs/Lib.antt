@@ -2,6 +2,11 @@
 pub mod StateLaws
 pub mod OutcomeLaws
 pub mod LentLaws
+pub mod LogInLaws
 pub mod WriteLaws
 pub mod SearchLaws
 pub mod NamingLaws
+pub mod SeveralLent
+pub mod PieceLaws
+pub mod SinglesLaws
+pub mod SeveralLaws

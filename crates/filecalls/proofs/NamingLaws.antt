@@ -3,14 +3,14 @@ use mathlib.Core.Path.{_≡_, sym, ap, _∙_}
 use mathlib.Core.Bool.{Bool, true, false, not, cond}
 use mathlib.Core.List.{List, [], _++_}
 use Prim.Native.Nat.{ℕ}
-use Rattle.answers.specs.declared.Refusal.{Refusal}
-use Rattle.answers.specs.declared.Answer.the-variants.{Done, Refused}
-use Rattle.answers.specs.Refusal.{Test, isNone, first, firstMet}
-use Rattle.answers.proofs.Ladder.{ladder-append}
+use Rattle.call_answers.specs.declared.Refusal.{Refusal}
+use Rattle.call_answers.specs.declared.Answer.the-variants.{Done, Refused}
+use Rattle.call_answers.specs.Refusal.{Test, isNone, first, firstMet}
+use Rattle.call_answers.proofs.Ladder.{ladder-append}
 use Rattle.filecalls.specs.declared.Drive.{Drive}
 use Rattle.filecalls.specs.declared.Reply.{Reply}
 use Rattle.filecalls.specs.Outcome.{Change, Store, Act, done, unless, outcome, left, withHeld, changedState, storedAll}
-use Rattle.filecalls.specs.Lent.{namedTests, plainTests}
+use Rattle.filecalls.specs.CodeLadder.{namedTests, plainTests}
 use Rattle.filecalls.proofs.OutcomeLaws.{passes, either, refused-at, decided}
 use Rattle.filecalls.proofs.StateLaws.{Named, no-buffer}
 

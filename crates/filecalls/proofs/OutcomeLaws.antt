@@ -4,11 +4,11 @@ use mathlib.Core.Bool.{Bool, true, false, not, cond, true≢false}
 use mathlib.Core.List.{List, [], _∷_, _++_}
 use Prim.Native.Nat.{ℕ}
 use borrow.Author.Tests.{not-true, not-false}
-use Rattle.answers.specs.declared.Refusal.{Refusal}
-use Rattle.answers.specs.declared.Answer.the-variants.{Done, Refused}
-use Rattle.answers.specs.Refusal.{Test, test, isNone, firstMet}
-use Rattle.answers.specs.Answer.{succeeded}
-use Rattle.answers.proofs.Ladder.{ladder-stop, ladder-pass}
+use Rattle.call_answers.specs.declared.Refusal.{Refusal}
+use Rattle.call_answers.specs.declared.Answer.the-variants.{Done, Refused}
+use Rattle.call_answers.specs.Refusal.{Test, test, isNone, firstMet}
+use Rattle.call_answers.specs.Answer.{succeeded}
+use Rattle.call_answers.proofs.Ladder.{ladder-stop, ladder-pass}
 use Rattle.filecalls.specs.declared.Drive.{Drive}
 use Rattle.filecalls.specs.declared.Reply.{Reply}
 use Rattle.filecalls.specs.Outcome.{Change, keeps, Store, Act, deny, done, unless, Outcome, outcome, left, changedState, storedAll}
@@ -75,7 +75,7 @@ either false x = refl
 
 -- an outcome's answer with all else as given
 abbrev pub sameAll : Outcome → Drive → List ℕ → List ℕ → List ℕ → Outcome
-sameAll o d v f b = record { answer = o .answer; drive = d; volume = v; block = f; buffer = b }
+sameAll o d v f b = record { answer = o .answer; drive = d; volume = v; fcb = f; buffer = b }
 
 -- "A refusal hands back the state as given and alters no lent byte."
 pub outcome-refused : (d : Drive) (v f b : List ℕ) (act : Act) → succeeded (outcome d v f b act .answer) ≡ false

@@ -7,23 +7,23 @@ use lib.Dec.{leb, ltb}
 use lib.ListN.{length}
 use borrow.Author.Tests.{ltb-true, lt-ltb, le-ltb, le-leb, lt-leb}
 use Rattle.lists.proofs.BoolLaws.{and-parts}
-use Rattle.geometry.specs.Geometry.{slots}
-use Rattle.volume.specs.Record.{slotRecord}
-use Rattle.answers.specs.declared.Refusal.{Refusal}
-use Rattle.answers.specs.declared.Refusal.the-variants.{NoMatch}
-use Rattle.answers.specs.declared.Answer.the-variants.{Done, Refused}
-use Rattle.answers.specs.Refusal.{Test, test, isNone, firstMet}
-use Rattle.finding.specs.declared.Kept.{Kept}
-use Rattle.finding.specs.declared.Kept.the-variants.{Nothing, Pattern, Everything}
-use Rattle.filecalls.specs.declared.Search.{Search}
+use Rattle.disk_geometry.specs.Geometry.{slots}
+use Rattle.disk_volume.specs.Record.{slotRecord}
+use Rattle.call_answers.specs.declared.Refusal.{Refusal}
+use Rattle.call_answers.specs.declared.Refusal.the-variants.{NoMatch}
+use Rattle.call_answers.specs.declared.Answer.the-variants.{Done, Refused}
+use Rattle.call_answers.specs.Refusal.{Test, test, isNone, firstMet}
+use Rattle.call_search.specs.declared.SearchKind.{SearchKind}
+use Rattle.call_search.specs.declared.SearchKind.the-variants.{Nothing, Pattern, Everything}
+use Rattle.filecalls.specs.declared.KeptSearch.{KeptSearch}
 use Rattle.filecalls.specs.declared.Drive.{Drive}
 use Rattle.filecalls.specs.declared.Reply.{Reply}
 use Rattle.filecalls.specs.State.{goodPattern, goodKept}
 use Rattle.filecalls.specs.Tests.{closedState, volumeLength, bufferLength}
 use Rattle.filecalls.specs.Outcome.{unless, outcome, left, withSearch, changedState, storedAll}
-use Rattle.filecalls.specs.Ready.{Lent}
-use Rattle.filecalls.specs.Lent.{lentTests, firstLent}
-use Rattle.filecalls.specs.Search.{isKept, keptAt, shown}
+use Rattle.filecalls.specs.CodeReady.{Lent}
+use Rattle.filecalls.specs.CodeLadder.{lentTests, firstLent}
+use Rattle.filecalls.specs.Search.{isKept, keptAt, hitAct}
 use Rattle.filecalls.proofs.OutcomeLaws.{clears}
 use Rattle.filecalls.proofs.StateLaws.{lent-clear, both-clear}
 use Rattle.filecalls.proofs.LentLaws.{lengths-passed}
@@ -61,25 +61,25 @@ next-passed d v b e i h =
     record { none = sym (ap isNone (no-block d v b)) ∙ p .none; lent = p .lent }
 
 -- the last hit of an open search is a slot
-pub kept-below : (kind : Kept) (user last : ℕ) (pattern : List ℕ) (n : ℕ) → isKept kind ≡ true → goodKept kind user last pattern n ≡ true → last < n
+pub kept-below : (kind : SearchKind) (user last : ℕ) (pattern : List ℕ) (n : ℕ) → isKept kind ≡ true → goodKept kind user last pattern n ≡ true → last < n
 kept-below Nothing user last pattern n k e = absurd (false≢true k)
 kept-below Pattern user last pattern n k e =
     ltb-true last n (and-parts (leb user 15) (ltb last n) (and-parts (leb user 15 && ltb last n) (goodPattern pattern) e .0) .1)
 kept-below Everything user last pattern n k e = ltb-true last n (and-parts (leb user 15) (ltb last n) e .1)
 
 -- what a search leaves that came to slot i, j in the code: a hit, and none
-module _ (d : Drive) (v f b : List ℕ) (q : Search) (i : ℕ) where
-  pub hits : {r : Reply} {k : Search} {j : ℕ} {b′ : List ℕ} → j ≡ i → j < slots (d .geometry)
+module _ (d : Drive) (v f b : List ℕ) (q : KeptSearch) (i : ℕ) where
+  pub hits : {r : Reply} {k : KeptSearch} {j : ℕ} {b′ : List ℕ} → j ≡ i → j < slots (d .geometry)
       → b′ ≡ cond (ltb j (slots (d .geometry))) (slotRecord (d .geometry) v j) b → k ≡ keptAt q j
       → r ≡ record { answer = Done (j % 4); drive = withSearch d k }
-      → left r v f b′ ≡ outcome d v f b (unless (test NoMatch (leb (slots (d .geometry)) i) ∷ []) (shown d v f q i))
-  unfolding outcome unless firstMet shown changedState storedAll
+      → left r v f b′ ≡ outcome d v f b (unless (test NoMatch (leb (slots (d .geometry)) i) ∷ []) (hitAct d v f q i))
+  unfolding outcome unless firstMet hitAct changedState storedAll
   hits {r} {k} {j} {b′} s h eb ek er =
       rw (er, ek, eb, ← s, lt-ltb j (slots (d .geometry)) h, lt-leb (slots (d .geometry)) j h)
 
   pub misses : {r : Reply} {j : ℕ} {b′ : List ℕ} → j ≡ i → slots (d .geometry) ≤ j
       → b′ ≡ cond (ltb j (slots (d .geometry))) (slotRecord (d .geometry) v j) b
       → r ≡ record { answer = Refused NoMatch; drive = d }
-      → left r v f b′ ≡ outcome d v f b (unless (test NoMatch (leb (slots (d .geometry)) i) ∷ []) (shown d v f q i))
+      → left r v f b′ ≡ outcome d v f b (unless (test NoMatch (leb (slots (d .geometry)) i) ∷ []) (hitAct d v f q i))
   unfolding outcome unless firstMet
   misses {r} {j} {b′} s h eb er = rw (er, eb, ← s, le-ltb j (slots (d .geometry)) h, le-leb (slots (d .geometry)) j h)

@@ -7,18 +7,18 @@ use lib.Dec.{leb, eqb}
 use lib.ListN.{length}
 use borrow.Author.Tests.{not-false, eqb-true, leb-true}
 use Rattle.lists.proofs.BoolLaws.{and-parts}
-use Rattle.geometry.specs.Geometry.{lawful, bytes}
-use Rattle.answers.specs.declared.Refusal.{Refusal}
-use Rattle.answers.specs.declared.Refusal.the-variants.{Closed, VolumeLength, BlockLength, BufferLength}
-use Rattle.answers.specs.Refusal.{Test, isNone, firstMet}
-use Rattle.answers.proofs.Ladder.{ladder-stop, ladder-pass, unmet}
+use Rattle.disk_geometry.specs.Geometry.{lawful, bytes}
+use Rattle.call_answers.specs.declared.Refusal.{Refusal}
+use Rattle.call_answers.specs.declared.Refusal.the-variants.{Closed, VolumeLength, FcbLength, BufferLength}
+use Rattle.call_answers.specs.Refusal.{Test, isNone, firstMet}
+use Rattle.call_answers.proofs.Ladder.{ladder-stop, ladder-pass, unmet}
 use Rattle.filecalls.specs.declared.Drive.{Drive}
 use Rattle.filecalls.specs.State.{isOpen}
 use Rattle.filecalls.specs.Tests.{driveCode, badName}
-use Rattle.filecalls.specs.Ready.{Open, Lent}
-use Rattle.filecalls.specs.Lent.{lentTests, namedTests, plainTests}
+use Rattle.filecalls.specs.CodeReady.{OpenState, Lent}
+use Rattle.filecalls.specs.CodeLadder.{lentTests, namedTests, plainTests}
 
-pub is-open : (d : Drive) → isOpen d ≡ true → Open d
+pub is-open : (d : Drive) → isOpen d ≡ true → OpenState d
 unfolding isOpen
 is-open d e =
     let p = and-parts (lawful (d .geometry) && leb (d .user) 15) _ e in
@@ -33,12 +33,12 @@ unfolding lentTests
 lent-clear d v f b e =
     let s = unmet Closed _ _ refl e in
     let x = unmet VolumeLength _ _ refl (s .1) in
-    let y = unmet BlockLength _ _ refl (x .1) in
+    let y = unmet FcbLength _ _ refl (x .1) in
     let z = unmet BufferLength _ _ refl (y .1) in
     record {
       state = is-open d (not-false (isOpen d) (s .0));
       volume = same-length v (bytes (d .geometry)) (x .0);
-      block = same-length f 36 (y .0);
+      fcb = same-length f 36 (y .0);
       buffer = same-length b 128 (z .0);
     }
 

@@ -3,15 +3,15 @@ use mathlib.Core.Path.{_≡_, refl, sym, ap, _∙_}
 use mathlib.Core.Bool.{Bool, true, false, cond}
 use mathlib.Core.List.{List}
 use Prim.Native.Nat.{ℕ}
-use Rattle.volume.specs.Name.{nameOf}
-use Rattle.blocks.specs.Held.{hold}
-use Rattle.control.specs.Block.{setTo}
-use Rattle.answers.specs.declared.Refusal.{Refusal}
-use Rattle.answers.specs.declared.Refusal.the-variants.{Protected}
-use Rattle.answers.specs.declared.Answer.the-variants.{Done, Refused}
-use Rattle.answers.specs.Refusal.{Test, isNone, firstMet}
-use Rattle.deciding.specs.Write.{needsBlock, writeBlock, writeTests}
-use Rattle.deciding.specs.WritePlan.{entryAfter, volumeAfter, heldAfter}
+use Rattle.disk_volume.specs.Name.{nameOf}
+use Rattle.disk_held.specs.Held.{hold}
+use Rattle.call_fcb.specs.Fcb.{setTo}
+use Rattle.call_answers.specs.declared.Refusal.{Refusal}
+use Rattle.call_answers.specs.declared.Refusal.the-variants.{Protected}
+use Rattle.call_answers.specs.declared.Answer.the-variants.{Done, Refused}
+use Rattle.call_answers.specs.Refusal.{Test, isNone, firstMet}
+use Rattle.call_decide.specs.Write.{needsBlock, writeBlock, entryAfter, writeTests}
+use Rattle.call_write.specs.CodeAfter.{volumeAfter, heldAfter}
 use Rattle.filecalls.specs.declared.Drive.{Drive}
 use Rattle.filecalls.specs.declared.Reply.{Reply}
 use Rattle.filecalls.specs.Outcome.{keeps, takes, deny, unless, outcome, left, withHeld, changedState, stored, storedAll}
@@ -19,7 +19,7 @@ use Rattle.filecalls.specs.Write.{writeEntry, writeChange, writeDone, di
 use Rattle.filecalls.proofs.OutcomeLaws.{goes-by, says-no, denies, does}
 
 -- the state where block x is taken if t
-taken : (d : Drive) (v : List ℕ) (t : Bool) (x : ℕ)
+pub taken : (d : Drive) (v : List ℕ) (t : Bool) (x : ℕ)
     → changedState d v (cond t (takes x) keeps) ≡ withHeld d (cond t (hold (d .held) x) (d .held))
 unfolding changedState
 taken d v true x = refl
@@ -31,7 +31,7 @@ pub leaves : (d : Drive) (v f : List ℕ) (n cr : ℕ) (fills : Bool) (b : List 
       answer = Done 0;
       drive = withHeld d (heldAfter (d .geometry) (d .held) v (d .user) (nameOf f) n);
       volume = volumeAfter (d .geometry) (d .held) v (d .user) (nameOf f) n fills b;
-      block = setTo f (entryAfter (d .geometry) (d .held) v (d .user) (nameOf f) n) n cr;
+      fcb = setTo f (entryAfter (d .geometry) (d .held) v (d .user) (nameOf f) n) n cr;
       buffer = b;
     }
 unfolding outcome writeDone writeEntry writeChange stored storedAll
@@ -45,15 +45,15 @@ module _ (d : Drive) (v f : List ℕ) (n cr : ℕ) (fills : Bool) (b : List ℕ)
   abbrev volume : List ℕ
   volume = volumeAfter (d .geometry) (d .held) v (d .user) (nameOf f) n fills b
 
-  abbrev block : List ℕ
-  block = setTo f (entryAfter (d .geometry) (d .held) v (d .user) (nameOf f) n) n cr
+  abbrev fcb : List ℕ
+  fcb = setTo f (entryAfter (d .geometry) (d .held) v (d .user) (nameOf f) n) n cr
 
   abbrev held : List ℕ
   held = heldAfter (d .geometry) (d .held) v (d .user) (nameOf f) n
 
   -- the write of the record is refused, and is not
   module _ {why : Refusal} {s : Reply} {v′ f′ : List ℕ}
-      (p : d .protected ≡ false) (e : why ≡ firstMet tests) (ev : v′ ≡ cond (isNone why) volume v) (ef : f′ ≡ cond (isNone why) block f) where
+      (p : d .protected ≡ false) (e : why ≡ firstMet tests) (ev : v′ ≡ cond (isNone why) volume v) (ef : f′ ≡ cond (isNone why) fcb f) where
     write-refused : isNone why ≡ false → s ≡ record { answer = Refused why; drive = d }
         → left s v′ f′ b ≡ outcome d v f b (unless (directoryTests d v f n) (writeDone d v f n cr fills b))
     write-refused i q =

@@ -9,5 +9,7 @@ pub mod Names
 pub mod Read
 pub mod Write
 pub mod Small
-pub mod Ready
-pub mod Lent
+pub mod Leaves
+pub mod Several
+pub mod CodeReady
+pub mod CodeLadder

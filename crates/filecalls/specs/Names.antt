@@ -5,62 +5,68 @@ use mathlib.Core.List.{List, [], _∷_}
 use Prim.Native.Nat.{ℕ, _%_}
 use lib.Dec.{leb, eqb}
 use Rattle.lists.specs.Bytes.{byte, part}
-use Rattle.volume.specs.declared.Wanted.the-variants.{Empty, File}
-use Rattle.geometry.specs.Geometry.{slots}
-use Rattle.volume.specs.Name.{nameOf}
-use Rattle.volume.specs.Directory.{findSlot}
-use Rattle.control.specs.Block.{newName, made}
-use Rattle.answers.specs.declared.Refusal.the-variants.{NoMatch}
-use Rattle.answers.specs.Refusal.{Test, test}
-use Rattle.sweeping.specs.declared.Edit.the-variants.{Erase, Rename, Attributes}
-use Rattle.sweeping.specs.Sweep.{changed}
-use Rattle.deleting.specs.Delete.{deleteTests}
-use Rattle.making.specs.Make.{makeTests, freshEntry}
-use Rattle.naming.specs.Rename.{renameTests}
+use Rattle.disk_volume.specs.declared.Wanted.the-variants.{Empty, File}
+use Rattle.disk_geometry.specs.Geometry.{slots, recordSlots}
+use Rattle.disk_volume.specs.Fields.{NAME, EX, nameBytes}
+use Rattle.disk_volume.specs.Name.{nameOf}
+use Rattle.disk_volume.specs.Directory.{findSlot}
+use Rattle.call_fcb.specs.Fcb.{NEWNAME, newName, made}
+use Rattle.call_answers.specs.declared.Refusal.the-variants.{NoMatch}
+use Rattle.call_answers.specs.Refusal.{Test, test}
+use Rattle.call_sweep.specs.declared.Edit.the-variants.{Erase, Rename, Attributes}
+use Rattle.call_sweep.specs.Sweep.{changed}
+use Rattle.call_delete.specs.Delete.{deleteTests}
+use Rattle.call_make.specs.Make.{makeTests, freshEntry}
+use Rattle.call_rename.specs.Rename.{renameTests}
 use Rattle.filecalls.specs.declared.Drive.{Drive}
-use Rattle.filecalls.specs.Tests.{closedState, volumeLength, blockLength, driveCode, badName, untypeable, tooLarge, protectedDrive}
+use Rattle.filecalls.specs.Tests.{closedState, volumeLength, fcbLength, driveCode, badName, untypeable, tooLarge, protectedDrive}
 use Rattle.filecalls.specs.Outcome.{keeps, frees, entryTo, eachEntry, Act, done, unless}
 
 -- "byte 0 of all matching entries of the user (3FH allowed) becomes E5H, their blocks are free"
 unfoldable pub deleteLadder : Drive → List ℕ → List ℕ → List Test
-deleteLadder d v f =
-    closedState d ∷ volumeLength d v ∷ blockLength f ∷ driveCode f ∷ badName true f 1 ∷ protectedDrive d
-    ∷ deleteTests (d .geometry) v (d .user) (nameOf f)
+deleteLadder d v fcb =
+    closedState d ∷ volumeLength d v ∷ fcbLength fcb ∷ driveCode fcb ∷ badName true fcb NAME ∷ protectedDrive d
+    ∷ deleteTests (d .geometry) v (d .user) (nameOf fcb)
 
 unfoldable pub deleteAct : Drive → List ℕ → List ℕ → Act
-deleteAct d v f =
-    unless (deleteLadder d v f)
-    (done 0 (frees (d .user) (nameOf f)) (eachEntry (changed Erase (d .user) (nameOf f) []) ∷ []) f [])
+deleteAct d v fcb =
+    unless (deleteLadder d v fcb)
+    (done 0 (frees (d .user) (nameOf fcb)) (eachEntry (changed Erase (d .user) (nameOf fcb) []) ∷ []) fcb [])
 
 -- "the lowest empty slot gets user, name without top bits, all else 0. Control block 1..11 likewise, 12..31 become 0."
 unfoldable pub makeLadder : Drive → List ℕ → List ℕ → List Test
-makeLadder d v f =
-    closedState d ∷ volumeLength d v ∷ blockLength f ∷ driveCode f ∷ badName false f 1 ∷ untypeable f 1 ∷ tooLarge (eqb (byte f 12) 0) ∷ protectedDrive d
-    ∷ makeTests (d .geometry) v (d .user) (nameOf f)
+makeLadder d v fcb =
+    closedState d ∷ volumeLength d v ∷ fcbLength fcb ∷ driveCode fcb ∷ badName false fcb NAME
+    ∷ untypeable fcb NAME ∷ tooLarge (eqb (byte fcb EX) 0) ∷ protectedDrive d
+    ∷ makeTests (d .geometry) v (d .user) (nameOf fcb)
 
 unfoldable pub makeAct : Drive → List ℕ → List ℕ → Act
-makeAct d v f =
-    unless (makeLadder d v f)
-    (done (findSlot (d .geometry) v (d .user) (nameOf f) Empty % 4) keeps
-    (entryTo (findSlot (d .geometry) v (d .user) (nameOf f) Empty) (freshEntry (d .user) (nameOf f)) ∷ []) (made f (nameOf f)) [])
+makeAct d v fcb =
+    unless (makeLadder d v fcb)
+    (done (findSlot (d .geometry) v (d .user) (nameOf fcb) Empty % recordSlots) keeps
+    (entryTo (findSlot (d .geometry) v (d .user) (nameOf fcb) Empty) (freshEntry (d .user) (nameOf fcb)) ∷ [])
+    (made fcb (nameOf fcb)) [])
 
 -- "old name in 1..11, new in 17..27; all entries of the file take the new one"
 unfoldable pub renameLadder : Drive → List ℕ → List ℕ → List Test
-renameLadder d v f =
-    closedState d ∷ volumeLength d v ∷ blockLength f ∷ driveCode f ∷ badName false f 1 ∷ badName false f 17 ∷ untypeable f 17 ∷ protectedDrive d
-    ∷ renameTests (d .geometry) v (d .user) (nameOf f) (newName f)
+renameLadder d v fcb =
+    closedState d ∷ volumeLength d v ∷ fcbLength fcb ∷ driveCode fcb ∷ badName false fcb NAME
+    ∷ badName false fcb NEWNAME ∷ untypeable fcb NEWNAME ∷ protectedDrive d
+    ∷ renameTests (d .geometry) v (d .user) (nameOf fcb) (newName fcb)
 
 unfoldable pub renameAct : Drive → List ℕ → List ℕ → Act
-renameAct d v f =
-    unless (renameLadder d v f) (done 0 keeps (eachEntry (changed Rename (d .user) (nameOf f) (part f 17 11)) ∷ []) f [])
+renameAct d v fcb =
+    unless (renameLadder d v fcb)
+    (done 0 keeps (eachEntry (changed Rename (d .user) (nameOf fcb) (part fcb NEWNAME nameBytes)) ∷ []) fcb [])
 
 -- "top bits of control block bytes 9 and 10 go to all entries of the file"
 unfoldable pub attributesLadder : Drive → List ℕ → List ℕ → List Test
-attributesLadder d v f =
-    closedState d ∷ volumeLength d v ∷ blockLength f ∷ driveCode f ∷ badName false f 1 ∷ protectedDrive d
-    ∷ test NoMatch (leb (slots (d .geometry)) (findSlot (d .geometry) v (d .user) (nameOf f) File))
+attributesLadder d v fcb =
+    closedState d ∷ volumeLength d v ∷ fcbLength fcb ∷ driveCode fcb ∷ badName false fcb NAME ∷ protectedDrive d
+    ∷ test NoMatch (leb (slots (d .geometry)) (findSlot (d .geometry) v (d .user) (nameOf fcb) File))
     ∷ []
 
 unfoldable pub attributesAct : Drive → List ℕ → List ℕ → Act
-attributesAct d v f =
-    unless (attributesLadder d v f) (done 0 keeps (eachEntry (changed Attributes (d .user) (nameOf f) (part f 1 11)) ∷ []) f [])
+attributesAct d v fcb =
+    unless (attributesLadder d v fcb)
+    (done 0 keeps (eachEntry (changed Attributes (d .user) (nameOf fcb) (part fcb NAME nameBytes)) ∷ []) fcb [])

@@ -3,45 +3,49 @@ use mathlib.Core.Bool.{true, false}
 use mathlib.Core.List.{List, [], _∷_}
 use Prim.Native.Nat.{ℕ, _%_}
 use lib.Dec.{leb}
-use Rattle.volume.specs.declared.Wanted.the-variants.{File}
-use Rattle.geometry.specs.Geometry.{slots}
-use Rattle.volume.specs.Name.{nameOf}
-use Rattle.volume.specs.Directory.{slotAt, findSlot}
-use Rattle.control.specs.Block.{exFits, extentFits, opened, withRandom}
-use Rattle.answers.specs.declared.Refusal.the-variants.{NoMatch}
-use Rattle.answers.specs.Refusal.{Test, test}
-use Rattle.openclose.specs.Open.{openSlot, closeSlot}
-use Rattle.measuring.specs.Size.{sizeOf}
+use Rattle.disk_volume.specs.declared.Wanted.the-variants.{File}
+use Rattle.disk_geometry.specs.Geometry.{slots, recordSlots}
+use Rattle.disk_volume.specs.Fields.{NAME}
+use Rattle.disk_volume.specs.Name.{nameOf}
+use Rattle.disk_volume.specs.Directory.{slotAt, findSlot}
+use Rattle.call_fcb.specs.Fcb.{exFits, extentFits, opened, withRandom}
+use Rattle.call_answers.specs.declared.Refusal.the-variants.{NoMatch}
+use Rattle.call_answers.specs.Refusal.{Test, test}
+use Rattle.call_open.specs.Open.{openSlot, closeSlot}
+use Rattle.call_size.specs.Size.{sizeOf}
 use Rattle.filecalls.specs.declared.Drive.{Drive}
-use Rattle.filecalls.specs.Tests.{closedState, volumeLength, blockLength, driveCode, badName, tooLarge}
+use Rattle.filecalls.specs.Tests.{closedState, volumeLength, fcbLength, driveCode, badName, tooLarge}
 use Rattle.filecalls.specs.Outcome.{keeps, Act, done, unless}
 
 unfoldable pub openTests : Drive → List ℕ → List ℕ → List Test
-openTests d v f =
-    closedState d ∷ volumeLength d v ∷ blockLength f ∷ driveCode f ∷ badName true f 1 ∷ tooLarge (exFits f)
-    ∷ test NoMatch (leb (slots (d .geometry)) (openSlot (d .geometry) v (d .user) f))
+openTests d v fcb =
+    closedState d ∷ volumeLength d v ∷ fcbLength fcb ∷ driveCode fcb ∷ badName true fcb NAME ∷ tooLarge (exFits fcb)
+    ∷ test NoMatch (leb (slots (d .geometry)) (openSlot (d .geometry) v (d .user) fcb))
     ∷ []
 
 unfoldable pub openAct : Drive → List ℕ → List ℕ → Act
-openAct d v f =
-    unless (openTests d v f)
-    (done (openSlot (d .geometry) v (d .user) f % 4) keeps [] (opened f (slotAt (d .geometry) v (openSlot (d .geometry) v (d .user) f))) [])
+openAct d v fcb =
+    unless (openTests d v fcb)
+    (done (openSlot (d .geometry) v (d .user) fcb % recordSlots) keeps []
+    (opened fcb (slotAt (d .geometry) v (openSlot (d .geometry) v (d .user) fcb))) [])
 
 unfoldable pub closeTests : Drive → List ℕ → List ℕ → List Test
-closeTests d v f =
-    closedState d ∷ volumeLength d v ∷ blockLength f ∷ driveCode f ∷ badName false f 1 ∷ tooLarge (extentFits f)
-    ∷ test NoMatch (leb (slots (d .geometry)) (closeSlot (d .geometry) v (d .user) f))
+closeTests d v fcb =
+    closedState d ∷ volumeLength d v ∷ fcbLength fcb ∷ driveCode fcb ∷ badName false fcb NAME ∷ tooLarge (extentFits fcb)
+    ∷ test NoMatch (leb (slots (d .geometry)) (closeSlot (d .geometry) v (d .user) fcb))
     ∷ []
 
 -- "Changes nothing."
 unfoldable pub closeAct : Drive → List ℕ → List ℕ → Act
-closeAct d v f = unless (closeTests d v f) (done (closeSlot (d .geometry) v (d .user) f % 4) keeps [] f [])
+closeAct d v fcb =
+    unless (closeTests d v fcb) (done (closeSlot (d .geometry) v (d .user) fcb % recordSlots) keeps [] fcb [])
 
 unfoldable pub sizeTests : Drive → List ℕ → List ℕ → List Test
-sizeTests d v f =
-    closedState d ∷ volumeLength d v ∷ blockLength f ∷ driveCode f ∷ badName false f 1
-    ∷ test NoMatch (leb (slots (d .geometry)) (findSlot (d .geometry) v (d .user) (nameOf f) File))
+sizeTests d v fcb =
+    closedState d ∷ volumeLength d v ∷ fcbLength fcb ∷ driveCode fcb ∷ badName false fcb NAME
+    ∷ test NoMatch (leb (slots (d .geometry)) (findSlot (d .geometry) v (d .user) (nameOf fcb) File))
     ∷ []
 
 unfoldable pub sizeAct : Drive → List ℕ → List ℕ → Act
-sizeAct d v f = unless (sizeTests d v f) (done 0 keeps [] (withRandom f (sizeOf (d .geometry) v (d .user) (nameOf f))) [])
+sizeAct d v fcb =
+    unless (sizeTests d v fcb) (done 0 keeps [] (withRandom fcb (sizeOf (d .geometry) v (d .user) (nameOf fcb))) [])

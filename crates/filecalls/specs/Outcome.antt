@@ -3,17 +3,17 @@
 use mathlib.Core.Bool.{Bool, true, cond}
 use mathlib.Core.List.{List, [], _∷_}
 use Prim.Native.Nat.{ℕ}
-use Rattle.geometry.specs.declared.Geometry.{Geometry}
-use Rattle.volume.specs.Entry.{Entry}
-use Rattle.volume.specs.Directory.{putSlot, mapSlots}
-use Rattle.volume.specs.Record.{putFilled}
-use Rattle.blocks.specs.Held.{hold}
-use Rattle.answers.specs.declared.Refusal.{Refusal}
-use Rattle.answers.specs.declared.Answer.{Answer}
-use Rattle.answers.specs.declared.Answer.the-variants.{Done, Refused}
-use Rattle.answers.specs.Refusal.{Test, isNone, firstMet}
-use Rattle.deleting.specs.Delete.{freeMatches}
-use Rattle.filecalls.specs.declared.Search.{Search}
+use Rattle.disk_geometry.specs.declared.Geometry.{Geometry}
+use Rattle.disk_volume.specs.Entry.{Entry}
+use Rattle.disk_volume.specs.Directory.{putSlot, mapSlots}
+use Rattle.disk_volume.specs.Record.{putFilled}
+use Rattle.disk_held.specs.Held.{hold}
+use Rattle.call_answers.specs.declared.Refusal.{Refusal}
+use Rattle.call_answers.specs.declared.Answer.{Answer}
+use Rattle.call_answers.specs.declared.Answer.the-variants.{Done, Refused}
+use Rattle.call_answers.specs.Refusal.{Test, isNone, firstMet}
+use Rattle.call_delete.specs.Delete.{freeMatches}
+use Rattle.filecalls.specs.declared.KeptSearch.{KeptSearch}
 use Rattle.filecalls.specs.declared.Drive.{Drive}
 use Rattle.filecalls.specs.declared.Reply.{Reply}
 
@@ -24,7 +24,7 @@ pub data Change : Type 0 where
   frees : ℕ → List ℕ → Change
   protects : Change
   becomes : ℕ → Change
-  searches : Search → Change
+  searches : KeptSearch → Change
 
 -- what is stored: record n in block b, with zeros in the block's other records or alone; an entry in a slot; every entry
 -- changed
@@ -61,7 +61,7 @@ withUser d u = record { geometry = d .geometry; user = u; protected = d .protect
 abbrev pub withProtection : Drive → Drive
 withProtection d = record { geometry = d .geometry; user = d .user; protected = true; search = d .search; held = d .held }
 
-abbrev pub withSearch : Drive → Search → Drive
+abbrev pub withSearch : Drive → KeptSearch → Drive
 withSearch d q = record { geometry = d .geometry; user = d .user; protected = d .protected; search = q; held = d .held }
 
 -- the state after a change; v is the volume before the stores
@@ -78,15 +78,21 @@ pub record Outcome : Type 0 where
   pub answer : Answer
   pub drive : Drive
   pub volume : List ℕ
-  pub block : List ℕ
+  pub fcb : List ℕ
   pub buffer : List ℕ
 
 -- "A refusal hands back the state as given and alters no lent byte."
 unfoldable pub outcome : Drive → List ℕ → List ℕ → List ℕ → Act → Outcome
-outcome d v f b (deny why) = record { answer = Refused why; drive = d; volume = v; block = f; buffer = b }
-outcome d v f b (done code change stores f′ b′) =
-    record { answer = Done code; drive = changedState d v change; volume = storedAll (d .geometry) v stores; block = f′; buffer = b′ }
+outcome d v fcb b (deny why) = record { answer = Refused why; drive = d; volume = v; fcb = fcb; buffer = b }
+outcome d v fcb b (done code change stores fcb′ b′) =
+    record {
+      answer = Done code;
+      drive = changedState d v change;
+      volume = storedAll (d .geometry) v stores;
+      fcb = fcb′;
+      buffer = b′;
+    }
 
 -- a reply with the bytes that stand after the call
 abbrev pub left : Reply → List ℕ → List ℕ → List ℕ → Outcome
-left r v f b = record { answer = r .answer; drive = r .drive; volume = v; block = f; buffer = b }
+left r v fcb b = record { answer = r .answer; drive = r .drive; volume = v; fcb = fcb; buffer = b }

@@ -2,51 +2,58 @@
 use mathlib.Core.Bool.{Bool, true, false, cond}
 use mathlib.Core.List.{List, [], _∷_, _++_}
 use Prim.Native.Nat.{ℕ, _+_, _%_}
-use Rattle.volume.specs.Name.{nameOf}
-use Rattle.control.specs.Block.{position, random, setTo}
-use Rattle.answers.specs.Refusal.{Test}
-use Rattle.deciding.specs.Write.{writeSlot, baseEntry, needsBlock, fillsBlock, writeBlock, writeTests}
-use Rattle.entries.specs.Grown.{writtenEntry}
+use Rattle.disk_geometry.specs.Geometry.{extentRecords}
+use Rattle.disk_volume.specs.Name.{nameOf}
+use Rattle.disk_volume.specs.Entry.{Entry}
+use Rattle.call_fcb.specs.Fcb.{position, random, setTo}
+use Rattle.call_answers.specs.Refusal.{Test}
+use Rattle.call_decide.specs.Write.{writeSlot, needsBlock, fillsBlock, writeBlock, entryAfter, writeTests}
 use Rattle.filecalls.specs.declared.Drive.{Drive}
 use Rattle.filecalls.specs.Tests.{protectedDrive}
 use Rattle.filecalls.specs.Outcome.{Change, keeps, takes, recordTo, entryTo, Act, done, unless}
 use Rattle.filecalls.specs.Read.{sequentialTests, randomTests}
 
 -- the entry that the write leaves in its slot
-unfoldable pub writeEntry : Drive → List ℕ → List ℕ → ℕ → List ℕ
-writeEntry d v f n =
-    writtenEntry (d .geometry) (baseEntry (d .geometry) v (d .user) (nameOf f) n) n
-    (writeBlock (d .geometry) (d .held) v (d .user) (nameOf f) n)
+unfoldable pub writeEntry : Drive → List ℕ → List ℕ → ℕ → Entry
+writeEntry d v fcb n = entryAfter (d .geometry) (d .held) v (d .user) (nameOf fcb) n
 
 -- a block that the place is given is held from then on
 unfoldable pub writeChange : Drive → List ℕ → List ℕ → ℕ → Change
-writeChange d v f n =
-    cond (needsBlock (d .geometry) v (d .user) (nameOf f) n) (takes (writeBlock (d .geometry) (d .held) v (d .user) (nameOf f) n)) keeps
+writeChange d v fcb n =
+    let g = d .geometry in
+    let name = nameOf fcb in
+    cond (needsBlock g v (d .user) name n) (takes (writeBlock g (d .held) v (d .user) name n)) keeps
 
 -- record n is written with the buffer's bytes: the data first, then the directory; "control block as for reads". A write
 -- that fills, function 40, fills a block that it gives.
 unfoldable pub writeDone : Drive → List ℕ → List ℕ → ℕ → ℕ → Bool → List ℕ → Act
-writeDone d v f n cr fills b =
-    done 0 (writeChange d v f n)
-    (recordTo (fillsBlock (d .geometry) v (d .user) (nameOf f) n fills) (writeBlock (d .geometry) (d .held) v (d .user) (nameOf f) n) n b
-    ∷ entryTo (writeSlot (d .geometry) v (d .user) (nameOf f) n) (writeEntry d v f n)
+writeDone d v fcb n cr fills b =
+    let g = d .geometry in
+    let u = d .user in
+    let name = nameOf fcb in
+    done 0 (writeChange d v fcb n)
+    (recordTo (fillsBlock g v u name n fills) (writeBlock g (d .held) v u name n) n b
+    ∷ entryTo (writeSlot g v u name n) (writeEntry d v fcb n)
     ∷ [])
-    (setTo f (writeEntry d v f n) n cr) b
+    (setTo fcb (writeEntry d v fcb n) n cr) b
 
+-- 37, and the tests of the directory
 abbrev pub directoryTests : Drive → List ℕ → List ℕ → ℕ → List Test
-directoryTests d v f n = protectedDrive d ∷ writeTests (d .geometry) (d .held) v (d .user) (nameOf f) n
+directoryTests d v fcb n = protectedDrive d ∷ writeTests (d .geometry) (d .held) v (d .user) (nameOf fcb) n
 
 unfoldable pub writeSequentialAct : Drive → List ℕ → List ℕ → List ℕ → Act
-writeSequentialAct d v f b =
-    unless (sequentialTests d v f b ++ directoryTests d v f (position f)) (writeDone d v f (position f) (position f % 128 + 1) false b)
+writeSequentialAct d v fcb b =
+    let n = position fcb in
+    unless (sequentialTests d v fcb b ++ directoryTests d v fcb n) (writeDone d v fcb n (n % extentRecords + 1) false b)
 
 -- a write of the record in r0 r1: 34 and 40 differ in whether they fill, and in nothing else
 abbrev pub writeDirectAct : Bool → Drive → List ℕ → List ℕ → List ℕ → Act
-writeDirectAct fills d v f b =
-    unless (randomTests d v f b ++ directoryTests d v f (random f)) (writeDone d v f (random f) (random f % 128) fills b)
+writeDirectAct fills d v fcb b =
+    let n = random fcb in
+    unless (randomTests d v fcb b ++ directoryTests d v fcb n) (writeDone d v fcb n (n % extentRecords) fills b)
 
 unfoldable pub writeRandomAct : Drive → List ℕ → List ℕ → List ℕ → Act
-writeRandomAct d v f b = writeDirectAct false d v f b
+writeRandomAct d v fcb b = writeDirectAct false d v fcb b
 
 unfoldable pub writeZeroFillAct : Drive → List ℕ → List ℕ → List ℕ → Act
-writeZeroFillAct d v f b = writeDirectAct true d v f b
+writeZeroFillAct d v fcb b = writeDirectAct true d v fcb b

@@ -1,24 +1,26 @@
 // The file calls: every call is a method of the drive state that takes the state and hands it back.
-use answers::Answer;
-use finding::Kept;
-use geometry::Geometry;
+use call_answers::Answer;
+use call_search::PATTERN_BYTES;
+use call_search::SearchKind;
+use disk_geometry::Geometry;
 
 mod login;
 mod names;
 mod opening;
 mod reads;
 mod searching;
+mod several;
 mod small;
 mod state;
 mod tests;
 mod writes;
 
 // A search that is kept between calls: its kind, the user and the pattern of its first call, and its last hit.
-pub struct Search {
-    pub kind: Kept,
+pub struct KeptSearch {
+    pub kind: SearchKind,
     pub user: u8,
     pub last: usize,
-    pub pattern: [u8; 12],
+    pub pattern: [u8; PATTERN_BYTES],
 }
 
 // The drive's state.
@@ -26,7 +28,7 @@ pub struct Drive {
     pub geometry: Geometry,
     pub user: u8,
     pub protected: bool,
-    pub search: Search,
+    pub search: KeptSearch,
     pub held: [u64; 4],
 }
 

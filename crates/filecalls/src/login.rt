@@ -5,9 +5,9 @@ ghost use Rattle.filecalls.specs.State.{closed, loggedIn};
 ghost use Rattle.filecalls.specs.LogIn.{logIn};
 use crate::Drive;
 use crate::Reply;
-use answers::Answer;
-use answers::Refusal;
-use geometry::Geometry;
+use call_answers::Answer;
+use call_answers::Refusal;
+use disk_geometry::Geometry;
 
 // The state after log-in: user 0, not protected and no search open, as in the closed state.
 fn logged_in(geometry: Geometry, held: [u64; 4]) -> Drive
@@ -39,7 +39,7 @@ impl Drive {
         if !whole {
             return closed_reply(Answer::Refused(Refusal::VolumeLength));
         }
-        let found = inspection::inspect(g, volume);
+        let found = disk_inspection::inspect(g, volume);
         if found.slot < g.slots() {
             return closed_reply(Answer::BadSlot(found.slot));
         }

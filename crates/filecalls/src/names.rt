@@ -1,25 +1,40 @@
 // The calls on names: delete (19), make (22), rename (23), attributes (30).
 ghost use mathlib.Core.Path.{_≡_};
 ghost use mathlib.Core.List.{[]};
-ghost use Rattle.filecalls.specs.Outcome.{outcome, left};
-ghost use Rattle.filecalls.specs.Names.{deleteAct, makeAct, renameAct, attributesAct};
+ghost use Rattle.filecalls.specs.Outcome.{left};
+ghost use Rattle.filecalls.specs.Leaves.{deleteLeaves, makeLeaves, renameLeaves, attributesLeave};
 use crate::Drive;
 use crate::Reply;
-use answers::Refusal;
+use call_answers::Refusal;
+use call_fcb::NEW_NAME;
+use call_fcb::NEW_NAME_END;
+use disk_geometry::Geometry;
+use disk_volume::fields::NAME;
+use disk_volume::fields::NAME_END;
 
 impl Drive {
     // Function 19: every matching entry is gone, and its blocks are free.
-    pub fn delete(self, volume: &mut [u8], f: &[u8]) -> Reply
-        ensures { λ r. ⌜ left r (now (volume .exit)) (now (f .entry)) [] ≡ outcome self (now (volume .entry)) (now (f .entry)) [] (deleteAct self (now (volume .entry)) (now (f .entry))) ⌝ }
+    pub fn delete(self, volume: &mut [u8], fcb: &[u8]) -> Reply
+        ensures { λ r. ⌜
+            left r (now (volume .exit)) (now (fcb .entry)) []
+            ≡ deleteLeaves self (now (volume .entry)) (now (fcb .entry))
+            ⌝ }
     {
-        let why = self.named_why(volume, f, 128, true);
-        if !answers::is_none(why) {
+        let why = self.named_why(volume, fcb, Geometry::RECORD_BYTES, true);
+        if !call_answers::is_none(why) {
             return self.refused(why);
         }
-        let before = answers::refuse(Refusal::Protected, self.protected);
+        let before = call_answers::refuse(Refusal::Protected, self.protected);
         let g = self.geometry;
         let held = self.held;
-        let gone = deleting::delete_matches(g, volume, self.user, &f[1..12], held, before);
+        let gone = call_delete::delete_matches(
+            g,
+            volume,
+            self.user,
+            &fcb[NAME..NAME_END],
+            held,
+            before,
+        );
         let why = gone.why;
         let rest = gone.held;
         let mut drive = self;
@@ -28,49 +43,71 @@ impl Drive {
     }
 
     // Function 22: the lowest empty slot gets the file's first entry.
-    pub fn make(self, volume: &mut [u8], f: &mut [u8]) -> Reply
-        ensures { λ r. ⌜ left r (now (volume .exit)) (now (f .exit)) [] ≡ outcome self (now (volume .entry)) (now (f .entry)) [] (makeAct self (now (volume .entry)) (now (f .entry))) ⌝ }
+    pub fn make(self, volume: &mut [u8], fcb: &mut [u8]) -> Reply
+        ensures { λ r. ⌜
+            left r (now (volume .exit)) (now (fcb .exit)) []
+            ≡ makeLeaves self (now (volume .entry)) (now (fcb .entry))
+            ⌝ }
     {
-        let why = self.named_why(volume, f, 128, false);
-        if !answers::is_none(why) {
+        let why = self.named_why(volume, fcb, Geometry::RECORD_BYTES, false);
+        if !call_answers::is_none(why) {
             return self.refused(why);
         }
-        let file = making::new_file_why(f);
-        let protected = answers::refuse(Refusal::Protected, self.protected);
-        let before = answers::first_of(file, protected);
+        let file = call_make::new_file_why(fcb);
+        let protected = call_answers::refuse(Refusal::Protected, self.protected);
+        let before = call_answers::first_of(file, protected);
         let g = self.geometry;
-        let made = making::make_file(g, volume, f, self.user, before);
+        let made = call_make::make_file(g, volume, fcb, self.user, before);
         let why = made.why;
-        self.answered(why, (made.slot % 4) as u8)
+        self.answered(why, (made.slot % Geometry::RECORD_SLOTS) as u8)
     }
 
     // Function 23: all entries of the file take the new name.
-    pub fn rename(self, volume: &mut [u8], f: &[u8]) -> Reply
-        ensures { λ r. ⌜ left r (now (volume .exit)) (now (f .entry)) [] ≡ outcome self (now (volume .entry)) (now (f .entry)) [] (renameAct self (now (volume .entry)) (now (f .entry))) ⌝ }
+    pub fn rename(self, volume: &mut [u8], fcb: &[u8]) -> Reply
+        ensures { λ r. ⌜
+            left r (now (volume .exit)) (now (fcb .entry)) []
+            ≡ renameLeaves self (now (volume .entry)) (now (fcb .entry))
+            ⌝ }
     {
-        let why = self.named_why(volume, f, 128, false);
-        if !answers::is_none(why) {
+        let why = self.named_why(volume, fcb, Geometry::RECORD_BYTES, false);
+        if !call_answers::is_none(why) {
             return self.refused(why);
         }
-        let name = naming::rename::new_name_why(f);
-        let protected = answers::refuse(Refusal::Protected, self.protected);
-        let before = answers::first_of(name, protected);
+        let name = call_rename::rename::new_name_why(fcb);
+        let protected = call_answers::refuse(Refusal::Protected, self.protected);
+        let before = call_answers::first_of(name, protected);
         let g = self.geometry;
-        let why = naming::rename::rename_file(g, volume, self.user, &f[1..12], &f[17..28], before);
+        let why = call_rename::rename::rename_file(
+            g,
+            volume,
+            self.user,
+            &fcb[NAME..NAME_END],
+            &fcb[NEW_NAME..NEW_NAME_END],
+            before,
+        );
         self.answered(why, 0)
     }
 
     // Function 30: all entries of the file take the control block's attribute bits.
-    pub fn set_attributes(self, volume: &mut [u8], f: &[u8]) -> Reply
-        ensures { λ r. ⌜ left r (now (volume .exit)) (now (f .entry)) [] ≡ outcome self (now (volume .entry)) (now (f .entry)) [] (attributesAct self (now (volume .entry)) (now (f .entry))) ⌝ }
+    pub fn set_attributes(self, volume: &mut [u8], fcb: &[u8]) -> Reply
+        ensures { λ r. ⌜
+            left r (now (volume .exit)) (now (fcb .entry)) []
+            ≡ attributesLeave self (now (volume .entry)) (now (fcb .entry))
+            ⌝ }
     {
-        let why = self.named_why(volume, f, 128, false);
-        if !answers::is_none(why) {
+        let why = self.named_why(volume, fcb, Geometry::RECORD_BYTES, false);
+        if !call_answers::is_none(why) {
             return self.refused(why);
         }
-        let before = answers::refuse(Refusal::Protected, self.protected);
+        let before = call_answers::refuse(Refusal::Protected, self.protected);
         let g = self.geometry;
-        let why = naming::rename::mark_file(g, volume, self.user, &f[1..12], before);
+        let why = call_rename::rename::attribute_file(
+            g,
+            volume,
+            self.user,
+            &fcb[NAME..NAME_END],
+            before,
+        );
         self.answered(why, 0)
     }
 }

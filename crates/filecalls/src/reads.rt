@@ -3,57 +3,82 @@ ghost use mathlib.Core.Path.{_≡_};
 ghost use mathlib.Core.Bool.{false};
 ghost use Prim.Native.Nat.{_<_};
 ghost use lib.ListN.{length};
-ghost use Rattle.volume.specs.Name.{nameOf};
-ghost use Rattle.answers.specs.Refusal.{isNone};
-ghost use Rattle.reading.specs.Read.{readTests};
-ghost use Rattle.filecalls.specs.Outcome.{unless, outcome, left};
-ghost use Rattle.filecalls.specs.Read.{readDone, readSequentialAct, readRandomAct};
-ghost use Rattle.filecalls.specs.Ready.{Lent};
+ghost use Rattle.call_fcb.specs.Fcb.{fileRecords};
+ghost use Rattle.call_answers.specs.Refusal.{isNone};
+ghost use Rattle.filecalls.specs.Outcome.{outcome, left};
+ghost use Rattle.filecalls.specs.Leaves.{readSequentialLeaves, readRandomLeaves};
+ghost use Rattle.filecalls.specs.CodeLadder.{readRecordAct};
+ghost use Rattle.filecalls.specs.CodeReady.{Lent};
 use crate::Drive;
 use crate::Reply;
-use answers::Refusal;
+use call_answers::Refusal;
+use disk_geometry::Geometry;
 
 impl Drive {
     // Reads record n, where the tests of what is lent have passed.
     fn read_at(
         self,
         volume: &[u8],
-        f: &mut [u8],
+        fcb: &mut [u8],
         buffer: &mut [u8],
         n: usize,
         cr: u8,
         missing: Refusal,
     ) -> Reply
-        requires { ⌜ Lent self (length (now volume)) (length (now f)) (length (now buffer)) ⌝ }
-        requires { ⌜ (n < 65536) × (isNone missing ≡ false) ⌝ }
-        ensures { λ r. ⌜ left r (now (volume .entry)) (now (f .exit)) (now (buffer .exit)) ≡ outcome self (now (volume .entry)) (now (f .entry)) (now (buffer .entry)) (unless (readTests (self .geometry) (now (volume .entry)) (self .user) (nameOf (now (f .entry))) n missing) (readDone self (now (volume .entry)) (now (f .entry)) n cr)) ⌝ }
+        requires { ⌜ Lent self (length (now volume)) (length (now fcb)) (length (now buffer)) ⌝ }
+        requires { ⌜ (n < fileRecords) × (isNone missing ≡ false) ⌝ }
+        ensures { λ r. ⌜
+            left r (now (volume .entry)) (now (fcb .exit)) (now (buffer .exit))
+            ≡ outcome self (now (volume .entry)) (now (fcb .entry)) (now (buffer .entry))
+            (readRecordAct self (now (volume .entry)) (now (fcb .entry)) n cr missing)
+            ⌝ }
     {
         let g = self.geometry;
-        let why = reading::read::read_record(g, volume, f, buffer, self.user, n, cr, missing);
+        let why = call_read::read::read_record(g, volume, fcb, buffer, self.user, n, cr, missing);
         self.answered(why, 0)
     }
 
     // Function 20: reads at the sequential position, and moves it on.
-    pub fn read_sequential(self, volume: &[u8], f: &mut [u8], buffer: &mut [u8]) -> Reply
-        ensures { λ r. ⌜ left r (now (volume .entry)) (now (f .exit)) (now (buffer .exit)) ≡ outcome self (now (volume .entry)) (now (f .entry)) (now (buffer .entry)) (readSequentialAct self (now (volume .entry)) (now (f .entry)) (now (buffer .entry))) ⌝ }
+    pub fn read_sequential(self, volume: &[u8], fcb: &mut [u8], buffer: &mut [u8]) -> Reply
+        ensures { λ r. ⌜
+            left r (now (volume .entry)) (now (fcb .exit)) (now (buffer .exit))
+            ≡ readSequentialLeaves self (now (volume .entry)) (now (fcb .entry)) (now (buffer .entry))
+            ⌝ }
     {
-        let why = self.sequential_why(volume, f, buffer.len());
-        if !answers::is_none(why) {
+        let why = self.sequential_why(volume, fcb, buffer.len());
+        if !call_answers::is_none(why) {
             return self.refused(why);
         }
-        let n = control::position_of(f);
-        self.read_at(volume, f, buffer, n, (n % 128 + 1) as u8, Refusal::Absent)
+        let n = call_fcb::position_of(fcb);
+        self.read_at(
+            volume,
+            fcb,
+            buffer,
+            n,
+            (n % Geometry::EXTENT_RECORDS + 1) as u8,
+            Refusal::Absent,
+        )
     }
 
     // Function 33: reads the record in r0 r1.
-    pub fn read_random(self, volume: &[u8], f: &mut [u8], buffer: &mut [u8]) -> Reply
-        ensures { λ r. ⌜ left r (now (volume .entry)) (now (f .exit)) (now (buffer .exit)) ≡ outcome self (now (volume .entry)) (now (f .entry)) (now (buffer .entry)) (readRandomAct self (now (volume .entry)) (now (f .entry)) (now (buffer .entry))) ⌝ }
+    pub fn read_random(self, volume: &[u8], fcb: &mut [u8], buffer: &mut [u8]) -> Reply
+        ensures { λ r. ⌜
+            left r (now (volume .entry)) (now (fcb .exit)) (now (buffer .exit))
+            ≡ readRandomLeaves self (now (volume .entry)) (now (fcb .entry)) (now (buffer .entry))
+            ⌝ }
     {
-        let why = self.random_why(volume, f, buffer.len());
-        if !answers::is_none(why) {
+        let why = self.random_why(volume, fcb, buffer.len());
+        if !call_answers::is_none(why) {
             return self.refused(why);
         }
-        let n = control::random_of(f);
-        self.read_at(volume, f, buffer, n, (n % 128) as u8, Refusal::NoGroup)
+        let n = call_fcb::random_of(fcb);
+        self.read_at(
+            volume,
+            fcb,
+            buffer,
+            n,
+            (n % Geometry::EXTENT_RECORDS) as u8,
+            Refusal::NoGroup,
+        )
     }
 }

@@ -1,35 +1,42 @@
 // Search first (17) and next (18).
 ghost use mathlib.Core.Path.{_≡_};
-ghost use mathlib.Core.List.{List, [], _∷_};
+ghost use mathlib.Core.List.{List, []};
 ghost use Prim.Native.Nat.{ℕ, _≤_};
-ghost use lib.Dec.{leb};
 ghost use lib.ListN.{length};
-ghost use Rattle.geometry.specs.Geometry.{slots};
-ghost use Rattle.answers.specs.declared.Refusal.the-variants.{NoMatch};
-ghost use Rattle.answers.specs.Refusal.{test, firstMet};
-ghost use Rattle.filecalls.specs.Lent.{firstLent};
-ghost use Rattle.filecalls.specs.Outcome.{unless, outcome, left};
-ghost use Rattle.filecalls.specs.Search.{hit, shown, keptAt, isKept, searchFirstAct, searchNextAct};
-ghost use Rattle.filecalls.specs.Ready.{Lent};
+ghost use Rattle.disk_geometry.specs.Geometry.{slots};
+ghost use Rattle.call_fcb.specs.Fcb.{fcbBytes};
+ghost use Rattle.call_answers.specs.Refusal.{firstMet};
+ghost use Rattle.filecalls.specs.CodeLadder.{firstLent, searchOnAct};
+ghost use Rattle.filecalls.specs.Outcome.{outcome, left};
+ghost use Rattle.filecalls.specs.Search.{keptAt, isKept};
+ghost use Rattle.filecalls.specs.Leaves.{searchFirstLeaves, searchNextLeaves};
+ghost use Rattle.filecalls.specs.CodeReady.{Lent};
 use crate::Drive;
+use crate::KeptSearch;
 use crate::Reply;
-use crate::Search;
-use answers::Refusal;
-use finding::Kept;
+use call_answers::Refusal;
+use call_fcb::DR;
+use call_fcb::FCB_BYTES;
+use call_search::SearchKind;
+use disk_geometry::Geometry;
+use disk_volume::fields::EX;
+use disk_volume::fields::NAME;
+use disk_volume::fields::NAME_END;
+use disk_volume::names::WILDCARD;
 
 // Is a search open?
-fn is_open_search(kind: Kept) -> bool
+fn is_open_search(kind: SearchKind) -> bool
     ensures { λ r. ⌜ r ≡ isKept kind ⌝ }
 {
     match kind {
-        Kept::Nothing => false,
-        Kept::Pattern => true,
-        Kept::Everything => true,
+        SearchKind::Nothing => false,
+        SearchKind::Pattern => true,
+        SearchKind::Everything => true,
     }
 }
 
 // The search with its last hit in this slot.
-fn kept_at(search: Search, slot: usize) -> Search
+fn kept_at(search: KeptSearch, slot: usize) -> KeptSearch
     ensures { λ r. ⌜ r ≡ keptAt search slot ⌝ }
 {
     let mut kept = search;
@@ -39,31 +46,41 @@ fn kept_at(search: Search, slot: usize) -> Search
 
 impl Drive {
     // 32 to 35, then 42, 39 and 40 of a search.
-    fn first_why(self, volume: &[u8], f: &[u8], buffer: &[u8]) -> Refusal
-        ensures { λ r. ⌜ r ≡ firstMet (firstLent self (now (volume .entry)) (now (f .entry)) (now (buffer .entry))) ⌝ }
+    fn first_why(self, volume: &[u8], fcb: &[u8], buffer: &[u8]) -> Refusal
+        ensures { λ r. ⌜
+            r ≡ firstMet (firstLent self (now (volume .entry)) (now (fcb .entry)) (now (buffer .entry)))
+            ⌝ }
     {
-        let why = self.lent_why(volume.len(), f.len(), buffer.len());
-        if !answers::is_none(why) {
+        let why = self.lent_why(volume.len(), fcb.len(), buffer.len());
+        if !call_answers::is_none(why) {
             return why;
         }
-        let examined = f[0] != 63;
-        let good = volume::names::good_name(true, &f[1..12]);
-        let a = answers::refuse(Refusal::DriveCode, (1 < f[0]) & examined);
-        let b = answers::refuse(Refusal::Name, examined & !good);
-        let c = answers::refuse(Refusal::Position, examined & (31 < f[12]) & (f[12] != 63));
-        answers::first_of(a, answers::first_of(b, c))
+        let examined = fcb[DR] != WILDCARD;
+        let good = disk_volume::names::good_name(true, &fcb[NAME..NAME_END]);
+        let a = call_answers::refuse(Refusal::DriveCode, (1 < fcb[DR]) & examined);
+        let b = call_answers::refuse(Refusal::Name, examined & !good);
+        let c = call_answers::refuse(
+            Refusal::Position,
+            examined & (31 < fcb[EX]) & (fcb[EX] != WILDCARD),
+        );
+        call_answers::first_of(a, call_answers::first_of(b, c))
     }
 
     // The search from slot `from` on, where the tests of what is lent have passed.
-    fn search_on(self, volume: &[u8], buffer: &mut [u8], search: Search, from: usize) -> Reply
-        requires { ⌜ Lent self (length (now volume)) 36 (length (now buffer)) ⌝ }
+    fn search_on(self, volume: &[u8], buffer: &mut [u8], search: KeptSearch, from: usize) -> Reply
+        requires { ⌜ Lent self (length (now volume)) fcbBytes (length (now buffer)) ⌝ }
         requires { ⌜ from ≤ slots (self .geometry) ⌝ }
-        ensures { λ r. ⌜ ((f : List ℕ) → left r (now (volume .entry)) f (now (buffer .exit)) ≡ outcome self (now (volume .entry)) f (now (buffer .entry)) (unless (test NoMatch (leb (slots (self .geometry)) (hit (self .geometry) (now (volume .entry)) search from)) ∷ []) (shown self (now (volume .entry)) f search (hit (self .geometry) (now (volume .entry)) search from)))) ⌝ }
+        ensures { λ r. ⌜
+            ((fcb : List ℕ)
+            → left r (now (volume .entry)) fcb (now (buffer .exit))
+            ≡ outcome self (now (volume .entry)) fcb (now (buffer .entry))
+            (searchOnAct self (now (volume .entry)) fcb search from))
+            ⌝ }
     {
         let g = self.geometry;
         let kind = search.kind;
         let pattern = search.pattern;
-        let slot = finding::search::search_from(
+        let slot = call_search::search::search_from(
             g,
             volume,
             buffer,
@@ -76,22 +93,25 @@ impl Drive {
             let kept = kept_at(search, slot);
             let mut drive = self;
             drive.search = kept;
-            return drive.done((slot % 4) as u8);
+            return drive.done((slot % Geometry::RECORD_SLOTS) as u8);
         }
         self.refused(Refusal::NoMatch)
     }
 
     // Function 17: starts at slot 0, and keeps pattern and user.
-    pub fn search_first(self, volume: &[u8], f: &[u8], buffer: &mut [u8]) -> Reply
-        ensures { λ r. ⌜ left r (now (volume .entry)) (now (f .entry)) (now (buffer .exit)) ≡ outcome self (now (volume .entry)) (now (f .entry)) (now (buffer .entry)) (searchFirstAct self (now (volume .entry)) (now (f .entry)) (now (buffer .entry))) ⌝ }
+    pub fn search_first(self, volume: &[u8], fcb: &[u8], buffer: &mut [u8]) -> Reply
+        ensures { λ r. ⌜
+            left r (now (volume .entry)) (now (fcb .entry)) (now (buffer .exit))
+            ≡ searchFirstLeaves self (now (volume .entry)) (now (fcb .entry)) (now (buffer .entry))
+            ⌝ }
     {
-        let why = self.first_why(volume, f, buffer);
-        if !answers::is_none(why) {
+        let why = self.first_why(volume, fcb, buffer);
+        if !call_answers::is_none(why) {
             return self.refused(why);
         }
-        let kind = finding::search::kind_of(f[0]);
-        let pattern = finding::search::pattern_of(f);
-        let search = Search {
+        let kind = call_search::search::kind_asked(fcb[DR]);
+        let pattern = call_search::search::pattern_of(fcb);
+        let search = KeptSearch {
             kind,
             user: self.user,
             last: 0,
@@ -102,10 +122,13 @@ impl Drive {
 
     // Function 18: goes on after the last hit.
     pub fn search_next(self, volume: &[u8], buffer: &mut [u8]) -> Reply
-        ensures { λ r. ⌜ left r (now (volume .entry)) [] (now (buffer .exit)) ≡ outcome self (now (volume .entry)) [] (now (buffer .entry)) (searchNextAct self (now (volume .entry)) (now (buffer .entry))) ⌝ }
+        ensures { λ r. ⌜
+            left r (now (volume .entry)) [] (now (buffer .exit))
+            ≡ searchNextLeaves self (now (volume .entry)) (now (buffer .entry))
+            ⌝ }
     {
-        let why = self.lent_why(volume.len(), 36, buffer.len());
-        if !answers::is_none(why) {
+        let why = self.lent_why(volume.len(), FCB_BYTES, buffer.len());
+        if !call_answers::is_none(why) {
             return self.refused(why);
         }
         let search = self.search;

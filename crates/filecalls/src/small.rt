@@ -1,35 +1,40 @@
 // The calls that look at no volume: write protect (28), user (32), set random record (36).
 ghost use mathlib.Core.Path.{_≡_};
 ghost use mathlib.Core.List.{[]};
-ghost use Rattle.answers.specs.Refusal.{firstMet};
-ghost use Rattle.filecalls.specs.Outcome.{outcome, left};
-ghost use Rattle.filecalls.specs.Small.{setRandomTests, protectAct, userAct, setRandomAct};
+ghost use Rattle.call_answers.specs.Refusal.{firstMet};
+ghost use Rattle.filecalls.specs.Outcome.{left};
+ghost use Rattle.filecalls.specs.Small.{setRandomTests};
+ghost use Rattle.filecalls.specs.Leaves.{protectLeaves, userLeaves, setRandomLeaves};
 use crate::Drive;
 use crate::Reply;
-use answers::Answer;
-use answers::Refusal;
+use call_answers::Refusal;
+use call_fcb::CR;
+use call_fcb::DR;
+use call_fcb::FCB_BYTES;
+use disk_volume::fields::EX;
+use disk_volume::fields::S2;
 
 impl Drive {
     // 32, 34, 42 and 40 of function 36, which is lent no volume.
-    fn position_why(self, f: &[u8]) -> Refusal
-        ensures { λ r. ⌜ r ≡ firstMet (setRandomTests self (now (f .entry))) ⌝ }
+    fn position_why(self, fcb: &[u8]) -> Refusal
+        ensures { λ r. ⌜ r ≡ firstMet (setRandomTests self (now (fcb .entry))) ⌝ }
     {
         if !self.is_open() {
             return Refusal::Closed;
         }
-        let whole = f.len() == 36;
+        let whole = fcb.len() == FCB_BYTES;
         if !whole {
-            return Refusal::BlockLength;
+            return Refusal::FcbLength;
         }
-        let fits = (f[12] <= 31) & (f[14] <= 15) & (f[32] <= 128);
-        let a = answers::refuse(Refusal::DriveCode, 1 < f[0]);
-        let b = answers::refuse(Refusal::Position, !fits);
-        answers::first_of(a, b)
+        let fits = (fcb[EX] <= 31) & (fcb[S2] <= 15) & (fcb[CR] <= 128);
+        let a = call_answers::refuse(Refusal::DriveCode, 1 < fcb[DR]);
+        let b = call_answers::refuse(Refusal::Position, !fits);
+        call_answers::first_of(a, b)
     }
 
     // Function 28: protects the drive until the next log-in.
     pub fn protect(self) -> Reply
-        ensures { λ r. ⌜ left r [] [] [] ≡ outcome self [] [] [] (protectAct self) ⌝ }
+        ensures { λ r. ⌜ left r [] [] [] ≡ protectLeaves self ⌝ }
     {
         if !self.is_open() {
             return self.refused(Refusal::Closed);
@@ -41,7 +46,7 @@ impl Drive {
 
     // Function 32: sets the user, or answers the current one for 255.
     pub fn user_code(self, code: u8) -> Reply
-        ensures { λ r. ⌜ left r [] [] [] ≡ outcome self [] [] [] (userAct self code) ⌝ }
+        ensures { λ r. ⌜ left r [] [] [] ≡ userLeaves self code ⌝ }
     {
         if !self.is_open() {
             return self.refused(Refusal::Closed);
@@ -58,15 +63,15 @@ impl Drive {
     }
 
     // Function 36: the sequential position in r0 r1 r2.
-    pub fn set_random(self, f: &mut [u8]) -> Reply
-        ensures { λ r. ⌜ left r [] (now (f .exit)) [] ≡ outcome self [] (now (f .entry)) [] (setRandomAct self (now (f .entry))) ⌝ }
+    pub fn set_random(self, fcb: &mut [u8]) -> Reply
+        ensures { λ r. ⌜ left r [] (now (fcb .exit)) [] ≡ setRandomLeaves self (now (fcb .entry)) ⌝ }
     {
-        let why = self.position_why(f);
-        if !answers::is_none(why) {
+        let why = self.position_why(fcb);
+        if !call_answers::is_none(why) {
             return self.refused(why);
         }
-        let n = control::position_of(f);
-        control::set_random(f, n);
+        let n = call_fcb::position_of(fcb);
+        call_fcb::set_random(fcb, n);
         self.done(0)
     }
 }

@@ -2,36 +2,40 @@
 ghost use mathlib.Core.Path.{_≡_};
 ghost use mathlib.Core.Bool.{true, false, cond};
 ghost use lib.ListN.{length};
-ghost use Rattle.answers.specs.Refusal.{isNone};
-ghost use Rattle.answers.specs.declared.Answer.the-variants.{Done, Refused};
+ghost use Rattle.call_answers.specs.Refusal.{isNone};
+ghost use Rattle.call_answers.specs.declared.Answer.the-variants.{Done, Refused};
 ghost use Rattle.filecalls.specs.declared.Reply.{Reply};
+ghost use Rattle.call_search.specs.Search.{patternBytes};
 ghost use Rattle.filecalls.specs.State.{goodPattern, goodKept, isOpen, closed};
 use crate::Drive;
+use crate::KeptSearch;
 use crate::Reply;
-use crate::Search;
-use answers::Answer;
-use answers::Refusal;
-use finding::Kept;
-use geometry::Geometry;
+use call_answers::Answer;
+use call_answers::Refusal;
+use call_search::PATTERN_BYTES;
+use call_search::SearchKind;
+use disk_geometry::Geometry;
+use disk_volume::fields::NAME_BYTES;
+use disk_volume::names::WILDCARD;
 
 // Did the pattern pass 39 and 40?
 fn is_pattern(pattern: &[u8]) -> bool
-    requires { ⌜ length (now pattern) ≡ 12 ⌝ }
+    requires { ⌜ length (now pattern) ≡ patternBytes ⌝ }
     ensures { λ r. ⌜ r ≡ goodPattern (now (pattern .entry)) ⌝ }
 {
-    let ex = pattern[11];
-    volume::names::good_name(true, &pattern[0..11]) & ((ex <= 31) | (ex == 63))
+    let ex = pattern[NAME_BYTES];
+    disk_volume::names::good_name(true, &pattern[0..NAME_BYTES]) & ((ex <= 31) | (ex == WILDCARD))
 }
 
 // Is a kept search of this kind within the rules, n being the number of slots?
-fn is_kept(kind: Kept, user: u8, last: usize, pattern: &[u8], n: usize) -> bool
-    requires { ⌜ length (now pattern) ≡ 12 ⌝ }
+fn is_kept(kind: SearchKind, user: u8, last: usize, pattern: &[u8], n: usize) -> bool
+    requires { ⌜ length (now pattern) ≡ patternBytes ⌝ }
     ensures { λ r. ⌜ r ≡ goodKept kind user last (now (pattern .entry)) n ⌝ }
 {
     match kind {
-        Kept::Nothing => true,
-        Kept::Pattern => (user <= 15) & (last < n) & is_pattern(pattern),
-        Kept::Everything => (user <= 15) & (last < n),
+        SearchKind::Nothing => true,
+        SearchKind::Pattern => (user <= 15) & (last < n) & is_pattern(pattern),
+        SearchKind::Everything => (user <= 15) & (last < n),
     }
 }
 
@@ -41,13 +45,13 @@ impl Drive {
         ensures { λ r. ⌜ r ≡ closed ⌝ }
     {
         let geometry = Geometry {
-            block: 0,
-            total: 0,
-            directory: 0,
+            block_bytes: 0,
+            blocks: 0,
+            directory_blocks: 0,
         };
-        let pattern = [0u8; 12];
-        let search = Search {
-            kind: Kept::Nothing,
+        let pattern = [0u8; PATTERN_BYTES];
+        let search = KeptSearch {
+            kind: SearchKind::Nothing,
             user: 0,
             last: 0,
             pattern,
@@ -101,7 +105,7 @@ impl Drive {
     pub(crate) fn answered(self, why: Refusal, code: u8) -> Reply
         ensures { λ r. ⌜ r ≡ record { answer = cond (isNone why) (Done code) (Refused why); drive = self } ⌝ }
     {
-        if answers::is_none(why) {
+        if call_answers::is_none(why) {
             return self.done(code);
         }
         self.refused(why)

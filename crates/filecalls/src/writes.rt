@@ -2,12 +2,15 @@
 ghost use mathlib.Core.Path.{_≡_};
 ghost use Prim.Native.Nat.{_<_};
 ghost use lib.ListN.{length};
+ghost use Rattle.call_fcb.specs.Fcb.{fileRecords};
 ghost use Rattle.filecalls.specs.Outcome.{unless, outcome, left};
-ghost use Rattle.filecalls.specs.Write.{directoryTests, writeDone, writeSequentialAct, writeDirectAct, writeRandomAct, writeZeroFillAct};
-ghost use Rattle.filecalls.specs.Ready.{Lent};
+ghost use Rattle.filecalls.specs.Leaves.{writeSequentialLeaves, writeRandomLeaves, writeZeroFillLeaves};
+ghost use Rattle.filecalls.specs.Write.{directoryTests, writeDone, writeDirectAct};
+ghost use Rattle.filecalls.specs.CodeReady.{Lent};
 use crate::Drive;
 use crate::Reply;
-use answers::Refusal;
+use call_answers::Refusal;
+use disk_geometry::Geometry;
 
 impl Drive {
     // Writes record n, where the tests of what is lent have passed. If it `fills`, a block that it gives is first filled with
@@ -15,26 +18,31 @@ impl Drive {
     fn write_at(
         self,
         volume: &mut [u8],
-        f: &mut [u8],
+        fcb: &mut [u8],
         buffer: &[u8],
         n: usize,
         cr: u8,
         fills: bool,
     ) -> Reply
-        requires { ⌜ Lent self (length (now volume)) (length (now f)) (length (now buffer)) ⌝ }
-        requires { ⌜ n < 65536 ⌝ }
-        ensures { λ r. ⌜ left r (now (volume .exit)) (now (f .exit)) (now (buffer .entry)) ≡ outcome self (now (volume .entry)) (now (f .entry)) (now (buffer .entry)) (unless (directoryTests self (now (volume .entry)) (now (f .entry)) n) (writeDone self (now (volume .entry)) (now (f .entry)) n cr fills (now (buffer .entry)))) ⌝ }
+        requires { ⌜ Lent self (length (now volume)) (length (now fcb)) (length (now buffer)) ⌝ }
+        requires { ⌜ n < fileRecords ⌝ }
+        ensures { λ r. ⌜
+            left r (now (volume .exit)) (now (fcb .exit)) (now (buffer .entry))
+            ≡ outcome self (now (volume .entry)) (now (fcb .entry)) (now (buffer .entry))
+            (unless (directoryTests self (now (volume .entry)) (now (fcb .entry)) n)
+            (writeDone self (now (volume .entry)) (now (fcb .entry)) n cr fills (now (buffer .entry))))
+            ⌝ }
     {
         if self.protected {
             return self.refused(Refusal::Protected);
         }
         let g = self.geometry;
         let held = self.held;
-        let written = writing::write::write_record(
+        let written = call_write::write::write_record(
             g,
             fills,
             volume,
-            f,
+            fcb,
             buffer,
             self.user,
             held,
@@ -49,40 +57,67 @@ impl Drive {
     }
 
     // Function 21: writes at the sequential position, and moves it on.
-    pub fn write_sequential(self, volume: &mut [u8], f: &mut [u8], buffer: &[u8]) -> Reply
-        ensures { λ r. ⌜ left r (now (volume .exit)) (now (f .exit)) (now (buffer .entry)) ≡ outcome self (now (volume .entry)) (now (f .entry)) (now (buffer .entry)) (writeSequentialAct self (now (volume .entry)) (now (f .entry)) (now (buffer .entry))) ⌝ }
+    pub fn write_sequential(self, volume: &mut [u8], fcb: &mut [u8], buffer: &[u8]) -> Reply
+        ensures { λ r. ⌜
+            left r (now (volume .exit)) (now (fcb .exit)) (now (buffer .entry))
+            ≡ writeSequentialLeaves self (now (volume .entry)) (now (fcb .entry)) (now (buffer .entry))
+            ⌝ }
     {
-        let why = self.sequential_why(volume, f, buffer.len());
-        if !answers::is_none(why) {
+        let why = self.sequential_why(volume, fcb, buffer.len());
+        if !call_answers::is_none(why) {
             return self.refused(why);
         }
-        let n = control::position_of(f);
-        self.write_at(volume, f, buffer, n, (n % 128 + 1) as u8, false)
+        let n = call_fcb::position_of(fcb);
+        self.write_at(
+            volume,
+            fcb,
+            buffer,
+            n,
+            (n % Geometry::EXTENT_RECORDS + 1) as u8,
+            false,
+        )
     }
 
     // Functions 34 and 40: writes the record in r0 r1.
-    fn write_direct(self, volume: &mut [u8], f: &mut [u8], buffer: &[u8], fills: bool) -> Reply
-        ensures { λ r. ⌜ left r (now (volume .exit)) (now (f .exit)) (now (buffer .entry)) ≡ outcome self (now (volume .entry)) (now (f .entry)) (now (buffer .entry)) (writeDirectAct fills self (now (volume .entry)) (now (f .entry)) (now (buffer .entry))) ⌝ }
+    fn write_direct(self, volume: &mut [u8], fcb: &mut [u8], buffer: &[u8], fills: bool) -> Reply
+        ensures { λ r. ⌜
+            left r (now (volume .exit)) (now (fcb .exit)) (now (buffer .entry))
+            ≡ outcome self (now (volume .entry)) (now (fcb .entry)) (now (buffer .entry))
+            (writeDirectAct fills self (now (volume .entry)) (now (fcb .entry)) (now (buffer .entry)))
+            ⌝ }
     {
-        let why = self.random_why(volume, f, buffer.len());
-        if !answers::is_none(why) {
+        let why = self.random_why(volume, fcb, buffer.len());
+        if !call_answers::is_none(why) {
             return self.refused(why);
         }
-        let n = control::random_of(f);
-        self.write_at(volume, f, buffer, n, (n % 128) as u8, fills)
+        let n = call_fcb::random_of(fcb);
+        self.write_at(
+            volume,
+            fcb,
+            buffer,
+            n,
+            (n % Geometry::EXTENT_RECORDS) as u8,
+            fills,
+        )
     }
 
     // Function 34: writes the record in r0 r1.
-    pub fn write_random(self, volume: &mut [u8], f: &mut [u8], buffer: &[u8]) -> Reply
-        ensures { λ r. ⌜ left r (now (volume .exit)) (now (f .exit)) (now (buffer .entry)) ≡ outcome self (now (volume .entry)) (now (f .entry)) (now (buffer .entry)) (writeRandomAct self (now (volume .entry)) (now (f .entry)) (now (buffer .entry))) ⌝ }
+    pub fn write_random(self, volume: &mut [u8], fcb: &mut [u8], buffer: &[u8]) -> Reply
+        ensures { λ r. ⌜
+            left r (now (volume .exit)) (now (fcb .exit)) (now (buffer .entry))
+            ≡ writeRandomLeaves self (now (volume .entry)) (now (fcb .entry)) (now (buffer .entry))
+            ⌝ }
     {
-        self.write_direct(volume, f, buffer, false)
+        self.write_direct(volume, fcb, buffer, false)
     }
 
     // Function 40: the same, and a block that the record's place is given is first filled with zeros.
-    pub fn write_zero_fill(self, volume: &mut [u8], f: &mut [u8], buffer: &[u8]) -> Reply
-        ensures { λ r. ⌜ left r (now (volume .exit)) (now (f .exit)) (now (buffer .entry)) ≡ outcome self (now (volume .entry)) (now (f .entry)) (now (buffer .entry)) (writeZeroFillAct self (now (volume .entry)) (now (f .entry)) (now (buffer .entry))) ⌝ }
+    pub fn write_zero_fill(self, volume: &mut [u8], fcb: &mut [u8], buffer: &[u8]) -> Reply
+        ensures { λ r. ⌜
+            left r (now (volume .exit)) (now (fcb .exit)) (now (buffer .entry))
+            ≡ writeZeroFillLeaves self (now (volume .entry)) (now (fcb .entry)) (now (buffer .entry))
+            ⌝ }
     {
-        self.write_direct(volume, f, buffer, true)
+        self.write_direct(volume, fcb, buffer, true)
     }
 }

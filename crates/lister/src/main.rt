@@ -10,7 +10,10 @@ use libc::STDOUT_FILENO;
 // The listing, whole, in the first bytes of `out`, and how many they are.
 fn lay(volume: &[u8], out: &mut [u8]) -> usize
     requires { ⌜ room ≤ length (now out) ⌝ }
-    ensures { λ r. ⌜ (take r (now (out .exit)) ≡ listing (now (volume .entry))) × (r ≤ length (now (out .exit))) ⌝ }
+    ensures { λ r. ⌜
+        (take r (now (out .exit)) ≡ listing (now (volume .entry)))
+        × (r ≤ length (now (out .exit)))
+        ⌝ }
 {
     listing::list(volume, out)
 }
@@ -23,8 +26,10 @@ fn print(volume: &[u8], out: &mut [u8])
 }
 
 // One byte more than a volume has is room enough to notice a longer input.
+const INPUT_BYTES: usize = listing::VOLUME_BYTES + 1;
+
 fn main() {
-    let mut volume = [0u8; 40961];
+    let mut volume = [0u8; INPUT_BYTES];
     let n = io::read_full(STDIN_FILENO, &mut volume);
     let mut out = [0u8; listing::ROOM];
     print(&volume[..n], &mut out);

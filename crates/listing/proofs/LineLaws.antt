@@ -8,21 +8,21 @@ use native.Mathlib.Omega.{arith}
 use lib.Dec.{eqb}
 use lib.ListN.{length, length-append, length-take}
 use borrow.Author.Tests.{eqb-true, ne-eqb, not-true}
-use Rattle.lists.specs.Search.{countFrom, fold}
+use Rattle.lists.specs.Bounded.{countFrom, fold}
 use Rattle.lists.specs.Bytes.{byte, part}
 use Rattle.lists.proofs.BoolLaws.{and-left}
-use Rattle.blocks.proofs.CountLaws.{count-not}
-use Rattle.geometry.specs.declared.Geometry.{Geometry}
-use Rattle.geometry.specs.Geometry.{slots, places}
-use Rattle.volume.specs.Name.{strip, nameOf, same}
-use Rattle.volume.specs.Entry.{Entry, isEmpty, ofFile}
-use Rattle.volume.specs.Directory.{slotAt}
-use Rattle.volume.proofs.NameLaws.{length-strip}
-use Rattle.goodslots.specs.GoodSlot.{goodSlot}
-use Rattle.goodslots.proofs.GoodLaws.{Fields, fields-good, good-facts}
+use Rattle.disk_held.proofs.CountLaws.{count-not}
+use Rattle.disk_geometry.specs.declared.Geometry.{Geometry}
+use Rattle.disk_geometry.specs.Geometry.{slots, places}
+use Rattle.disk_volume.specs.Name.{strip, nameOf, same}
+use Rattle.disk_volume.specs.Entry.{Entry, isEmpty, ofFile}
+use Rattle.disk_volume.specs.Directory.{slotAt}
+use Rattle.disk_volume.proofs.NameLaws.{length-strip}
+use Rattle.disk_rules.specs.GoodSlot.{goodSlot}
+use Rattle.disk_rules.proofs.GoodLaws.{Fields, fields-good, good-facts}
 use Rattle.text.specs.Decimal.{decimal}
 use Rattle.text.proofs.DecimalLaws.{decimal-one, decimal-more}
-use Rattle.measuring.specs.Size.{entryEnd, larger, sizeOf}
+use Rattle.call_size.specs.Size.{entryEnd, larger, sizeOf}
 use Rattle.listing.specs.Listing.{isUsed, usedPlaces, moreBlocks, blocksOf, isListed, nameText, line, lineAt, linesFrom}
 
 -- ---- how many digits a number has

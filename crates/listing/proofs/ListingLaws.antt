@@ -9,20 +9,19 @@ use lib.Dec.{eqb}
 use lib.ListN.{length, getD, drop, drop-of-length-le}
 use lib.Seq.{drop-cons}
 use borrow.Author.Tests.{eqb-true}
-use Rattle.lists.specs.Search.{countFrom}
-use Rattle.geometry.specs.declared.Geometry.{Geometry}
-use Rattle.geometry.specs.Geometry.{lawful, bytes}
-use Rattle.volume.specs.Name.{strip}
+use Rattle.lists.specs.Bounded.{countFrom}
+use Rattle.disk_geometry.specs.declared.Geometry.{Geometry}
+use Rattle.disk_geometry.specs.Geometry.{lawful, bytes}
+use Rattle.disk_volume.specs.Name.{strip}
 use Rattle.text.specs.Text.{Text, text, puts}
-use Rattle.text.specs.Decimal.{decimal}
 use Rattle.text.proofs.TextLaws.{Wrote, wrote, puts-append, puts-within}
-use Rattle.answers.specs.declared.Refusal.the-variants.{VolumeLength}
-use Rattle.answers.specs.declared.Answer.{Answer}
-use Rattle.answers.specs.declared.Answer.the-variants.{Ready, Refused}
-use Rattle.answers.specs.Refusal.{firstMet}
+use Rattle.call_answers.specs.declared.Refusal.the-variants.{VolumeLength}
+use Rattle.call_answers.specs.declared.Answer.{Answer}
+use Rattle.call_answers.specs.declared.Answer.the-variants.{Ready, Refused}
+use Rattle.call_answers.specs.Refusal.{firstMet}
 use Rattle.filecalls.specs.declared.Reply.{Reply}
 use Rattle.filecalls.specs.LogIn.{logIn, logInTests, refusedLogIn}
-use Rattle.listing.specs.Listing.{geometryV, lineAt, linesFrom, listingFor, listing}
+use Rattle.listing.specs.Listing.{geometryV, lineAt, linesFrom, refused, listingFor, listing}
 
 less : (n i : ℕ) → i < n → n - i ≡ suc (n - (i + 1))
 less n i h = omega arith
@@ -67,9 +66,9 @@ pub lines-end : (g : Geometry) (v : List ℕ) (n i : ℕ) (t : Text) → n ≤ i
 unfolding linesFrom puts
 lines-end g v n i t h = let z : n - i ≡ 0 = omega arith in rw z
 
--- ---- a number that was appended is the one meant
-pub wrote-number : {t u : Text} {m : ℕ} (n : ℕ) → m ≡ n → u ≡ puts t (decimal m) → Wrote t (decimal n) u
-wrote-number {t} {u} {m} n e w = wrote (decimal n) (w ∙ ap (λ (k : ℕ). puts t (decimal k)) e)
+-- ---- a refusal that was appended is that of the answer
+pub wrote-refused : {t u : Text} {a b : Answer} → a ≡ b → u ≡ puts t (refused a) → Wrote t (refused b) u
+wrote-refused {t} {u} {a} {b} e w = wrote (refused b) (w ∙ ap (λ (x : Answer). puts t (refused x)) e)
 
 -- ---- a volume that log-in accepts has V's length
 pub whole : (v : List ℕ) (free : ℕ) → logIn geometryV v .answer ≡ Ready free → length v ≡ bytes geometryV

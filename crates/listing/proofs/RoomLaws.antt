@@ -8,17 +8,18 @@ use lib.Dec.{eqb, ltb}
 use lib.ListN.{length, take, drop, length-append}
 use lib.Seq.{take-at}
 use borrow.Author.Tests.{ltb-false}
-use Rattle.blocks.specs.Held.{freeCount, isFree}
-use Rattle.geometry.specs.Geometry.{lawful, bytes, slots}
-use Rattle.goodslots.specs.GoodSlot.{lowestBad}
-use Rattle.goodslots.specs.Named.{heldOf}
-use Rattle.goodslots.proofs.AcceptedLaws.{lowest-bad-le, accepted}
+use Rattle.disk_held.specs.Held.{freeCount, isFree}
+use Rattle.disk_geometry.specs.Geometry.{lawful, bytes, slots}
+use Rattle.disk_rules.specs.GoodSlot.{lowestBad}
+use Rattle.disk_rules.specs.Named.{heldOf}
+use Rattle.disk_rules.proofs.AcceptedLaws.{lowest-bad-le, accepted}
 use Rattle.text.specs.Text.{Text, text, puts}
 use Rattle.text.proofs.TextLaws.{puts-room}
-use Rattle.answers.specs.declared.Refusal.the-variants.{VolumeLength}
-use Rattle.answers.specs.declared.Answer.{Answer}
-use Rattle.answers.specs.declared.Answer.the-variants.{Ready, BadSlot, Refused}
-use Rattle.answers.specs.Refusal.{firstMet}
+use Rattle.call_answers.specs.declared.Refusal.the-variants.{VolumeLength}
+use Rattle.call_answers.specs.declared.Answer.{Answer}
+use Rattle.call_answers.specs.declared.Answer.the-variants.{Ready, BadSlot, Refused}
+use Rattle.call_answers.specs.Answer.{numberOf}
+use Rattle.call_answers.specs.Refusal.{firstMet}
 use Rattle.filecalls.specs.LogIn.{logIn, logInTests, refusedLogIn}
 use Rattle.listing.specs.Listing.{geometryV, listingFor, listing}
 use Rattle.listing.specs.Listing as the
@@ -52,12 +53,12 @@ module _ (v : List ℕ) where
   unfolding listingFor
   bad-short =
       let slot = two-digits (lowestBad geometryV v) (omega (arith, lowest-bad-le geometryV v)) in
-      let number = two-digits 36 (omega arith) in
+      let number = two-digits (numberOf (BadSlot 0)) (omega arith) in
       simp length-append (omega (arith, slot, number))
 
   refused-short : length (listingFor (Refused VolumeLength) geometryV v) ≤ room
   unfolding listingFor
-  refused-short = simp length-append (omega (arith, two-digits 33 (omega arith)))
+  refused-short = simp length-append (omega (arith, two-digits (numberOf (Refused VolumeLength)) (omega arith)))
 
   listing-short : length (listing v) ≤ room
   unfolding listing listingFor

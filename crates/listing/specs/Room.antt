@@ -13,4 +13,5 @@ room = 1024
 pub record Fits : Type 0 where
   pub short : (v : List ℕ) → length (listing v) ≤ room
   -- appended to a buffer that has this room, it is what the buffer begins with
-  pub whole : (v out after : List ℕ) (n : ℕ) → room ≤ length out → text after n ≡ puts (text out 0) (listing v) → take n after ≡ listing v
+  pub whole : (v out after : List ℕ) (n : ℕ) → room ≤ length out → text after n ≡ puts (text out 0) (listing v)
+      → take n after ≡ listing v

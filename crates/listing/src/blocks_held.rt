@@ -1,20 +1,20 @@
 // The blocks that a file holds, over all of its entries.
 ghost use mathlib.Core.Path.{_≡_};
-ghost use mathlib.Core.Bool.{true, cond};
+ghost use mathlib.Core.Bool.{cond};
 ghost use Prim.Native.Nat.{_+_, _*_, _≤_, _<_};
-ghost use lib.ListN.{length};
-ghost use Rattle.geometry.specs.Geometry.{lawful, bytes, slots, places};
-ghost use Rattle.volume.specs.Name.{strip};
+ghost use Rattle.disk_geometry.specs.Geometry.{slots, places};
+ghost use Rattle.disk_volume.specs.Name.{strip};
+ghost use Rattle.disk_volume.specs.CodeLent.{VolumeAnd, IsName, IsEntry};
 ghost use Rattle.listing.specs.Listing.{isUsed, usedPlaces, moreBlocks, blocksOf};
-use geometry::Geometry;
-use volume::Wanted;
+use disk_geometry::Geometry;
+use disk_volume::Wanted;
 
 // 1 where place p of the entry's map names a block, else 0.
 fn used_at(g: Geometry, e: &[u8], p: usize) -> usize
-    requires { ⌜ (p < places g) × (length (now e) ≡ 32) ⌝ }
+    requires { ⌜ (p < places g) × IsEntry (now e) ⌝ }
     ensures { λ r. ⌜ (r ≡ cond (isUsed g (now (e .entry)) p) 1 0) × (r ≤ 1) ⌝ }
 {
-    if volume::entry::block_in(g, e, p) != 0 {
+    if disk_volume::entry::block_in(g, e, p) != 0 {
         1
     } else {
         0
@@ -23,7 +23,7 @@ fn used_at(g: Geometry, e: &[u8], p: usize) -> usize
 
 // How many places of the entry's map name a block.
 fn used_places(g: Geometry, e: &[u8]) -> usize
-    requires { ⌜ length (now e) ≡ 32 ⌝ }
+    requires { ⌜ IsEntry (now e) ⌝ }
     ensures { λ r. ⌜ (r ≡ usedPlaces g (now (e .entry))) × (r ≤ 16) ⌝ }
 {
     let n = g.places();
@@ -38,20 +38,29 @@ fn used_places(g: Geometry, e: &[u8]) -> usize
 
 // m and the blocks that slot i holds for the file.
 fn more_blocks(g: Geometry, volume: &[u8], user: u8, name: &[u8], m: usize, i: usize) -> usize
-    requires { ⌜ (lawful g ≡ true) × ((length (now volume) ≡ bytes g) × (length (now name) ≡ 11)) ⌝ }
+    requires { ⌜ VolumeAnd g (now volume) (IsName (now name)) ⌝ }
     requires { ⌜ (i < slots g) × (m ≤ 16 * i) ⌝ }
-    ensures { λ r. ⌜ (r ≡ moreBlocks g (now (volume .entry)) user (strip (now (name .entry))) m i) × (r ≤ 16 * (i + 1)) ⌝ }
+    ensures { λ r. ⌜
+        (r ≡ moreBlocks g (now (volume .entry)) user (strip (now (name .entry))) m i)
+        × (r ≤ 16 * (i + 1))
+        ⌝ }
 {
     let at = g.slot_start(i);
-    if !volume::entry::has(g, &volume[at..at + 32], user, name, Wanted::File) {
+    if !disk_volume::entry::has(
+        g,
+        &volume[at..at + Geometry::ENTRY_BYTES],
+        user,
+        name,
+        Wanted::File,
+    ) {
         return m;
     }
-    m + used_places(g, &volume[at..at + 32])
+    m + used_places(g, &volume[at..at + Geometry::ENTRY_BYTES])
 }
 
 // The blocks that the file holds.
 pub(crate) fn blocks_of(g: Geometry, volume: &[u8], user: u8, name: &[u8]) -> usize
-    requires { ⌜ (lawful g ≡ true) × ((length (now volume) ≡ bytes g) × (length (now name) ≡ 11)) ⌝ }
+    requires { ⌜ VolumeAnd g (now volume) (IsName (now name)) ⌝ }
     ensures { λ r. ⌜ r ≡ blocksOf g (now (volume .entry)) user (strip (now (name .entry))) ⌝ }
 {
     let n = g.slots();

@@ -1,17 +1,18 @@
 // The listing of a volume of V's geometry: the text that the lister prints, laid into a lent buffer.
 ghost use mathlib.Core.Path.{_≡_};
-ghost use mathlib.Core.List.{_++_};
 ghost use Prim.Native.Nat.{_≤_};
 ghost use lib.ListN.{length};
 ghost use Rattle.text.specs.Text.{text, puts};
-ghost use Rattle.listing.specs.Listing.{geometryV, refusedWord, listing};
-ghost use Rattle.text.specs.Decimal.{decimal};
-use answers::Answer;
+ghost use Rattle.listing.specs.Listing.{geometryV, refused, listing};
+use call_answers::Answer;
+use disk_geometry::Geometry;
 use filecalls::Drive;
-use geometry::Geometry;
 
 mod blocks_held;
 mod lines;
+
+// A volume of V's geometry has so many bytes.
+pub const VOLUME_BYTES: usize = 40960;
 
 // No listing has more bytes than this.
 pub const ROOM: usize = 1024;
@@ -21,24 +22,27 @@ fn geometry() -> Geometry
     ensures { λ r. ⌜ r ≡ geometryV ⌝ }
 {
     Geometry {
-        block: 1024,
-        total: 40,
-        directory: 1,
+        block_bytes: 1024,
+        blocks: 40,
+        directory_blocks: 1,
     }
 }
 
 // The word and the number of a refusal.
-fn put_refused(out: &mut [u8], number: u8) -> usize
-    ensures { λ r. ⌜ text (now (out .exit)) r ≡ puts (text (now (out .entry)) 0) (refusedWord ++ decimal number) ⌝ }
+fn put_refused(out: &mut [u8], answer: Answer) -> usize
+    ensures { λ r. ⌜ text (now (out .exit)) r ≡ puts (text (now (out .entry)) 0) (refused answer) ⌝ }
 {
     let at = text::put_bytes(out, 0, b"REFUSED ");
-    text::put_decimal(out, at, lists::wide(number))
+    text::put_decimal(out, at, lists::wide(call_answers::number(answer)))
 }
 
 // The listing of the volume, as far as `out` has room, and how many bytes it has taken. In a buffer of ROOM bytes it is
 // whole: theorem `fits`.
 pub fn list(volume: &[u8], out: &mut [u8]) -> usize
-    ensures { λ r. ⌜ text (now (out .exit)) r ≡ puts (text (now (out .entry)) 0) (listing (now (volume .entry))) ⌝ }
+    ensures { λ r. ⌜
+        text (now (out .exit)) r
+        ≡ puts (text (now (out .entry)) 0) (listing (now (volume .entry)))
+        ⌝ }
     ensures { λ r. ⌜ r ≤ length (now (out .exit)) ⌝ }
 {
     let g = geometry();
@@ -47,13 +51,13 @@ pub fn list(volume: &[u8], out: &mut [u8]) -> usize
     match answer {
         Answer::Ready(free) => lines::put_accepted(g, volume, free, out),
         Answer::BadSlot(slot) => {
-            let a = put_refused(out, 36);
+            let a = put_refused(out, answer);
             let b = text::put_byte(out, a, b' ');
             let c = text::put_decimal(out, b, slot);
             text::put_byte(out, c, b'\n')
         }
-        Answer::Refused(why) => {
-            let a = put_refused(out, answers::refusal_number(why));
+        Answer::Refused(_) => {
+            let a = put_refused(out, answer);
             text::put_byte(out, a, b'\n')
         }
         Answer::Done(_) => 0,

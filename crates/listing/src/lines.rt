@@ -1,15 +1,20 @@
 // The lines of a listing: the header, a line for each file by its lowest slot, and the free blocks.
 ghost use mathlib.Core.Path.{_≡_};
-ghost use mathlib.Core.Bool.{true};
 ghost use Prim.Native.Nat.{_<_};
-ghost use lib.ListN.{length};
-ghost use Rattle.geometry.specs.Geometry.{lawful, bytes, slots};
-ghost use Rattle.volume.specs.Name.{strip};
+ghost use Rattle.disk_geometry.specs.Geometry.{slots};
+ghost use Rattle.disk_volume.specs.Name.{strip};
+ghost use Rattle.disk_volume.specs.CodeLent.{IsVolume, VolumeAnd, IsEntry};
 ghost use Rattle.text.specs.Text.{text, puts};
 ghost use Rattle.listing.specs.Listing.{isListed, nameText, line, lineAt, linesFrom, accepted};
 use crate::blocks_held;
-use geometry::Geometry;
-use volume::Wanted;
+use disk_geometry::Geometry;
+use disk_volume::Wanted;
+use disk_volume::fields::EMPTY;
+use disk_volume::fields::NAME;
+use disk_volume::fields::NAME_END;
+use disk_volume::fields::TYPE;
+use disk_volume::fields::USER;
+use disk_volume::names::TOP_BIT;
 
 // The bytes of s without their top bits.
 fn put_stripped(out: &mut [u8], at: usize, s: &[u8]) -> usize
@@ -18,7 +23,7 @@ fn put_stripped(out: &mut [u8], at: usize, s: &[u8]) -> usize
     let mut p = at;
     let mut i = 0;
     while i < s.len() {
-        p = text::put_byte(out, p, s[i] % 128);
+        p = text::put_byte(out, p, s[i] % TOP_BIT);
         i += 1;
     }
     p
@@ -26,22 +31,25 @@ fn put_stripped(out: &mut [u8], at: usize, s: &[u8]) -> usize
 
 // Name, full stop and type of an entry.
 fn put_name(out: &mut [u8], at: usize, e: &[u8]) -> usize
-    requires { ⌜ length (now e) ≡ 32 ⌝ }
+    requires { ⌜ IsEntry (now e) ⌝ }
     ensures { λ r. ⌜ text (now (out .exit)) r ≡ puts (text (now (out .entry)) at) (nameText (now (e .entry))) ⌝ }
 {
-    let a = put_stripped(out, at, &e[1..9]);
+    let a = put_stripped(out, at, &e[NAME..TYPE]);
     let b = text::put_byte(out, a, b'.');
-    put_stripped(out, b, &e[9..12])
+    put_stripped(out, b, &e[TYPE..NAME_END])
 }
 
 // The line of the file that has this entry.
 fn put_line(g: Geometry, volume: &[u8], e: &[u8], out: &mut [u8], at: usize) -> usize
-    requires { ⌜ (lawful g ≡ true) × ((length (now volume) ≡ bytes g) × (length (now e) ≡ 32)) ⌝ }
-    ensures { λ r. ⌜ text (now (out .exit)) r ≡ puts (text (now (out .entry)) at) (line g (now (volume .entry)) (now (e .entry))) ⌝ }
+    requires { ⌜ VolumeAnd g (now volume) (IsEntry (now e)) ⌝ }
+    ensures { λ r. ⌜
+        text (now (out .exit)) r
+        ≡ puts (text (now (out .entry)) at) (line g (now (volume .entry)) (now (e .entry)))
+        ⌝ }
 {
-    let user = e[0];
-    let size = measuring::size_of(g, volume, user, &e[1..12]);
-    let blocks = blocks_held::blocks_of(g, volume, user, &e[1..12]);
+    let user = e[USER];
+    let size = call_size::size_of(g, volume, user, &e[NAME..NAME_END]);
+    let blocks = blocks_held::blocks_of(g, volume, user, &e[NAME..NAME_END]);
     let a = text::put_decimal(out, at, lists::wide(user));
     let b = text::put_byte(out, a, b' ');
     let c = put_name(out, b, e);
@@ -54,32 +62,38 @@ fn put_line(g: Geometry, volume: &[u8], e: &[u8], out: &mut [u8], at: usize) -> 
 
 // Does the entry in slot i stand for its file?
 fn is_listed(g: Geometry, volume: &[u8], e: &[u8], i: usize) -> bool
-    requires { ⌜ (lawful g ≡ true) × ((length (now volume) ≡ bytes g) × (length (now e) ≡ 32)) ⌝ }
+    requires { ⌜ VolumeAnd g (now volume) (IsEntry (now e)) ⌝ }
     ensures { λ r. ⌜ r ≡ isListed g (now (volume .entry)) (now (e .entry)) i ⌝ }
 {
-    let user = e[0];
-    if user == volume::entry::EMPTY {
+    let user = e[USER];
+    if user == EMPTY {
         return false;
     }
-    volume::directory::find(g, volume, user, &e[1..12], Wanted::File) == i
+    disk_volume::directory::find(g, volume, user, &e[NAME..NAME_END], Wanted::File) == i
 }
 
 // What slot i adds: the file's line where its entry stands for the file.
 fn put_slot_line(g: Geometry, volume: &[u8], i: usize, out: &mut [u8], at: usize) -> usize
-    requires { ⌜ (lawful g ≡ true) × ((length (now volume) ≡ bytes g) × (i < slots g)) ⌝ }
-    ensures { λ r. ⌜ text (now (out .exit)) r ≡ puts (text (now (out .entry)) at) (lineAt g (now (volume .entry)) i) ⌝ }
+    requires { ⌜ VolumeAnd g (now volume) (i < slots g) ⌝ }
+    ensures { λ r. ⌜
+        text (now (out .exit)) r
+        ≡ puts (text (now (out .entry)) at) (lineAt g (now (volume .entry)) i)
+        ⌝ }
 {
     let s = g.slot_start(i);
-    if !is_listed(g, volume, &volume[s..s + 32], i) {
+    if !is_listed(g, volume, &volume[s..s + Geometry::ENTRY_BYTES], i) {
         return at;
     }
-    put_line(g, volume, &volume[s..s + 32], out, at)
+    put_line(g, volume, &volume[s..s + Geometry::ENTRY_BYTES], out, at)
 }
 
 // The line of each file.
 fn put_lines(g: Geometry, volume: &[u8], out: &mut [u8], at: usize) -> usize
-    requires { ⌜ (lawful g ≡ true) × (length (now volume) ≡ bytes g) ⌝ }
-    ensures { λ r. ⌜ text (now (out .exit)) r ≡ puts (text (now (out .entry)) at) (linesFrom g (now (volume .entry)) 0 (slots g)) ⌝ }
+    requires { ⌜ IsVolume g (now volume) ⌝ }
+    ensures { λ r. ⌜
+        text (now (out .exit)) r
+        ≡ puts (text (now (out .entry)) at) (linesFrom g (now (volume .entry)) 0 (slots g))
+        ⌝ }
 {
     let n = g.slots();
     let mut p = at;
@@ -93,8 +107,11 @@ fn put_lines(g: Geometry, volume: &[u8], out: &mut [u8], at: usize) -> usize
 
 // The listing of a volume that is accepted, with so many free blocks.
 pub(crate) fn put_accepted(g: Geometry, volume: &[u8], free: usize, out: &mut [u8]) -> usize
-    requires { ⌜ (lawful g ≡ true) × (length (now volume) ≡ bytes g) ⌝ }
-    ensures { λ r. ⌜ text (now (out .exit)) r ≡ puts (text (now (out .entry)) 0) (accepted g (now (volume .entry)) free) ⌝ }
+    requires { ⌜ IsVolume g (now volume) ⌝ }
+    ensures { λ r. ⌜
+        text (now (out .exit)) r
+        ≡ puts (text (now (out .entry)) 0) (accepted g (now (volume .entry)) free)
+        ⌝ }
 {
     let a = text::put_bytes(out, 0, b"USER NAME TYPE RECORDS BLOCKS\n");
     let b = put_lines(g, volume, out, a);

@@ -4,19 +4,30 @@ ghost use mathlib.Core.Path.{_≡_};
 ghost use Prim.Native.Nat.{_-_, _≤_, min};
 ghost use lib.ListN.{length};
 ghost use Rattle.lists.specs.Bytes.{part};
+ghost use Rattle.replay_script.specs.Layout.{longestVolume};
+use disk_geometry::Geometry;
 use filecalls::Drive;
-use geometry::Geometry;
 use libc::STDIN_FILENO;
 use libc::STDOUT_FILENO;
-use script::Header;
-use script::Next;
-use script::window;
-use transcript::lines;
-use transcript::records;
+use replay_script::Header;
+use replay_script::Next;
+use replay_script::layout::HEADER_BYTES;
+use replay_script::layout::LONGEST_CALL;
+use replay_script::layout::LONGEST_VOLUME;
+use replay_script::window;
+use replay_transcript::lines;
+use replay_transcript::records;
 
-// Where `out` is written to standard output before more is appended. What is appended in one go, the longest line of a
-// call (131,597 bytes) or 256 records (68,864 bytes), then has room in its 262,144 bytes, the last two lines too.
+// The window on the script has room for three of the longest calls.
+const WINDOW_BYTES: usize = 262144;
+
+// `out` is written to standard output where it has FULL bytes, before more is appended. What is appended in one go, the
+// longest line of a call (131,597 bytes) or STRETCH records (68,864 bytes), then has room in it, the last two lines too.
+const OUT_BYTES: usize = 262144;
+
 const FULL: usize = 130000;
+
+const STRETCH: usize = 256;
 
 // The part of the window that is not read yet, and whether standard input has ended.
 struct Unread {
@@ -63,7 +74,10 @@ fn make_room(out: &[u8], at: usize) -> usize {
 fn fill(window: &mut [u8], from: usize, to: usize) -> Unread
     requires { ⌜ (from ≤ to) × (to ≤ length (now window)) ⌝ }
     ensures { λ r. ⌜ (r .from ≤ r .to) × (r .to ≤ length (now (window .exit))) ⌝ }
-    ensures { λ r. ⌜ part (now (window .exit)) (r .from) (to - from) ≡ part (now (window .entry)) from (to - from) ⌝ }
+    ensures { λ r. ⌜
+        part (now (window .exit)) (r .from) (to - from)
+        ≡ part (now (window .entry)) from (to - from)
+        ⌝ }
 {
     let kept = to - from;
     window::shift(window, from, kept);
@@ -79,9 +93,12 @@ fn fill(window: &mut [u8], from: usize, to: usize) -> Unread
 fn refill(window: &mut [u8], run: Run) -> Unread
     requires { ⌜ (run .from ≤ run .to) × (run .to ≤ length (now window)) ⌝ }
     ensures { λ r. ⌜ (r .from ≤ r .to) × (r .to ≤ length (now (window .exit))) ⌝ }
-    ensures { λ r. ⌜ part (now (window .exit)) (r .from) (run .to - run .from) ≡ part (now (window .entry)) (run .from) (run .to - run .from) ⌝ }
+    ensures { λ r. ⌜
+        part (now (window .exit)) (r .from) (run .to - run .from)
+        ≡ part (now (window .entry)) (run .from) (run .to - run .from)
+        ⌝ }
 {
-    let enough = script::LONGEST_CALL <= run.to - run.from;
+    let enough = LONGEST_CALL <= run.to - run.from;
     if enough | run.ended {
         return Unread {
             from: run.from,
@@ -102,7 +119,7 @@ fn turn(g: Geometry, run: Run, window: &mut [u8], volume: &mut [u8], out: &mut [
     let to = u.to;
     let at = make_room(out, run.at);
     let before = run.drive;
-    let t = playing::take_turn(g, before, &mut window[from..to], volume, out, at);
+    let t = replay_turn::take_turn(g, before, &mut window[from..to], volume, out, at);
     let next = t.next;
     let drive = t.drive;
     Run {
@@ -174,14 +191,14 @@ fn least(a: usize, b: usize) -> usize
     if a < b { a } else { b }
 }
 
-// The records that have changed, 256 at a time.
+// The records that have changed, STRETCH at a time.
 fn put_changes(given: &[u8], volume: &[u8], out: &mut [u8], at: usize) -> usize {
     let n = records::records_of(volume.len());
     let mut p = at;
     let mut q = 0;
     while q < n {
         let room = make_room(out, p);
-        let to = q + least(256, n - q);
+        let to = q + least(STRETCH, n - q);
         p = records::put_records(out, room, given, volume, q, to);
         q = to;
     }
@@ -241,11 +258,11 @@ fn with_header(
 
 // Reads the header.
 fn with_script(window: &mut [u8], given: &mut [u8], volume: &mut [u8], out: &mut [u8])
-    requires { ⌜ (1048576 ≤ length (now given)) × (length (now volume) ≡ length (now given)) ⌝ }
+    requires { ⌜ (longestVolume ≤ length (now given)) × (length (now volume) ≡ length (now given)) ⌝ }
 {
-    let mut head = [0u8; 10];
+    let mut head = [0u8; HEADER_BYTES];
     let got = io::read_full(STDIN_FILENO, &mut head);
-    match script::header_of(&head[..got]) {
+    match replay_script::header_of(&head[..got]) {
         Header::Bad => refuse(out),
         Header::Good(g, n) => with_header(g, n, window, given, volume, out),
     }
@@ -253,18 +270,18 @@ fn with_script(window: &mut [u8], given: &mut [u8], volume: &mut [u8], out: &mut
 
 // The arrays as slices: a reference to an array tells its length, and nobody has to count a million zeros.
 fn with_arrays(
-    window: &mut [u8; 262144],
-    given: &mut [u8; 1048576],
-    volume: &mut [u8; 1048576],
-    out: &mut [u8; 262144],
+    window: &mut [u8; WINDOW_BYTES],
+    given: &mut [u8; LONGEST_VOLUME],
+    volume: &mut [u8; LONGEST_VOLUME],
+    out: &mut [u8; OUT_BYTES],
 ) {
     with_script(window, given, volume, out);
 }
 
 fn main() {
-    let mut window = [0u8; 262144];
-    let mut given = [0u8; 1048576];
-    let mut volume = [0u8; 1048576];
-    let mut out = [0u8; 262144];
+    let mut window = [0u8; WINDOW_BYTES];
+    let mut given = [0u8; LONGEST_VOLUME];
+    let mut volume = [0u8; LONGEST_VOLUME];
+    let mut out = [0u8; OUT_BYTES];
     with_arrays(&mut window, &mut given, &mut volume, &mut out);
 }

@@ -2,7 +2,7 @@
 use mathlib.Core.Path.{ap}
 use borrow.Author.Needs.{needs}
 use Rattle.filecalls.specs.Outcome.{outcome}
-use Rattle.bdos.specs.Step.{keepsBuffer, keepsBlock, keepsVolume, does}
+use Rattle.bdos.specs.Step.{keepsBuffer, keepsFcb, keepsVolume, does}
 use Rattle.bdos.proofs.serve.Statement.{statement}
 use Rattle.bdos.proofs.serve.Tie as tie
 
@@ -27,17 +27,17 @@ serve-spec =
     (λ c. search needs) (λ c. search needs) (λ c. search needs)
     (λ c. rw (c .before .before .before .before .before .before .enum-told4 .given .1) (c .before .before .search-first .ensures))
     (λ c. search needs) (λ c. search needs)
-    (λ c. rw (c .before .before .before .before .before .enum-told5 .given .1) (ap (keepsBlock _) (c .before .before .search-next .ensures)))
+    (λ c. rw (c .before .before .before .before .before .enum-told5 .given .1) (ap (keepsFcb _) (c .before .before .search-next .ensures)))
     (λ c. search needs) (λ c. search needs)
     (λ c. rw (c .before .before .before .before .before .enum-told6 .given .1) (ap (keepsBuffer _) (c .before .before .delete .ensures)))
     (λ c. search needs) (λ c. search needs)
     (λ c. rw (c .before .before .before .before .before .before .before .enum-told7 .given .1) (ap (keepsBuffer _) (c .before .before .before .before .make .ensures)))
     (λ c. search needs) (λ c. search needs)
     (λ c. rw (c .before .before .before .before .before .enum-told8 .given .1) (ap (keepsBuffer _) (c .before .before .rename .ensures)))
-    (λ c. rw (c .before .enum-told9 .given .1) (ap (keepsVolume _) (ap (keepsBlock _) (ap (keepsBuffer _) (c .protect .ensures)))))
+    (λ c. rw (c .before .enum-told9 .given .1) (ap (keepsVolume _) (ap (keepsFcb _) (ap (keepsBuffer _) (c .protect .ensures)))))
     (λ c. search needs) (λ c. search needs)
     (λ c. rw (c .before .before .before .before .before .enum-told10 .given .1) (ap (keepsBuffer _) (c .before .before .set-attributes .ensures)))
-    (λ c. rw (c .before .enum-told11 .given .1) (ap (keepsVolume _) (ap (keepsBlock _) (ap (keepsBuffer _) (c .user-code .ensures)))))
+    (λ c. rw (c .before .enum-told11 .given .1) (ap (keepsVolume _) (ap (keepsFcb _) (ap (keepsBuffer _) (c .user-code .ensures)))))
     (λ c. search needs) (λ c. search needs)
     (λ c. rw (c .before .before .before .before .before .enum-told12 .given .1) (ap (keepsBuffer _) (c .before .before .file-size .ensures)))
     (λ c. search needs)

@@ -1,11 +1,9 @@
 -- Log-in's answer says which listing it is.
 use mathlib.Core.Path.{refl}
-use mathlib.Core.List.{_++_}
 use denote.Ref.{now}
-use Rattle.listing.proofs.ListingLaws.{listed, may-list}
-use Rattle.listing.specs.Listing.{listingFor, refusedWord}
+use Rattle.listing.proofs.ListingLaws.{listed, may-list, wrote-refused}
+use Rattle.listing.specs.Listing.{listingFor}
 use Rattle.text.proofs.TextLaws.{wrote, wrote-byte, then}
-use Rattle.text.specs.Decimal.{decimal}
 use Rattle.text.specs.Text.{puts}
 use borrow.Author.Needs.{needs}
 use Rattle.listing.proofs.list.Statement.{statement}
@@ -38,11 +36,8 @@ put-decimal-requires c κs = search needs
 put-byte-requires-2 : tie.Need-put-byte-requires-2
 put-byte-requires-2 c κs = search needs
 
-enum-known-answer-3 : tie.Need-enum-known-answer-3
-enum-known-answer-3 c = search needs
-
-refusal-number-requires : tie.Need-refusal-number-requires
-refusal-number-requires c κs = search needs
+enum-told : tie.Need-enum-told
+enum-told c = search needs
 
 put-refused-requires-2 : tie.Need-put-refused-requires-2
 put-refused-requires-2 c κs = search needs
@@ -50,11 +45,11 @@ put-refused-requires-2 c κs = search needs
 put-byte-requires-3 : tie.Need-put-byte-requires-3
 put-byte-requires-3 c κs = search needs
 
-enum-told : tie.Need-enum-told
-enum-told c = search needs
-
 enum-told-2 : tie.Need-enum-told-2
 enum-told-2 c = search needs
+
+enum-told-3 : tie.Need-enum-told-3
+enum-told-3 c = search needs
 
 same-length : tie.Need-same-length
 same-length c = search needs
@@ -62,8 +57,8 @@ same-length c = search needs
 returns : tie.Need-returns
 unfolding listingFor
 returns c =
-    listed (now (c .before .before .before .before .before .before .before .before .before .before .before .args .volume)) (c .before .before .before .before .before .before .before .before .geometry .ensures) (c .before .before .before .before .before .before .before .log-in .ensures) (now (c .before .before .before .before .before .before .before .before .before .before .before .args .out)) _ (c .before .before .before .before .before .answer .given .1)
-    (c .before .before .put-accepted .ensures)
+    let a = c .before .before .before .before .before .before .before .before .before .before .before .args in
+    listed (now (a .volume)) (c .before .before .before .before .before .before .before .before .geometry .ensures) (c .before .before .before .before .before .before .before .log-in .ensures) (now (a .out)) _ (c .before .before .before .before .before .answer .given .1) (c .before .before .put-accepted .ensures)
 
 same-length-2 : tie.Need-same-length-2
 same-length-2 c = search needs
@@ -71,8 +66,10 @@ same-length-2 c = search needs
 returns-2 : tie.Need-returns-2
 unfolding listingFor
 returns-2 c =
-    listed (now (c .before .before .before .before .before .before .before .before .before .before .before .before .before .before .before .before .before .before .before .before .before .before .before .args .volume)) (c .before .before .before .before .before .before .before .before .before .before .before .before .before .before .before .before .before .before .before .before .geometry .ensures) (c .before .before .before .before .before .before .before .before .before .before .before .before .before .before .before .before .before .before .before .log-in .ensures) (now (c .before .before .before .before .before .before .before .before .before .before .before .before .before .before .before .before .before .before .before .before .before .before .before .args .out)) _ (c .before .before .before .before .before .before .before .before .before .before .before .before .before .before .before .before .before .answer2 .given .1)
-    (then (wrote (refusedWord ++ decimal 36) (c .before .before .before .before .before .before .before .before .before .before .before .before .before .before .put-refused .ensures))
+    let a = c .before .before .before .before .before .before .before .before .before .before .before .before .before .before .before .before .before .before .before .before .before .before .before .args in
+    let is = c .before .before .before .before .before .before .before .before .before .before .before .before .before .before .before .before .before .answer2 .given .1 in
+    listed (now (a .volume)) (c .before .before .before .before .before .before .before .before .before .before .before .before .before .before .before .before .before .before .before .before .geometry .ensures) (c .before .before .before .before .before .before .before .before .before .before .before .before .before .before .before .before .before .before .before .log-in .ensures) (now (a .out)) _ is
+    (then (wrote _ (c .before .before .before .before .before .before .before .before .before .before .before .before .before .before .put-refused .ensures))
     (then (wrote-byte 32 (c .before .before .before .before .before .before .before .before .before .before .put-byte .ensures))
     (then (wrote _ (c .before .before .before .before .before .before .put-decimal .ensures))
     (wrote-byte 10 (c .before .before .put-byte2 .ensures)))) .is)
@@ -83,19 +80,17 @@ same-length-3 c = search needs
 returns-3 : tie.Need-returns-3
 unfolding listingFor
 returns-3 c =
-    listed (now (c .before .before .before .before .before .before .before .before .before .before .before .before .before .before .before .before .args .volume)) (c .before .before .before .before .before .before .before .before .before .before .before .before .before .geometry .ensures) (c .before .before .before .before .before .before .before .before .before .before .before .before .log-in .ensures) (now (c .before .before .before .before .before .before .before .before .before .before .before .before .before .before .before .before .args .out)) _ (c .before .before .before .before .before .before .before .before .before .before .answer3 .given .1)
-    (rw (← c .before .before .before .before .before .before .before .refusal-number .ensures)
-    (then (wrote _ (c .before .before .before .before .before .before .put-refused2 .ensures)) (wrote-byte 10 (c .before .before .put-byte3 .ensures)) .is))
+    let a = c .before .before .before .before .before .before .before .before .before .before .before .before .before .before .args in
+    let is = c .before .before .before .before .before .before .before .before .enum-told .given .1 in
+    listed (now (a .volume)) (c .before .before .before .before .before .before .before .before .before .before .before .geometry .ensures) (c .before .before .before .before .before .before .before .before .before .before .log-in .ensures) (now (a .out)) _ is (then (wrote-refused is (c .before .before .before .before .before .before .put-refused2 .ensures)) (wrote-byte 10 (c .before .before .put-byte3 .ensures)) .is)
 
 returns-4 : tie.Need-returns-4
 unfolding listingFor puts
-returns-4 c =
-    listed (now (c .before .before .before .before .before .before .args .volume)) (c .before .before .before .geometry .ensures) (c .before .before .log-in .ensures) (now (c .before .before .before .before .before .before .args .out)) _ (c .enum-told .given .1) refl
+returns-4 c = let a = c .before .before .before .before .before .before .args in listed (now (a .volume)) (c .before .before .before .geometry .ensures) (c .before .before .log-in .ensures) (now (a .out)) _ (c .enum-told2 .given .1) refl
 
 returns-5 : tie.Need-returns-5
 unfolding listingFor puts
-returns-5 c =
-    listed (now (c .before .before .before .before .before .before .args .volume)) (c .before .before .before .geometry .ensures) (c .before .before .log-in .ensures) (now (c .before .before .before .before .before .before .args .out)) _ (c .enum-told2 .given .1) refl
+returns-5 c = let a = c .before .before .before .before .before .before .args in listed (now (a .volume)) (c .before .before .before .geometry .ensures) (c .before .before .log-in .ensures) (now (a .out)) _ (c .enum-told3 .given .1) refl
 
 pub list-spec : {M : Type 1} → statement M
 list-spec =
@@ -110,12 +105,11 @@ list-spec =
     put-byte-requires
     put-decimal-requires
     put-byte-requires-2
-    enum-known-answer-3
-    refusal-number-requires
+    enum-told
     put-refused-requires-2
     put-byte-requires-3
-    enum-told
     enum-told-2
+    enum-told-3
     same-length
     returns
     same-length-2

@@ -1,5 +1,7 @@
 -- Two runs of bytes, one after the other.
-use Rattle.listing.proofs.ListingLaws.{wrote-number}
+use mathlib.Core.Path.{_∙_}
+use Rattle.call_answers.specs.Answer.{numberOf}
+use Rattle.text.proofs.TextLaws.{wrote-number}
 use Rattle.listing.specs.Listing.{refusedWord}
 use Rattle.text.proofs.TextLaws.{wrote, then}
 use borrow.Author.Needs.{needs}
@@ -12,6 +14,9 @@ slice-aggregate-put-bytes c = search needs
 put-bytes-requires : tie.Need-put-bytes-requires
 put-bytes-requires c κs = search needs
 
+number-requires : tie.Need-number-requires
+number-requires c κs = search needs
+
 wide-requires : tie.Need-wide-requires
 wide-requires c κs = search needs
 
@@ -22,7 +27,10 @@ same-length : tie.Need-same-length
 same-length c = search needs
 
 returns : tie.Need-returns
-returns c = then (wrote refusedWord (c .before .before .before .before .before .before .before .put-bytes .ensures)) (wrote-number (c .before .before .before .before .before .before .before .before .before .before .before .args .number) (c .before .before .before .wide .ensures .0) (c .before .before .put-decimal .ensures)) .is
+returns c =
+    let a = c .before .before .before .before .before .before .before .before .before .before .before .before .args .answer in
+    let is = c .before .before .before .wide .ensures .0 ∙ c .before .before .before .before .number .ensures in
+    then (wrote refusedWord (c .before .before .before .before .before .before .before .before .put-bytes .ensures)) (wrote-number (numberOf a) is (c .before .before .put-decimal .ensures)) .is
 
 pub put-refused-spec : {M : Type 1} → statement M
 put-refused-spec =
@@ -30,6 +38,7 @@ put-refused-spec =
     (tie.spec
     slice-aggregate-put-bytes
     put-bytes-requires
+    number-requires
     wide-requires
     put-decimal-requires
     same-length

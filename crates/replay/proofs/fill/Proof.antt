@@ -1,5 +1,5 @@
 -- What was moved to the front lies before the part that is read into.
-use Rattle.script.proofs.WindowLaws.{front-stays}
+use Rattle.replay_script.proofs.WindowLaws.{front-stays}
 use Rattle.lists.specs.Bytes.{put}
 use borrow.Rule.Slice.PartMut.{mid-len}
 use lib.ListN.{length}

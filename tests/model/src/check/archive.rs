@@ -1,4 +1,4 @@
-//! The emulator's archive behind the seam's two entries: `seam.c` links it and
+//! The archive behind the seam's two entries: `seam.c` links it and
 //! answers over a pipe, so that the archive may be for another processor.
 
 use std::io::{self, Read, Write};

@@ -1,7 +1,7 @@
 -- What is lent refuses, or the slot that close means decides.
 use Rattle.filecalls.specs.Open.{closeAct, closeTests}
-use Rattle.answers.specs.Refusal.{isNone}
-use Rattle.openclose.specs.Open.{closeSlot}
+use Rattle.call_answers.specs.Refusal.{isNone}
+use Rattle.call_open.specs.Open.{closeSlot}
 use Prim.Native.Nat.{_%_}
 use mathlib.Core.Bool.{false}
 use Rattle.filecalls.proofs.NamingLaws.{named-no, named-decided}
@@ -16,7 +16,7 @@ use Rattle.filecalls.proofs.Drive.close_file.Statement.{statement}
 use Rattle.filecalls.proofs.Drive.close_file.Tie as tie
 
 -- the tests of what is lent have passed
-clear : (c : tie.Else1) → Named (c .before .before .before .before .before .args .self) (now (c .before .before .before .before .before .args .volume)) (now (c .before .before .before .before .before .args .f)) false
+clear : (c : tie.Else1) → Named (c .before .before .before .before .before .args .self) (now (c .before .before .before .before .before .args .volume)) (now (c .before .before .before .before .before .args .fcb)) false
 clear c = named _ _ _ false (c .before .before .named-why .ensures) (c .before .is-none .ensures) (c .if1 .left)
 
 named-why-requires : tie.Need-named-why-requires
@@ -32,10 +32,10 @@ returns : tie.Need-returns
 unfolding closeAct closeTests
 returns c =
     let a = c .before .before .before .before .before .before .args in
-    named-no (a .self) (now (a .volume)) (now (a .f)) false _ _ (c .before .before .before .named-why .ensures) (c .before .before .is-none .ensures) (c .before .if1 .taken) (c .refused .ensures)
+    named-no (a .self) (now (a .volume)) (now (a .fcb)) false _ _ (c .before .before .before .named-why .ensures) (c .before .before .is-none .ensures) (c .before .if1 .taken) (c .refused .ensures)
 
 close-file-requires : tie.Need-close-file-requires
-close-file-requires c κs = let l = clear (c .before) .lent in (l .state .law, (l .volume, l .block))
+close-file-requires c κs = let l = clear (c .before) .lent in (l .state .law, (l .volume, l .fcb))
 
 cast-answered : tie.Need-cast-answered
 cast-answered c = search needs
@@ -49,7 +49,7 @@ returns-2 c =
     let a = c .before .before .before .before .before .before .before .before .before .args in
     let d = a .self in
     let v = now (a .volume) in
-    let f = now (a .f) in
+    let f = now (a .fcb) in
     let m = c .before .before .close-file in
     let t = isNone (m .result .why) in
     let slot = closeSlot (d .geometry) v (d .user) f in

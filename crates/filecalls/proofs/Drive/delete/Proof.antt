@@ -3,17 +3,17 @@ use Rattle.filecalls.proofs.NamingLaws.{held-or, named-no, named-decide
 use Rattle.filecalls.specs.Tests.{protectedDrive}
 use Rattle.filecalls.specs.Names.{deleteAct, deleteLadder}
 use Rattle.filecalls.specs.Outcome.{frees, eachEntry, changedState, stored, storedAll}
-use Rattle.answers.specs.Refusal.{isNone}
-use Rattle.answers.specs.declared.Refusal.the-variants.{Protected}
-use Rattle.answers.proofs.Ladder.{ladder-one}
-use Rattle.sweeping.specs.declared.Edit.the-variants.{Erase}
-use Rattle.sweeping.specs.Sweep.{changed}
-use Rattle.deleting.specs.Delete.{deleteTests, freeMatches}
+use Rattle.call_answers.specs.Refusal.{isNone}
+use Rattle.call_answers.specs.declared.Refusal.the-variants.{Protected}
+use Rattle.call_answers.proofs.Ladder.{ladder-one}
+use Rattle.call_sweep.specs.declared.Edit.the-variants.{Erase}
+use Rattle.call_sweep.specs.Sweep.{changed}
+use Rattle.call_delete.specs.Delete.{deleteTests, freeMatches}
 use Rattle.lists.specs.Bytes.{part}
 use mathlib.Core.Bool.{true}
 use Rattle.filecalls.proofs.OutcomeLaws.{either}
 use Rattle.filecalls.proofs.StateLaws.{Named, named}
-use Rattle.volume.specs.Name.{nameAt, nameOf}
+use Rattle.disk_volume.specs.Name.{nameAt, nameOf}
 use denote.Ref.{now}
 use native.Mathlib.Omega.{arith}
 use mathlib.Core.List.{[], _∷_}
@@ -23,7 +23,7 @@ use Rattle.filecalls.proofs.Drive.delete.Statement.{statement}
 use Rattle.filecalls.proofs.Drive.delete.Tie as tie
 
 -- the tests of what is lent have passed
-clear : (c : tie.Else1) → Named (c .before .before .before .before .before .before .args .self) (now (c .before .before .before .before .before .before .args .volume)) (now (c .before .before .before .before .before .before .args .f)) true
+clear : (c : tie.Else1) → Named (c .before .before .before .before .before .before .args .self) (now (c .before .before .before .before .before .before .args .volume)) (now (c .before .before .before .before .before .before .args .fcb)) true
 clear c = named _ _ _ true (c .before .before .named-why .ensures) (c .before .is-none .ensures) (c .if1 .left)
 
 named-why-requires : tie.Need-named-why-requires
@@ -42,7 +42,7 @@ returns : tie.Need-returns
 unfolding deleteAct deleteLadder
 returns c =
     let a = c .before .before .before .before .before .before .before .args in
-    named-no (a .self) (now (a .volume)) (now (a .f)) true _ _ (c .before .before .before .named-why .ensures) (c .before .before .is-none .ensures) (c .before .if1 .taken) (c .refused .ensures)
+    named-no (a .self) (now (a .volume)) (now (a .fcb)) true _ _ (c .before .before .before .named-why .ensures) (c .before .before .is-none .ensures) (c .before .if1 .taken) (c .refused .ensures)
 
 refuse-requires : tie.Need-refuse-requires
 refuse-requires c κs = search needs
@@ -54,7 +54,7 @@ part-delete-matches-start : tie.Need-part-delete-matches-start
 part-delete-matches-start c = search needs
 
 part-delete-matches-end : tie.Need-part-delete-matches-end
-part-delete-matches-end c = omega (arith, clear (c .before .before .before .before) .lent .block)
+part-delete-matches-end c = omega (arith, clear (c .before .before .before .before) .lent .fcb)
 
 delete-matches-requires : tie.Need-delete-matches-requires
 delete-matches-requires c κs = let l = clear (c .before .before .before .before .before) .lent in (l .state .law, (l .volume, search needs))
@@ -69,12 +69,12 @@ returns-2 : tie.Need-returns-2
 unfolding deleteAct deleteLadder changedState stored storedAll nameAt part
 returns-2 c =
     let a = c .before .before .before .before .before .before .before .before .before .before .before .before .before .before .before .before .args in
-    let name = nameOf (now (a .f)) in
+    let name = nameOf (now (a .fcb)) in
     let m = c .before .before .before .before .delete-matches in
     let t = isNone (m .result .why) in
-    named-decided (a .self) (now (a .volume)) (now (a .f)) (clear (c .before .before .before .before .before .before .before .before .before .before)) 0 (frees (a .self .user) name) (eachEntry (changed Erase (a .self .user) name []) ∷ []) (now (a .f)) _
+    named-decided (a .self) (now (a .volume)) (now (a .fcb)) (clear (c .before .before .before .before .before .before .before .before .before .before)) 0 (frees (a .self .user) name) (eachEntry (changed Erase (a .self .user) name []) ∷ []) (now (a .fcb)) _
     (after (protectedDrive (a .self) ∷ []) (deleteTests (a .self .geometry) (now (a .volume)) (a .self .user) name) (c .before .before .before .before .before .before .before .before .before .refuse .ensures ∙ ladder-one Protected (a .self .protected) refl) (m .ensures .0))
-    (held-or (a .self) t (freeMatches (a .self .geometry) (now (a .volume)) (a .self .user) name (a .self .held)) (m .ensures .1 .0)) (m .ensures .1 .1) (either t (now (a .f))) (c .answered .ensures)
+    (held-or (a .self) t (freeMatches (a .self .geometry) (now (a .volume)) (a .self .user) name (a .self .held)) (m .ensures .1 .0)) (m .ensures .1 .1) (either t (now (a .fcb))) (c .answered .ensures)
 
 pub delete-spec : {M : Type 1} → statement M
 delete-spec =

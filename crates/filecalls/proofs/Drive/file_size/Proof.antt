@@ -1,14 +1,14 @@
 -- What is lent refuses, or the measuring of the file decides.
 use Rattle.filecalls.specs.Open.{sizeAct, sizeTests}
-use Rattle.answers.specs.Refusal.{isNone}
-use Rattle.measuring.specs.Size.{sizeOf}
-use Rattle.control.specs.Block.{withRandom}
+use Rattle.call_answers.specs.Refusal.{isNone}
+use Rattle.call_size.specs.Size.{sizeOf}
+use Rattle.call_fcb.specs.Fcb.{withRandom}
 use mathlib.Core.Bool.{false}
 use Rattle.filecalls.proofs.NamingLaws.{named-no, named-decided}
 use Rattle.filecalls.proofs.OutcomeLaws.{either}
 use Rattle.filecalls.proofs.StateLaws.{Named, named}
 use Rattle.filecalls.specs.Outcome.{keeps, changedState, storedAll}
-use Rattle.volume.specs.Name.{nameOf}
+use Rattle.disk_volume.specs.Name.{nameOf}
 use denote.Ref.{now}
 use mathlib.Core.List.{[]}
 use borrow.Author.Needs.{needs}
@@ -16,7 +16,7 @@ use Rattle.filecalls.proofs.Drive.file_size.Statement.{statement}
 use Rattle.filecalls.proofs.Drive.file_size.Tie as tie
 
 -- the tests of what is lent have passed
-clear : (c : tie.Else1) → Named (c .before .before .before .before .before .before .args .self) (now (c .before .before .before .before .before .before .args .volume)) (now (c .before .before .before .before .before .before .args .f)) false
+clear : (c : tie.Else1) → Named (c .before .before .before .before .before .before .args .self) (now (c .before .before .before .before .before .before .args .volume)) (now (c .before .before .before .before .before .before .args .fcb)) false
 clear c = named _ _ _ false (c .before .before .named-why .ensures) (c .before .is-none .ensures) (c .if1 .left)
 
 named-why-requires : tie.Need-named-why-requires
@@ -35,10 +35,10 @@ returns : tie.Need-returns
 unfolding sizeAct sizeTests
 returns c =
     let a = c .before .before .before .before .before .before .before .args in
-    named-no (a .self) (now (a .volume)) (now (a .f)) false _ _ (c .before .before .before .named-why .ensures) (c .before .before .is-none .ensures) (c .before .if1 .taken) (c .refused .ensures)
+    named-no (a .self) (now (a .volume)) (now (a .fcb)) false _ _ (c .before .before .before .named-why .ensures) (c .before .before .is-none .ensures) (c .before .if1 .taken) (c .refused .ensures)
 
 measure-requires : tie.Need-measure-requires
-measure-requires c κs = let l = clear (c .before .before) .lent in (l .state .law, (l .volume, l .block))
+measure-requires c κs = let l = clear (c .before .before) .lent in (l .state .law, (l .volume, l .fcb))
 
 answered-requires : tie.Need-answered-requires
 answered-requires c κs = search needs
@@ -52,7 +52,7 @@ returns-2 c =
     let a = c .before .before .before .before .before .before .before .before .before .before .before .before .args in
     let d = a .self in
     let v = now (a .volume) in
-    let f = now (a .f) in
+    let f = now (a .fcb) in
     let m = c .before .before .before .measure in
     let t = isNone (m .result) in
     named-decided d v f (clear (c .before .before .before .before .before .before)) 0 keeps [] (withRandom f (sizeOf (d .geometry) v (d .user) (nameOf f))) _

@@ -6,12 +6,12 @@ use native.Mathlib.Omega.{arith}
 use denote.Ref.{now}
 use lib.Dec.{ltb, eqb}
 use lib.ListN.{length}
-use Rattle.volume.specs.Name.{goodName, nameAt, nameOf}
+use Rattle.disk_volume.specs.Name.{goodName, nameAt, nameOf}
 use Rattle.lists.specs.Bytes.{byte, part}
-use Rattle.answers.specs.declared.Refusal.the-variants.{DriveCode, Name, Position}
-use Rattle.answers.specs.Refusal.{test}
-use Rattle.answers.proofs.Ladder.{ladder-three, ladder-stop, ladder-pass}
-use Rattle.filecalls.specs.Lent.{lentTests, firstLent}
+use Rattle.call_answers.specs.declared.Refusal.the-variants.{DriveCode, Name, Position}
+use Rattle.call_answers.specs.Refusal.{test}
+use Rattle.call_answers.proofs.Ladder.{ladder-three, ladder-stop, ladder-pass}
+use Rattle.filecalls.specs.CodeLadder.{lentTests, firstLent}
 use Rattle.filecalls.specs.Search.{examined}
 use Rattle.filecalls.proofs.LentLaws.{LengthsLent, lengths-passed}
 use Rattle.filecalls.proofs.OutcomeLaws.{refuses}
@@ -19,7 +19,7 @@ use borrow.Author.Needs.{needs}
 use Rattle.filecalls.proofs.Drive.first_why.Statement.{statement}
 use Rattle.filecalls.proofs.Drive.first_why.Tie as tie
 
-passed : (c : tie.Else1) → LengthsLent (c .before .before .before .before .before .before .args .self) (length (now (c .before .before .before .before .before .before .args .volume))) (length (now (c .before .before .before .before .before .before .args .f))) (length (now (c .before .before .before .before .before .before .args .buffer)))
+passed : (c : tie.Else1) → LengthsLent (c .before .before .before .before .before .before .args .self) (length (now (c .before .before .before .before .before .before .args .volume))) (length (now (c .before .before .before .before .before .before .args .fcb))) (length (now (c .before .before .before .before .before .before .args .buffer)))
 passed c = lengths-passed _ _ _ _ (c .before .before .lent-why .ensures) (c .before .is-none .ensures) (c .if1 .left)
 
 lent-why-requires : tie.Need-lent-why-requires
@@ -32,11 +32,11 @@ returns : tie.Need-returns
 unfolding firstLent
 returns c =
     let a = c .before .before .before .before .before .before .args in
-    let xs = lentTests (a .self) (length (now (a .volume))) (length (now (a .f))) (length (now (a .buffer))) in
+    let xs = lentTests (a .self) (length (now (a .volume))) (length (now (a .fcb))) (length (now (a .buffer))) in
     c .before .before .lent-why .ensures ∙ sym (ladder-stop xs _ (refuses xs (c .before .before .lent-why .ensures) (c .before .is-none .ensures) (c .if1 .taken)))
 
 shared-slice-read-examined : tie.Need-shared-slice-read-examined
-shared-slice-read-examined c = omega (arith, passed (c .before) .lent .block)
+shared-slice-read-examined c = omega (arith, passed (c .before) .lent .fcb)
 
 sub-good-name : tie.Need-sub-good-name
 sub-good-name c = search needs
@@ -45,13 +45,13 @@ part-good-name-start : tie.Need-part-good-name-start
 part-good-name-start c = search needs
 
 part-good-name-end : tie.Need-part-good-name-end
-part-good-name-end c = omega (arith, passed (c .before) .lent .block)
+part-good-name-end c = omega (arith, passed (c .before) .lent .fcb)
 
 good-name-requires : tie.Need-good-name-requires
 good-name-requires c κs = search needs
 
 shared-slice-read-refuse : tie.Need-shared-slice-read-refuse
-shared-slice-read-refuse c = omega (arith, passed (c .before .before .before .before) .lent .block)
+shared-slice-read-refuse c = omega (arith, passed (c .before .before .before .before) .lent .fcb)
 
 refuse-requires : tie.Need-refuse-requires
 refuse-requires c κs = search needs
@@ -60,10 +60,10 @@ refuse-requires-2 : tie.Need-refuse-requires-2
 refuse-requires-2 c κs = search needs
 
 shared-slice-read-refuse-2 : tie.Need-shared-slice-read-refuse-2
-shared-slice-read-refuse-2 c = omega (arith, passed (c .before .before .before .before .before .before .before) .lent .block)
+shared-slice-read-refuse-2 c = omega (arith, passed (c .before .before .before .before .before .before .before) .lent .fcb)
 
 shared-slice-read-refuse-3 : tie.Need-shared-slice-read-refuse-3
-shared-slice-read-refuse-3 c = omega (arith, passed (c .before .before .before .before .before .before .before .before) .lent .block)
+shared-slice-read-refuse-3 c = omega (arith, passed (c .before .before .before .before .before .before .before .before) .lent .fcb)
 
 refuse-requires-3 : tie.Need-refuse-requires-3
 refuse-requires-3 c κs = search needs
@@ -78,7 +78,7 @@ returns-2 : tie.Need-returns-2
 unfolding firstLent nameAt part
 returns-2 c =
     let a = c .before .before .before .before .before .before .before .before .before .before .before .before .before .before .before .before .before .args in
-    let f = now (a .f) in
+    let f = now (a .fcb) in
     let xs = lentTests (a .self) (length (now (a .volume))) (length f) (length (now (a .buffer))) in
     let m = ltb 1 (byte f 0) && examined f in
     let n = examined f && not (goodName true (nameOf f)) in

@@ -1,14 +1,14 @@
 -- The state is asked first; then the three lengths.
 use mathlib.Core.Bool.{true, not}
 use lib.Dec.{eqb}
-use Rattle.geometry.specs.Geometry.{bytes}
+use Rattle.disk_geometry.specs.Geometry.{bytes}
 use Rattle.filecalls.specs.Tests.{closedState}
-use Rattle.answers.proofs.Ladder.{ladder-pass, ladder-three}
-use Rattle.answers.specs.Refusal.{firstMet, test, isNone}
-use Rattle.answers.specs.declared.Refusal.the-variants.{VolumeLength, BlockLength, BufferLength}
+use Rattle.call_answers.proofs.Ladder.{ladder-pass, ladder-three}
+use Rattle.call_answers.specs.Refusal.{firstMet, test, isNone}
+use Rattle.call_answers.specs.declared.Refusal.the-variants.{VolumeLength, FcbLength, BufferLength}
 use mathlib.Core.List.{[], _∷_}
 use Rattle.filecalls.proofs.StateLaws.{is-open}
-use Rattle.filecalls.specs.Lent.{lentTests}
+use Rattle.filecalls.specs.CodeLadder.{lentTests}
 use borrow.Author.Tests.{not-false}
 use mathlib.Core.Path.{_≡_, refl, sym, _∙_}
 use borrow.Author.Needs.{needs}
@@ -45,13 +45,13 @@ unfolding lentTests firstMet
 returns-2 c =
     let a = c .before .before .before .before .before .before .before .before .before .args in
     let v = not (eqb (a .volume) (bytes (a .self .geometry))) in
-    let f = not (eqb (a .block) 36) in
+    let f = not (eqb (a .fcb) 36) in
     let b = not (eqb (a .buffer) 128) in
     let h : isNone (firstMet (closedState (a .self) ∷ [])) ≡ true = rw (← c .before .before .before .before .before .before .before .before .is-open .ensures, c .before .before .before .before .before .before .before .if1 .left) in
     c .first-of2 .ensures
     ∙ rw (c .before .first-of .ensures, c .before .before .before .before .refuse .ensures, c .before .before .before .refuse2 .ensures, c .before .before .refuse3 .ensures, c .before .before .before .before .before .bytes .ensures)
-    (ladder-three VolumeLength BlockLength BufferLength v f b refl)
-    ∙ sym (ladder-pass (closedState (a .self) ∷ []) (test VolumeLength v ∷ test BlockLength f ∷ test BufferLength b ∷ []) h)
+    (ladder-three VolumeLength FcbLength BufferLength v f b refl)
+    ∙ sym (ladder-pass (closedState (a .self) ∷ []) (test VolumeLength v ∷ test FcbLength f ∷ test BufferLength b ∷ []) h)
 
 pub lent-why-spec : {M : Type 1} → statement M
 lent-why-spec =

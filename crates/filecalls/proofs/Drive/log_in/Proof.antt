@@ -1,8 +1,8 @@
 -- Down the ladder of log-in: each return has passed the tests above it, and the inspection tells the last one, the words and the count.
 use Rattle.filecalls.specs.LogIn.{logInTests, refusedLogIn, logIn}
-use Rattle.answers.specs.Refusal.{firstMet}
-use Rattle.goodslots.specs.GoodSlot.{lowestBad}
-use Rattle.geometry.specs.Geometry.{lawful, bytes, slots}
+use Rattle.call_answers.specs.Refusal.{firstMet}
+use Rattle.disk_rules.specs.GoodSlot.{lowestBad}
+use Rattle.disk_geometry.specs.Geometry.{lawful, bytes, slots}
 use borrow.Author.Tests.{not-false, eqb-true, lt-ltb, le-ltb}
 use lib.ListN.{length}
 use denote.Ref.{now}

@@ -4,20 +4,20 @@ use Rattle.filecalls.proofs.NamingLaws.{after, named-no, named-decided}
 use Rattle.filecalls.specs.Names.{makeAct, makeLadder}
 use Rattle.filecalls.specs.Tests.{untypeable, tooLarge, protectedDrive}
 use Rattle.filecalls.specs.Outcome.{entryTo, keeps, changedState, stored, storedAll}
-use Rattle.answers.specs.Refusal.{isNone, first}
-use Rattle.answers.specs.declared.Refusal.the-variants.{Protected}
-use Rattle.answers.proofs.Ladder.{ladder-one}
-use Rattle.making.specs.Make.{makeTests, freshEntry}
-use Rattle.control.specs.Block.{made}
-use Rattle.volume.specs.Directory.{findSlot}
-use Rattle.volume.specs.declared.Wanted.the-variants.{Empty}
+use Rattle.call_answers.specs.Refusal.{isNone, first}
+use Rattle.call_answers.specs.declared.Refusal.the-variants.{Protected}
+use Rattle.call_answers.proofs.Ladder.{ladder-one}
+use Rattle.call_make.specs.Make.{makeTests, freshEntry}
+use Rattle.call_fcb.specs.Fcb.{made}
+use Rattle.disk_volume.specs.Directory.{findSlot}
+use Rattle.disk_volume.specs.declared.Wanted.the-variants.{Empty}
 use Rattle.lists.specs.Bytes.{byte, part}
 use lib.Dec.{eqb}
 use Prim.Native.Nat.{_%_}
 use mathlib.Core.Bool.{false}
 use Rattle.filecalls.proofs.OutcomeLaws.{either}
 use Rattle.filecalls.proofs.StateLaws.{Named, named}
-use Rattle.volume.specs.Name.{nameAt, nameOf}
+use Rattle.disk_volume.specs.Name.{nameAt, nameOf}
 use denote.Ref.{now}
 use mathlib.Core.List.{[], _∷_}
 use mathlib.Core.Path.{_≡_, refl, ap, _∙_}
@@ -26,7 +26,7 @@ use Rattle.filecalls.proofs.Drive.make.Statement.{statement}
 use Rattle.filecalls.proofs.Drive.make.Tie as tie
 
 -- the tests of what is lent have passed
-clear : (c : tie.Else1) → Named (c .before .before .before .before .before .before .before .args .self) (now (c .before .before .before .before .before .before .before .args .volume)) (now (c .before .before .before .before .before .before .before .args .f)) false
+clear : (c : tie.Else1) → Named (c .before .before .before .before .before .before .before .args .self) (now (c .before .before .before .before .before .before .before .args .volume)) (now (c .before .before .before .before .before .before .before .args .fcb)) false
 clear c = named _ _ _ false (c .before .before .named-why .ensures) (c .before .is-none .ensures) (c .if1 .left)
 
 named-why-requires : tie.Need-named-why-requires
@@ -48,10 +48,10 @@ returns : tie.Need-returns
 unfolding makeAct makeLadder
 returns c =
     let a = c .before .before .before .before .before .before .before .before .args in
-    named-no (a .self) (now (a .volume)) (now (a .f)) false _ _ (c .before .before .before .named-why .ensures) (c .before .before .is-none .ensures) (c .before .if1 .taken) (c .refused .ensures)
+    named-no (a .self) (now (a .volume)) (now (a .fcb)) false _ _ (c .before .before .before .named-why .ensures) (c .before .before .is-none .ensures) (c .before .if1 .taken) (c .refused .ensures)
 
 new-file-why-requires : tie.Need-new-file-why-requires
-new-file-why-requires c κs = clear (c .before) .lent .block
+new-file-why-requires c κs = clear (c .before) .lent .fcb
 
 refuse-requires : tie.Need-refuse-requires
 refuse-requires c κs = search needs
@@ -60,7 +60,7 @@ first-of-requires : tie.Need-first-of-requires
 first-of-requires c κs = search needs
 
 make-file-requires : tie.Need-make-file-requires
-make-file-requires c κs = let l = clear (c .before .before .before .before .before .before .before) .lent in (l .state .law, (l .volume, l .block))
+make-file-requires c κs = let l = clear (c .before .before .before .before .before .before .before) .lent in (l .state .law, (l .volume, l .fcb))
 
 cast-answered : tie.Need-cast-answered
 cast-answered c = search needs
@@ -80,7 +80,7 @@ returns-2 c =
     let a = c .before .before .before .before .before .before .before .before .before .before .before .before .before .before .before .before .before .before .before .before .before .args in
     let d = a .self in
     let v = now (a .volume) in
-    let f = now (a .f) in
+    let f = now (a .fcb) in
     let m = c .before .before .before .before .before .before .make-file in
     let t = isNone (m .result .why) in
     let slot = findSlot (d .geometry) v (d .user) (nameOf f) Empty in

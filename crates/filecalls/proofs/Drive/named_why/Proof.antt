@@ -2,14 +2,14 @@
 use lib.Dec.{ltb}
 use mathlib.Core.Bool.{not}
 use Rattle.lists.specs.Bytes.{byte, part}
-use Rattle.volume.specs.Name.{goodName, nameAt}
-use Rattle.answers.proofs.Ladder.{ladder-two, ladder-stop, ladder-pass}
-use Rattle.answers.specs.declared.Refusal.the-variants.{DriveCode, Name}
+use Rattle.disk_volume.specs.Name.{goodName, nameAt}
+use Rattle.call_answers.proofs.Ladder.{ladder-two, ladder-stop, ladder-pass}
+use Rattle.call_answers.specs.declared.Refusal.the-variants.{DriveCode, Name}
 use Rattle.filecalls.proofs.OutcomeLaws.{refuses, clears}
 use Rattle.filecalls.proofs.StateLaws.{lent-clear}
-use Rattle.filecalls.specs.Ready.{Lent}
+use Rattle.filecalls.specs.CodeReady.{Lent}
 use Rattle.filecalls.specs.Tests.{driveCode, badName}
-use Rattle.filecalls.specs.Lent.{lentTests, namedTests}
+use Rattle.filecalls.specs.CodeLadder.{lentTests, namedTests}
 use lib.ListN.{length}
 use denote.Ref.{now}
 use native.Mathlib.Omega.{arith}
@@ -19,11 +19,11 @@ use borrow.Author.Needs.{needs}
 use Rattle.filecalls.proofs.Drive.named_why.Statement.{statement}
 use Rattle.filecalls.proofs.Drive.named_why.Tie as tie
 
-clear : (c : tie.Else1) → Lent (c .before .before .before .before .before .args .self) (length (now (c .before .before .before .before .before .args .volume))) (length (now (c .before .before .before .before .before .args .f))) (c .before .before .before .before .before .args .buffer)
+clear : (c : tie.Else1) → Lent (c .before .before .before .before .before .args .self) (length (now (c .before .before .before .before .before .args .volume))) (length (now (c .before .before .before .before .before .args .fcb))) (c .before .before .before .before .before .args .buffer)
 clear c =
     let a = c .before .before .before .before .before .args in
-    lent-clear (a .self) (length (now (a .volume))) (length (now (a .f))) (a .buffer)
-    (clears (lentTests (a .self) (length (now (a .volume))) (length (now (a .f))) (a .buffer)) (c .before .before .lent-why .ensures) (c .before .is-none .ensures) (c .if1 .left))
+    lent-clear (a .self) (length (now (a .volume))) (length (now (a .fcb))) (a .buffer)
+    (clears (lentTests (a .self) (length (now (a .volume))) (length (now (a .fcb))) (a .buffer)) (c .before .before .lent-why .ensures) (c .before .is-none .ensures) (c .if1 .left))
 
 lent-why-requires : tie.Need-lent-why-requires
 lent-why-requires c κs = search needs
@@ -35,11 +35,11 @@ returns : tie.Need-returns
 unfolding namedTests lentTests
 returns c =
     let a = c .before .before .before .before .before .args in
-    let xs = lentTests (a .self) (length (now (a .volume))) (length (now (a .f))) (a .buffer) in
-    c .before .before .lent-why .ensures ∙ sym (ladder-stop xs (driveCode (now (a .f)) ∷ badName (a .pattern) (now (a .f)) 1 ∷ []) (refuses xs (c .before .before .lent-why .ensures) (c .before .is-none .ensures) (c .if1 .taken)))
+    let xs = lentTests (a .self) (length (now (a .volume))) (length (now (a .fcb))) (a .buffer) in
+    c .before .before .lent-why .ensures ∙ sym (ladder-stop xs (driveCode (now (a .fcb)) ∷ badName (a .pattern) (now (a .fcb)) 1 ∷ []) (refuses xs (c .before .before .lent-why .ensures) (c .before .is-none .ensures) (c .if1 .taken)))
 
 shared-slice-read-refuse : tie.Need-shared-slice-read-refuse
-shared-slice-read-refuse c = omega (arith, clear (c .before) .block)
+shared-slice-read-refuse c = omega (arith, clear (c .before) .fcb)
 
 refuse-requires : tie.Need-refuse-requires
 refuse-requires c κs = search needs
@@ -51,7 +51,7 @@ part-good-name-start : tie.Need-part-good-name-start
 part-good-name-start c = search needs
 
 part-good-name-end : tie.Need-part-good-name-end
-part-good-name-end c = omega (arith, clear (c .before .before) .block)
+part-good-name-end c = omega (arith, clear (c .before .before) .fcb)
 
 good-name-requires : tie.Need-good-name-requires
 good-name-requires c κs = search needs
@@ -66,9 +66,9 @@ returns-2 : tie.Need-returns-2
 unfolding namedTests lentTests nameAt part
 returns-2 c =
     let a = c .before .before .before .before .before .before .before .before .before .before .before .args in
-    let xs = lentTests (a .self) (length (now (a .volume))) (length (now (a .f))) (a .buffer) in
-    c .first-of .ensures ∙ rw (c .before .before .before .before .refuse .ensures, c .before .refuse2 .ensures, c .before .before .good-name .ensures) (ladder-two DriveCode Name (ltb 1 (byte (now (a .f)) 0)) (not (goodName (a .pattern) (nameAt (now (a .f)) 1))) refl)
-    ∙ sym (ladder-pass xs (driveCode (now (a .f)) ∷ badName (a .pattern) (now (a .f)) 1 ∷ []) (clears xs (c .before .before .before .before .before .before .before .before .lent-why .ensures) (c .before .before .before .before .before .before .before .is-none .ensures) (c .before .before .before .before .before .before .if1 .left)))
+    let xs = lentTests (a .self) (length (now (a .volume))) (length (now (a .fcb))) (a .buffer) in
+    c .first-of .ensures ∙ rw (c .before .before .before .before .refuse .ensures, c .before .refuse2 .ensures, c .before .before .good-name .ensures) (ladder-two DriveCode Name (ltb 1 (byte (now (a .fcb)) 0)) (not (goodName (a .pattern) (nameAt (now (a .fcb)) 1))) refl)
+    ∙ sym (ladder-pass xs (driveCode (now (a .fcb)) ∷ badName (a .pattern) (now (a .fcb)) 1 ∷ []) (clears xs (c .before .before .before .before .before .before .before .before .lent-why .ensures) (c .before .before .before .before .before .before .before .is-none .ensures) (c .before .before .before .before .before .before .if1 .left)))
 
 pub named-why-spec : {M : Type 1} → statement M
 named-why-spec =

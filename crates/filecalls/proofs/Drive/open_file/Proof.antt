@@ -1,9 +1,9 @@
 -- What is lent refuses, or the slot that open means decides.
 use Rattle.filecalls.specs.Open.{openAct, openTests}
-use Rattle.answers.specs.Refusal.{isNone}
-use Rattle.openclose.specs.Open.{openSlot}
-use Rattle.control.specs.Block.{opened}
-use Rattle.volume.specs.Directory.{slotAt}
+use Rattle.call_answers.specs.Refusal.{isNone}
+use Rattle.call_open.specs.Open.{openSlot}
+use Rattle.call_fcb.specs.Fcb.{opened}
+use Rattle.disk_volume.specs.Directory.{slotAt}
 use Prim.Native.Nat.{_%_}
 use mathlib.Core.Bool.{true}
 use Rattle.filecalls.proofs.NamingLaws.{named-no, named-decided}
@@ -18,7 +18,7 @@ use Rattle.filecalls.proofs.Drive.open_file.Statement.{statement}
 use Rattle.filecalls.proofs.Drive.open_file.Tie as tie
 
 -- the tests of what is lent have passed
-clear : (c : tie.Else1) → Named (c .before .before .before .before .before .before .args .self) (now (c .before .before .before .before .before .before .args .volume)) (now (c .before .before .before .before .before .before .args .f)) true
+clear : (c : tie.Else1) → Named (c .before .before .before .before .before .before .args .self) (now (c .before .before .before .before .before .before .args .volume)) (now (c .before .before .before .before .before .before .args .fcb)) true
 clear c = named _ _ _ true (c .before .before .named-why .ensures) (c .before .is-none .ensures) (c .if1 .left)
 
 named-why-requires : tie.Need-named-why-requires
@@ -37,10 +37,10 @@ returns : tie.Need-returns
 unfolding openAct openTests
 returns c =
     let a = c .before .before .before .before .before .before .before .args in
-    named-no (a .self) (now (a .volume)) (now (a .f)) true _ _ (c .before .before .before .named-why .ensures) (c .before .before .is-none .ensures) (c .before .if1 .taken) (c .refused .ensures)
+    named-no (a .self) (now (a .volume)) (now (a .fcb)) true _ _ (c .before .before .before .named-why .ensures) (c .before .before .is-none .ensures) (c .before .if1 .taken) (c .refused .ensures)
 
 open-file-requires : tie.Need-open-file-requires
-open-file-requires c κs = let l = clear (c .before .before) .lent in (l .state .law, (l .volume, l .block))
+open-file-requires c κs = let l = clear (c .before .before) .lent in (l .state .law, (l .volume, l .fcb))
 
 cast-answered : tie.Need-cast-answered
 cast-answered c = search needs
@@ -57,7 +57,7 @@ returns-2 c =
     let a = c .before .before .before .before .before .before .before .before .before .before .before .before .before .args in
     let d = a .self in
     let v = now (a .volume) in
-    let f = now (a .f) in
+    let f = now (a .fcb) in
     let m = c .before .before .before .before .open-file in
     let t = isNone (m .result .why) in
     let slot = openSlot (d .geometry) v (d .user) f in

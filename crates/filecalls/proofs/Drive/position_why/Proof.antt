@@ -1,11 +1,11 @@
 -- State and length are asked first; then drive code and position.
 use Rattle.filecalls.specs.Small.{setRandomTests}
 use borrow.Author.Tests.{not-false, eqb-true}
-use Rattle.filecalls.specs.Tests.{closedState, blockLength}
-use Rattle.answers.proofs.Ladder.{ladder-pass, ladder-two}
-use Rattle.answers.specs.Refusal.{firstMet, test, isNone}
-use Rattle.answers.specs.declared.Refusal.the-variants.{DriveCode, Position}
-use Rattle.control.specs.Block.{positionFits}
+use Rattle.filecalls.specs.Tests.{closedState, fcbLength}
+use Rattle.call_answers.proofs.Ladder.{ladder-pass, ladder-two}
+use Rattle.call_answers.specs.Refusal.{firstMet, test, isNone}
+use Rattle.call_answers.specs.declared.Refusal.the-variants.{DriveCode, Position}
+use Rattle.call_fcb.specs.Fcb.{positionFits}
 use Rattle.lists.specs.Bytes.{byte}
 use lib.ListN.{length}
 use lib.Dec.{ltb, eqb}
@@ -18,8 +18,8 @@ use borrow.Author.Needs.{needs}
 use Rattle.filecalls.proofs.Drive.position_why.Statement.{statement}
 use Rattle.filecalls.proofs.Drive.position_why.Tie as tie
 
-whole : (c : tie.Else2) → length (now (c .before .before .before .before .args .f)) ≡ 36
-whole c = eqb-true _ _ (not-false (eqb (length (now (c .before .before .before .before .args .f))) 36) (c .if2 .left))
+whole : (c : tie.Else2) → length (now (c .before .before .before .before .args .fcb)) ≡ 36
+whole c = eqb-true _ _ (not-false (eqb (length (now (c .before .before .before .before .args .fcb))) 36) (c .if2 .left))
 
 is-open-requires : tie.Need-is-open-requires
 is-open-requires c κs = search needs
@@ -57,12 +57,12 @@ returns-3 : tie.Need-returns-3
 unfolding setRandomTests firstMet
 returns-3 c =
     let a = c .before .before .before .before .before .before .before .before .before .before .before .args in
-    let m = ltb 1 (byte (now (a .f)) 0) in
-    let n = not (positionFits (now (a .f))) in
-    let h : isNone (firstMet (closedState (a .self) ∷ blockLength (now (a .f)) ∷ [])) ≡ true = rw (← c .before .before .before .before .before .before .before .before .before .is-open .ensures, c .before .before .before .before .before .before .before .before .if1 .left, c .before .before .before .before .before .before .before .if2 .left) in
+    let m = ltb 1 (byte (now (a .fcb)) 0) in
+    let n = not (positionFits (now (a .fcb))) in
+    let h : isNone (firstMet (closedState (a .self) ∷ fcbLength (now (a .fcb)) ∷ [])) ≡ true = rw (← c .before .before .before .before .before .before .before .before .before .is-open .ensures, c .before .before .before .before .before .before .before .before .if1 .left, c .before .before .before .before .before .before .before .if2 .left) in
     c .first-of .ensures
     ∙ rw (c .before .before .refuse .ensures, c .before .refuse2 .ensures) (ladder-two DriveCode Position m n refl)
-    ∙ sym (ladder-pass (closedState (a .self) ∷ blockLength (now (a .f)) ∷ []) (test DriveCode m ∷ test Position n ∷ []) h)
+    ∙ sym (ladder-pass (closedState (a .self) ∷ fcbLength (now (a .fcb)) ∷ []) (test DriveCode m ∷ test Position n ∷ []) h)
 
 pub position-why-spec : {M : Type 1} → statement M
 position-why-spec =

@@ -1,7 +1,7 @@
 -- Closed, or protected from now on.
 use Rattle.filecalls.specs.Small.{protectAct, protectTests}
 use Rattle.filecalls.specs.Outcome.{outcome, unless, changedState, storedAll}
-use Rattle.answers.specs.Refusal.{firstMet}
+use Rattle.call_answers.specs.Refusal.{firstMet}
 use borrow.Author.Needs.{needs}
 use Rattle.filecalls.proofs.Drive.protect.Statement.{statement}
 use Rattle.filecalls.proofs.Drive.protect.Tie as tie

@@ -2,10 +2,10 @@
 use Rattle.filecalls.proofs.OutcomeLaws.{refuses}
 use Rattle.filecalls.proofs.LentLaws.{NamedLent, named-passed}
 use Rattle.filecalls.specs.Tests.{beyond}
-use Rattle.filecalls.specs.Lent.{namedTests, randomLent}
-use Rattle.answers.proofs.Ladder.{ladder-stop, ladder-pass, ladder-one}
-use Rattle.answers.specs.Refusal.{test}
-use Rattle.answers.specs.declared.Refusal.the-variants.{Beyond}
+use Rattle.filecalls.specs.CodeLadder.{namedTests, randomLent}
+use Rattle.call_answers.proofs.Ladder.{ladder-stop, ladder-pass, ladder-one}
+use Rattle.call_answers.specs.Refusal.{test}
+use Rattle.call_answers.specs.declared.Refusal.the-variants.{Beyond}
 use Rattle.lists.specs.Bytes.{byte}
 use lib.Dec.{eqb}
 use denote.Ref.{now}
@@ -17,7 +17,7 @@ use borrow.Author.Needs.{needs}
 use Rattle.filecalls.proofs.Drive.random_why.Statement.{statement}
 use Rattle.filecalls.proofs.Drive.random_why.Tie as tie
 
-passed : (c : tie.Else1) → NamedLent (c .before .before .before .before .before .args .self) (now (c .before .before .before .before .before .args .volume)) (now (c .before .before .before .before .before .args .f)) (c .before .before .before .before .before .args .buffer) false
+passed : (c : tie.Else1) → NamedLent (c .before .before .before .before .before .args .self) (now (c .before .before .before .before .before .args .volume)) (now (c .before .before .before .before .before .args .fcb)) (c .before .before .before .before .before .args .buffer) false
 passed c = named-passed _ _ _ _ false (c .before .before .named-why .ensures) (c .before .is-none .ensures) (c .if1 .left)
 
 named-why-requires : tie.Need-named-why-requires
@@ -30,12 +30,12 @@ returns : tie.Need-returns
 unfolding randomLent
 returns c =
     let a = c .before .before .before .before .before .args in
-    let xs = namedTests (a .self) (now (a .volume)) (now (a .f)) (a .buffer) false in
+    let xs = namedTests (a .self) (now (a .volume)) (now (a .fcb)) (a .buffer) false in
     c .before .before .named-why .ensures
-    ∙ sym (ladder-stop xs (beyond (not (eqb (byte (now (a .f)) 35) 0)) ∷ []) (refuses xs (c .before .before .named-why .ensures) (c .before .is-none .ensures) (c .if1 .taken)))
+    ∙ sym (ladder-stop xs (beyond (not (eqb (byte (now (a .fcb)) 35) 0)) ∷ []) (refuses xs (c .before .before .named-why .ensures) (c .before .is-none .ensures) (c .if1 .taken)))
 
 shared-slice-read-refuse : tie.Need-shared-slice-read-refuse
-shared-slice-read-refuse c = omega (arith, passed (c .before) .lent .block)
+shared-slice-read-refuse c = omega (arith, passed (c .before) .lent .fcb)
 
 refuse-requires : tie.Need-refuse-requires
 refuse-requires c κs = search needs
@@ -44,9 +44,9 @@ returns-2 : tie.Need-returns-2
 unfolding randomLent
 returns-2 c =
     let a = c .before .before .before .before .before .before .before .args in
-    let m = not (eqb (byte (now (a .f)) 35) 0) in
+    let m = not (eqb (byte (now (a .fcb)) 35) 0) in
     c .refuse .ensures ∙ ladder-one Beyond m refl
-    ∙ sym (ladder-pass (namedTests (a .self) (now (a .volume)) (now (a .f)) (a .buffer) false) (test Beyond m ∷ []) (passed (c .before .before) .none))
+    ∙ sym (ladder-pass (namedTests (a .self) (now (a .volume)) (now (a .fcb)) (a .buffer) false) (test Beyond m ∷ []) (passed (c .before .before) .none))
 
 pub random-why-spec : {M : Type 1} → statement M
 random-why-spec =

@@ -1,12 +1,12 @@
 -- The read's own refusal is the ladder's; control block and buffer follow it.
 use mathlib.Core.List.{[]}
 use denote.Ref.{now}
-use Rattle.volume.specs.Name.{nameOf}
-use Rattle.volume.specs.Directory.{slotAt}
-use Rattle.volume.specs.Record.{recordSlot}
-use Rattle.control.specs.Block.{setTo}
-use Rattle.reading.specs.Read.{readTests, readBytes}
-use Rattle.answers.specs.Refusal.{isNone}
+use Rattle.disk_volume.specs.Name.{nameOf}
+use Rattle.disk_volume.specs.Directory.{slotAt}
+use Rattle.disk_volume.specs.Record.{recordSlot}
+use Rattle.call_fcb.specs.Fcb.{setTo}
+use Rattle.call_read.specs.Read.{readTests, readBytes}
+use Rattle.call_answers.specs.Refusal.{isNone}
 use Rattle.filecalls.specs.Outcome.{keeps, changedState, storedAll}
 use Rattle.filecalls.specs.Read.{readDone}
 use Rattle.filecalls.proofs.OutcomeLaws.{either, decided}
@@ -32,7 +32,7 @@ returns c =
     let a = c .before .before .before .before .before .before .before .before .before .before .before .before .args in
     let d = a .self in
     let v = now (a .volume) in
-    let f = now (a .f) in
+    let f = now (a .fcb) in
     let m = c .before .before .before .before .before .read-record in
     let t = isNone (m .result) in
     decided d v f (now (a .buffer)) 0 keeps [] (setTo f (slotAt (d .geometry) v (recordSlot (d .geometry) v (d .user) (nameOf f) (a .n))) (a .n) (a .cr)) (readBytes (d .geometry) v (d .user) (nameOf f) (a .n))

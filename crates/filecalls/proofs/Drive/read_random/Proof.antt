@@ -3,19 +3,19 @@ use mathlib.Core.Path.{refl}
 use denote.Ref.{now}
 use Prim.Native.Nat.{_%_}
 use lib.ListN.{length}
-use Rattle.volume.specs.Name.{nameOf}
-use Rattle.control.specs.Block.{random}
-use Rattle.reading.specs.Read.{readTests}
-use Rattle.answers.specs.declared.Refusal.the-variants.{NoGroup}
+use Rattle.disk_volume.specs.Name.{nameOf}
+use Rattle.call_fcb.specs.Fcb.{random}
+use Rattle.call_read.specs.Read.{readTests}
+use Rattle.call_answers.specs.declared.Refusal.the-variants.{NoGroup}
 use Rattle.filecalls.specs.Read.{randomTests, readRandomAct, readDone}
-use Rattle.filecalls.specs.Lent.{namedTests, randomLent}
+use Rattle.filecalls.specs.CodeLadder.{namedTests, randomLent}
 use Rattle.filecalls.proofs.LentLaws.{Random, random-passed}
 use Rattle.filecalls.proofs.OutcomeLaws.{passes, refused-at}
 use borrow.Author.Needs.{needs}
 use Rattle.filecalls.proofs.Drive.read_random.Statement.{statement}
 use Rattle.filecalls.proofs.Drive.read_random.Tie as tie
 
-passed : (c : tie.Else1) → Random (c .before .before .before .before .before .before .before .args .self) (now (c .before .before .before .before .before .before .before .args .volume)) (now (c .before .before .before .before .before .before .before .args .f)) (length (now (c .before .before .before .before .before .before .before .args .buffer)))
+passed : (c : tie.Else1) → Random (c .before .before .before .before .before .before .before .args .self) (now (c .before .before .before .before .before .before .before .args .volume)) (now (c .before .before .before .before .before .before .before .args .fcb)) (length (now (c .before .before .before .before .before .before .before .args .buffer)))
 passed c = random-passed _ _ _ _ (c .before .before .random-why .ensures) (c .before .is-none .ensures) (c .if1 .left)
 
 random-why-requires : tie.Need-random-why-requires
@@ -36,13 +36,13 @@ returns c =
     let a = c .before .before .before .before .before .before .before .before .args in
     let d = a .self in
     let v = now (a .volume) in
-    let f = now (a .f) in
+    let f = now (a .fcb) in
     let b = now (a .buffer) in
     refused-at d v f b (randomLent d v f (length b)) _ _
     (c .before .before .before .random-why .ensures) (c .before .before .is-none .ensures) (c .before .if1 .taken) (c .refused .ensures)
 
 random-of-requires : tie.Need-random-of-requires
-random-of-requires c κs = passed (c .before) .lent .block
+random-of-requires c κs = passed (c .before) .lent .fcb
 
 cast-read-at : tie.Need-cast-read-at
 cast-read-at c = search needs
@@ -62,7 +62,7 @@ returns-2 c =
     let a = c .before .before .before .before .before .before .before .before .before .before .before .before .before .before .before .before .args in
     let d = a .self in
     let v = now (a .volume) in
-    let f = now (a .f) in
+    let f = now (a .fcb) in
     let b = now (a .buffer) in
     rw (passes (randomLent d v f (length b)) (readTests (d .geometry) v (d .user) (nameOf f) (random f) NoGroup) (readDone d v f (random f) (random f % 128)) (passed (c .before .before .before .before .before .before .before .before .before) .none), ← c .before .before .before .before .before .before .before .random-of .ensures .0)
     (c .before .before .before .before .read-at .ensures)

@@ -4,19 +4,19 @@ use native.Mathlib.Omega.{arith}
 use denote.Ref.{now}
 use Prim.Native.Nat.{_+_, _%_}
 use lib.ListN.{length}
-use Rattle.volume.specs.Name.{nameOf}
-use Rattle.control.specs.Block.{position}
-use Rattle.reading.specs.Read.{readTests}
-use Rattle.answers.specs.declared.Refusal.the-variants.{Absent}
+use Rattle.disk_volume.specs.Name.{nameOf}
+use Rattle.call_fcb.specs.Fcb.{position}
+use Rattle.call_read.specs.Read.{readTests}
+use Rattle.call_answers.specs.declared.Refusal.the-variants.{Absent}
 use Rattle.filecalls.specs.Read.{sequentialTests, readSequentialAct, readDone}
-use Rattle.filecalls.specs.Lent.{namedTests, sequentialLent}
+use Rattle.filecalls.specs.CodeLadder.{namedTests, sequentialLent}
 use Rattle.filecalls.proofs.LentLaws.{Sequential, sequential-passed}
 use Rattle.filecalls.proofs.OutcomeLaws.{passes, refused-at}
 use borrow.Author.Needs.{needs}
 use Rattle.filecalls.proofs.Drive.read_sequential.Statement.{statement}
 use Rattle.filecalls.proofs.Drive.read_sequential.Tie as tie
 
-passed : (c : tie.Else1) → Sequential (c .before .before .before .before .before .before .before .args .self) (now (c .before .before .before .before .before .before .before .args .volume)) (now (c .before .before .before .before .before .before .before .args .f)) (length (now (c .before .before .before .before .before .before .before .args .buffer)))
+passed : (c : tie.Else1) → Sequential (c .before .before .before .before .before .before .before .args .self) (now (c .before .before .before .before .before .before .before .args .volume)) (now (c .before .before .before .before .before .before .before .args .fcb)) (length (now (c .before .before .before .before .before .before .before .args .buffer)))
 passed c = sequential-passed _ _ _ _ (c .before .before .sequential-why .ensures) (c .before .is-none .ensures) (c .if1 .left)
 
 sequential-why-requires : tie.Need-sequential-why-requires
@@ -37,13 +37,13 @@ returns c =
     let a = c .before .before .before .before .before .before .before .before .args in
     let d = a .self in
     let v = now (a .volume) in
-    let f = now (a .f) in
+    let f = now (a .fcb) in
     let b = now (a .buffer) in
     refused-at d v f b (sequentialLent d v f (length b)) _ _
     (c .before .before .before .sequential-why .ensures) (c .before .before .is-none .ensures) (c .before .if1 .taken) (c .refused .ensures)
 
 position-of-requires : tie.Need-position-of-requires
-position-of-requires c κs = passed (c .before) .lent .block
+position-of-requires c κs = passed (c .before) .lent .fcb
 
 add-read-at : tie.Need-add-read-at
 add-read-at c = search needs
@@ -66,7 +66,7 @@ returns-2 c =
     let a = c .before .before .before .before .before .before .before .before .before .before .before .before .before .before .before .before .args in
     let d = a .self in
     let v = now (a .volume) in
-    let f = now (a .f) in
+    let f = now (a .fcb) in
     let b = now (a .buffer) in
     rw (passes (sequentialLent d v f (length b)) (readTests (d .geometry) v (d .user) (nameOf f) (position f) Absent) (readDone d v f (position f) (position f % 128 + 1)) (passed (c .before .before .before .before .before .before .before .before .before) .none), ← c .before .before .before .before .before .before .before .position-of .ensures .0)
     (c .before .before .before .before .read-at .ensures)

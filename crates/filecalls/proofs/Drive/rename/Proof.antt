@@ -1,14 +1,14 @@
 -- What is lent refuses, or the renaming of the file decides, after the new name and the protection.
 use Rattle.filecalls.proofs.NamingLaws.{after, named-no, named-decided}
 use Rattle.filecalls.specs.Names.{renameAct, renameLadder}
-use Rattle.answers.specs.Refusal.{isNone, first}
-use Rattle.answers.specs.declared.Refusal.the-variants.{Protected}
-use Rattle.answers.proofs.Ladder.{ladder-one}
-use Rattle.sweeping.specs.declared.Edit.the-variants.{Rename}
-use Rattle.sweeping.specs.Sweep.{changed}
-use Rattle.naming.specs.Rename.{renameTests}
-use Rattle.control.specs.Block.{newName}
-use Rattle.volume.specs.Name.{nameAt, nameOf}
+use Rattle.call_answers.specs.Refusal.{isNone, first}
+use Rattle.call_answers.specs.declared.Refusal.the-variants.{Protected}
+use Rattle.call_answers.proofs.Ladder.{ladder-one}
+use Rattle.call_sweep.specs.declared.Edit.the-variants.{Rename}
+use Rattle.call_sweep.specs.Sweep.{changed}
+use Rattle.call_rename.specs.Rename.{renameTests}
+use Rattle.call_fcb.specs.Fcb.{newName}
+use Rattle.disk_volume.specs.Name.{nameAt, nameOf}
 use Rattle.lists.specs.Bytes.{part}
 use mathlib.Core.Bool.{false}
 use Rattle.filecalls.proofs.OutcomeLaws.{either}
@@ -24,7 +24,7 @@ use Rattle.filecalls.proofs.Drive.rename.Statement.{statement}
 use Rattle.filecalls.proofs.Drive.rename.Tie as tie
 
 -- the tests of what is lent have passed
-clear : (c : tie.Else1) → Named (c .before .before .before .before .before .before .args .self) (now (c .before .before .before .before .before .before .args .volume)) (now (c .before .before .before .before .before .before .args .f)) false
+clear : (c : tie.Else1) → Named (c .before .before .before .before .before .before .args .self) (now (c .before .before .before .before .before .before .args .volume)) (now (c .before .before .before .before .before .before .args .fcb)) false
 clear c = named _ _ _ false (c .before .before .named-why .ensures) (c .before .is-none .ensures) (c .if1 .left)
 
 named-why-requires : tie.Need-named-why-requires
@@ -43,10 +43,10 @@ returns : tie.Need-returns
 unfolding renameAct renameLadder
 returns c =
     let a = c .before .before .before .before .before .before .before .args in
-    named-no (a .self) (now (a .volume)) (now (a .f)) false _ _ (c .before .before .before .named-why .ensures) (c .before .before .is-none .ensures) (c .before .if1 .taken) (c .refused .ensures)
+    named-no (a .self) (now (a .volume)) (now (a .fcb)) false _ _ (c .before .before .before .named-why .ensures) (c .before .before .is-none .ensures) (c .before .if1 .taken) (c .refused .ensures)
 
 new-name-why-requires : tie.Need-new-name-why-requires
-new-name-why-requires c κs = clear c .lent .block
+new-name-why-requires c κs = clear c .lent .fcb
 
 refuse-requires : tie.Need-refuse-requires
 refuse-requires c κs = search needs
@@ -61,7 +61,7 @@ part-rename-file-start : tie.Need-part-rename-file-start
 part-rename-file-start c = search needs
 
 part-rename-file-end : tie.Need-part-rename-file-end
-part-rename-file-end c = omega (arith, clear (c .before .before .before .before .before) .lent .block)
+part-rename-file-end c = omega (arith, clear (c .before .before .before .before .before) .lent .fcb)
 
 sub-rename-file-2 : tie.Need-sub-rename-file-2
 sub-rename-file-2 c = search needs
@@ -70,7 +70,7 @@ part-rename-file-start-2 : tie.Need-part-rename-file-start-2
 part-rename-file-start-2 c = search needs
 
 part-rename-file-end-2 : tie.Need-part-rename-file-end-2
-part-rename-file-end-2 c = omega (arith, clear (c .before .before .before .before .before .before) .lent .block)
+part-rename-file-end-2 c = omega (arith, clear (c .before .before .before .before .before .before) .lent .fcb)
 
 rename-file-requires : tie.Need-rename-file-requires
 rename-file-requires c κs = let l = clear (c .before .before .before .before .before .before .before) .lent in ((l .state .law, l .volume), (search needs, search needs))
@@ -87,7 +87,7 @@ returns-2 c =
     let a = c .before .before .before .before .before .before .before .before .before .before .before .before .before .before .before .before .before .args in
     let d = a .self in
     let v = now (a .volume) in
-    let f = now (a .f) in
+    let f = now (a .fcb) in
     let m = c .before .before .before .rename-file in
     let t = isNone (m .result) in
     named-decided d v f (clear (c .before .before .before .before .before .before .before .before .before .before .before)) 0 keeps (eachEntry (changed Rename (d .user) (nameOf f) (part f 17 11)) ∷ []) f _

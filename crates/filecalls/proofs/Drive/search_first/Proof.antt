@@ -4,18 +4,18 @@ use mathlib.Core.List.{[], _∷_}
 use native.Mathlib.Omega.{arith}
 use denote.Ref.{now}
 use lib.Dec.{leb}
-use Rattle.geometry.specs.Geometry.{slots}
-use Rattle.answers.specs.declared.Refusal.the-variants.{NoMatch}
-use Rattle.answers.specs.Refusal.{test}
-use Rattle.filecalls.specs.Lent.{lentTests, firstLent}
-use Rattle.filecalls.specs.Search.{searchFirstAct, firstTests, newSearch, hit, shown}
+use Rattle.disk_geometry.specs.Geometry.{slots}
+use Rattle.call_answers.specs.declared.Refusal.the-variants.{NoMatch}
+use Rattle.call_answers.specs.Refusal.{test}
+use Rattle.filecalls.specs.CodeLadder.{lentTests, firstLent}
+use Rattle.filecalls.specs.Search.{searchFirstAct, firstTests, newSearch, hit, hitAct}
 use Rattle.filecalls.proofs.SearchLaws.{First, first-passed}
 use Rattle.filecalls.proofs.OutcomeLaws.{passes, refused-at}
 use borrow.Author.Needs.{needs}
 use Rattle.filecalls.proofs.Drive.search_first.Statement.{statement}
 use Rattle.filecalls.proofs.Drive.search_first.Tie as tie
 
-passed : (c : tie.Else1) → First (c .before .before .before .before .before .before .before .args .self) (now (c .before .before .before .before .before .before .before .args .volume)) (now (c .before .before .before .before .before .before .before .args .f)) (now (c .before .before .before .before .before .before .before .args .buffer))
+passed : (c : tie.Else1) → First (c .before .before .before .before .before .before .before .args .self) (now (c .before .before .before .before .before .before .before .args .volume)) (now (c .before .before .before .before .before .before .before .args .fcb)) (now (c .before .before .before .before .before .before .before .args .buffer))
 passed c = first-passed _ _ _ _ (c .before .before .first-why .ensures) (c .before .is-none .ensures) (c .if1 .left)
 
 first-why-requires : tie.Need-first-why-requires
@@ -36,23 +36,23 @@ returns c =
     let a = c .before .before .before .before .before .before .before .before .args in
     let d = a .self in
     let v = now (a .volume) in
-    let f = now (a .f) in
+    let f = now (a .fcb) in
     let b = now (a .buffer) in
     refused-at d v f b (firstLent d v f b) _ _ (c .before .before .before .first-why .ensures) (c .before .before .is-none .ensures) (c .before .if1 .taken) (c .refused .ensures)
 
-shared-slice-read-kind-of : tie.Need-shared-slice-read-kind-of
-shared-slice-read-kind-of c = omega (arith, passed (c .before) .lent .block)
+shared-slice-read-kind-asked : tie.Need-shared-slice-read-kind-asked
+shared-slice-read-kind-asked c = omega (arith, passed (c .before) .lent .fcb)
 
-kind-of-requires : tie.Need-kind-of-requires
-kind-of-requires c κs = search needs
+kind-asked-requires : tie.Need-kind-asked-requires
+kind-asked-requires c κs = search needs
 
 pattern-of-requires : tie.Need-pattern-of-requires
-pattern-of-requires c κs = passed (c .before .before) .lent .block
+pattern-of-requires c κs = passed (c .before .before) .lent .fcb
 
 search-on-requires : tie.Need-search-on-requires
 search-on-requires c κs =
     let l = passed (c .before .before .before .before) .lent in
-    (record { state = l .state; volume = l .volume; block = refl; buffer = l .buffer }, search needs)
+    (record { state = l .state; volume = l .volume; fcb = refl; buffer = l .buffer }, search needs)
 
 same-length-2 : tie.Need-same-length-2
 same-length-2 c = search needs
@@ -63,12 +63,12 @@ returns-2 c =
     let a = c .before .before .before .before .before .before .before .before .before .before .before .before .before .before .args in
     let d = a .self in
     let v = now (a .volume) in
-    let f = now (a .f) in
+    let f = now (a .fcb) in
     let b = now (a .buffer) in
     let q = newSearch d f in
     let i = hit (d .geometry) v q 0 in
-    rw (passes (firstLent d v f b) (test NoMatch (leb (slots (d .geometry)) i) ∷ []) (shown d v f q i) (passed (c .before .before .before .before .before .before .before) .none))
-    (rw (c .before .before .before .before .before .kind-of .ensures, c .before .before .before .before .pattern-of .ensures) at (c .before .before .search-on .ensures f))
+    rw (passes (firstLent d v f b) (test NoMatch (leb (slots (d .geometry)) i) ∷ []) (hitAct d v f q i) (passed (c .before .before .before .before .before .before .before) .none))
+    (rw (c .before .before .before .before .before .kind-asked .ensures, c .before .before .before .before .pattern-of .ensures) at (c .before .before .search-on .ensures f))
 
 pub search-first-spec : {M : Type 1} → statement M
 search-first-spec =
@@ -79,8 +79,8 @@ search-first-spec =
     refused-requires
     same-length
     returns
-    shared-slice-read-kind-of
-    kind-of-requires
+    shared-slice-read-kind-asked
+    kind-asked-requires
     pattern-of-requires
     search-on-requires
     same-length-2

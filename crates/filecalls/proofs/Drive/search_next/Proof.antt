@@ -7,11 +7,11 @@ use denote.Ref.{now}
 use lib.Dec.{leb}
 use Prim.Native.Nat.{_+_, _<_}
 use borrow.Author.Tests.{not-false}
-use Rattle.geometry.proofs.GeometryLaws.{bounds}
-use Rattle.geometry.specs.Geometry.{slots}
-use Rattle.answers.specs.declared.Refusal.the-variants.{NoMatch}
-use Rattle.answers.specs.Refusal.{test}
-use Rattle.filecalls.specs.Search.{searchNextAct, nextTests, isKept, hit, shown}
+use Rattle.disk_geometry.proofs.GeometryLaws.{bounds}
+use Rattle.disk_geometry.specs.Geometry.{slots}
+use Rattle.call_answers.specs.declared.Refusal.the-variants.{NoMatch}
+use Rattle.call_answers.specs.Refusal.{test}
+use Rattle.filecalls.specs.Search.{searchNextAct, nextTests, isKept, hit, hitAct}
 use Rattle.filecalls.proofs.SearchLaws.{Next, next-passed, nextLent, no-block, kept-below}
 use Rattle.filecalls.proofs.OutcomeLaws.{passes, refused-at, stops-then, says-no}
 use borrow.Author.Needs.{needs}
@@ -80,7 +80,7 @@ returns-3 c =
     let b = now (a .buffer) in
     let i = hit (d .geometry) v (d .search) (d .search .last + 1) in
     let e : not (isKept (d .search .kind)) ≡ false = ap not (sym (c .before .before .before .before .before .before .is-open-search .ensures)) ∙ c .before .before .before .before .before .if2 .left in
-    rw (passes (nextLent d v b) (test NoMatch (not (isKept (d .search .kind)) || leb (slots (d .geometry)) i) ∷ []) (shown d v [] (d .search) i) (passed (c .before .before .before .before .before .before .before .before) .none), e)
+    rw (passes (nextLent d v b) (test NoMatch (not (isKept (d .search .kind)) || leb (slots (d .geometry)) i) ∷ []) (hitAct d v [] (d .search) i) (passed (c .before .before .before .before .before .before .before .before) .none), e)
     (c .before .before .search-on .ensures [])
 
 pub search-next-spec : {M : Type 1} → statement M

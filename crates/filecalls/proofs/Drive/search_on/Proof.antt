@@ -3,7 +3,7 @@ use Prim.Native.Nat.{ℕ, _<_, _≤_}
 use mathlib.Core.List.{List}
 use native.Mathlib.Omega.{arith}
 use denote.Ref.{now}
-use Rattle.geometry.specs.Geometry.{slots}
+use Rattle.disk_geometry.specs.Geometry.{slots}
 use Rattle.filecalls.specs.Search.{hit}
 use Rattle.filecalls.proofs.SearchLaws.{hits, misses}
 use borrow.Author.Needs.{needs}

@@ -2,11 +2,11 @@
 use Rattle.filecalls.proofs.OutcomeLaws.{refuses}
 use Rattle.filecalls.proofs.LentLaws.{NamedLent, named-passed}
 use Rattle.filecalls.specs.Tests.{tooLarge, beyond}
-use Rattle.filecalls.specs.Lent.{namedTests, sequentialLent}
-use Rattle.answers.proofs.Ladder.{ladder-stop, ladder-pass, ladder-two}
-use Rattle.answers.specs.Refusal.{test}
-use Rattle.answers.specs.declared.Refusal.the-variants.{Position, Beyond}
-use Rattle.control.specs.Block.{position, positionFits}
+use Rattle.filecalls.specs.CodeLadder.{namedTests, sequentialLent}
+use Rattle.call_answers.proofs.Ladder.{ladder-stop, ladder-pass, ladder-two}
+use Rattle.call_answers.specs.Refusal.{test}
+use Rattle.call_answers.specs.declared.Refusal.the-variants.{Position, Beyond}
+use Rattle.call_fcb.specs.Fcb.{position, positionFits}
 use lib.Dec.{eqb}
 use denote.Ref.{now}
 use native.Mathlib.Omega.{arith}
@@ -17,7 +17,7 @@ use borrow.Author.Needs.{needs}
 use Rattle.filecalls.proofs.Drive.sequential_why.Statement.{statement}
 use Rattle.filecalls.proofs.Drive.sequential_why.Tie as tie
 
-passed : (c : tie.Else1) → NamedLent (c .before .before .before .before .before .args .self) (now (c .before .before .before .before .before .args .volume)) (now (c .before .before .before .before .before .args .f)) (c .before .before .before .before .before .args .buffer) false
+passed : (c : tie.Else1) → NamedLent (c .before .before .before .before .before .args .self) (now (c .before .before .before .before .before .args .volume)) (now (c .before .before .before .before .before .args .fcb)) (c .before .before .before .before .before .args .buffer) false
 passed c = named-passed _ _ _ _ false (c .before .before .named-why .ensures) (c .before .is-none .ensures) (c .if1 .left)
 
 named-why-requires : tie.Need-named-why-requires
@@ -30,21 +30,21 @@ returns : tie.Need-returns
 unfolding sequentialLent
 returns c =
     let a = c .before .before .before .before .before .args in
-    let xs = namedTests (a .self) (now (a .volume)) (now (a .f)) (a .buffer) false in
+    let xs = namedTests (a .self) (now (a .volume)) (now (a .fcb)) (a .buffer) false in
     c .before .before .named-why .ensures
-    ∙ sym (ladder-stop xs (tooLarge (positionFits (now (a .f))) ∷ beyond (eqb (position (now (a .f))) 65536) ∷ []) (refuses xs (c .before .before .named-why .ensures) (c .before .is-none .ensures) (c .if1 .taken)))
+    ∙ sym (ladder-stop xs (tooLarge (positionFits (now (a .fcb))) ∷ beyond (eqb (position (now (a .fcb))) 65536) ∷ []) (refuses xs (c .before .before .named-why .ensures) (c .before .is-none .ensures) (c .if1 .taken)))
 
 shared-slice-read-fits : tie.Need-shared-slice-read-fits
-shared-slice-read-fits c = omega (arith, passed (c .before) .lent .block)
+shared-slice-read-fits c = omega (arith, passed (c .before) .lent .fcb)
 
 shared-slice-read-fits-2 : tie.Need-shared-slice-read-fits-2
-shared-slice-read-fits-2 c = omega (arith, passed (c .before .before) .lent .block)
+shared-slice-read-fits-2 c = omega (arith, passed (c .before .before) .lent .fcb)
 
 shared-slice-read-fits-3 : tie.Need-shared-slice-read-fits-3
-shared-slice-read-fits-3 c = omega (arith, passed (c .before .before .before) .lent .block)
+shared-slice-read-fits-3 c = omega (arith, passed (c .before .before .before) .lent .fcb)
 
 position-of-requires : tie.Need-position-of-requires
-position-of-requires c κs = passed (c .before .before .before) .lent .block
+position-of-requires c κs = passed (c .before .before .before) .lent .fcb
 
 refuse-requires : tie.Need-refuse-requires
 refuse-requires c κs = search needs
@@ -59,11 +59,11 @@ returns-2 : tie.Need-returns-2
 unfolding sequentialLent
 returns-2 c =
     let a = c .before .before .before .before .before .before .before .before .before .before .before .before .args in
-    let m = not (positionFits (now (a .f))) in
-    let n = eqb (position (now (a .f))) 65536 in
+    let m = not (positionFits (now (a .fcb))) in
+    let n = eqb (position (now (a .fcb))) 65536 in
     c .first-of .ensures
     ∙ rw (c .before .before .refuse .ensures, c .before .refuse2 .ensures, c .before .before .before .position-of .ensures .0) (ladder-two Position Beyond m n refl)
-    ∙ sym (ladder-pass (namedTests (a .self) (now (a .volume)) (now (a .f)) (a .buffer) false) (test Position m ∷ test Beyond n ∷ []) (passed (c .before .before .before .before .before .before .before) .none))
+    ∙ sym (ladder-pass (namedTests (a .self) (now (a .volume)) (now (a .fcb)) (a .buffer) false) (test Position m ∷ test Beyond n ∷ []) (passed (c .before .before .before .before .before .before .before) .none))
 
 pub sequential-why-spec : {M : Type 1} → statement M
 sequential-why-spec =

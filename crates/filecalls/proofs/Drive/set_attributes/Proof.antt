@@ -1,14 +1,14 @@
 -- What is lent refuses, or the marking of the file decides, after the protection.
 use Rattle.filecalls.specs.Tests.{protectedDrive}
 use Rattle.filecalls.specs.Names.{attributesAct, attributesLadder}
-use Rattle.answers.specs.Refusal.{test, isNone}
-use Rattle.answers.specs.declared.Refusal.the-variants.{Protected, NoMatch}
-use Rattle.answers.proofs.Ladder.{ladder-one}
-use Rattle.sweeping.specs.declared.Edit.the-variants.{Attributes}
-use Rattle.sweeping.specs.Sweep.{changed}
-use Rattle.volume.specs.Directory.{findSlot}
-use Rattle.geometry.specs.Geometry.{slots}
-use Rattle.volume.specs.declared.Wanted.the-variants.{File}
+use Rattle.call_answers.specs.Refusal.{test, isNone}
+use Rattle.call_answers.specs.declared.Refusal.the-variants.{Protected, NoMatch}
+use Rattle.call_answers.proofs.Ladder.{ladder-one}
+use Rattle.call_sweep.specs.declared.Edit.the-variants.{Attributes}
+use Rattle.call_sweep.specs.Sweep.{changed}
+use Rattle.disk_volume.specs.Directory.{findSlot}
+use Rattle.disk_geometry.specs.Geometry.{slots}
+use Rattle.disk_volume.specs.declared.Wanted.the-variants.{File}
 use Rattle.lists.specs.Bytes.{part}
 use lib.Dec.{leb}
 use mathlib.Core.Bool.{false}
@@ -16,7 +16,7 @@ use Rattle.filecalls.proofs.NamingLaws.{named-no, named-decided, after}
 use Rattle.filecalls.proofs.OutcomeLaws.{either}
 use Rattle.filecalls.proofs.StateLaws.{Named, named}
 use Rattle.filecalls.specs.Outcome.{keeps, eachEntry, changedState, stored, storedAll}
-use Rattle.volume.specs.Name.{nameAt, nameOf}
+use Rattle.disk_volume.specs.Name.{nameAt, nameOf}
 use denote.Ref.{now}
 use native.Mathlib.Omega.{arith}
 use mathlib.Core.List.{[], _∷_}
@@ -26,7 +26,7 @@ use Rattle.filecalls.proofs.Drive.set_attributes.Statement.{statement}
 use Rattle.filecalls.proofs.Drive.set_attributes.Tie as tie
 
 -- the tests of what is lent have passed
-clear : (c : tie.Else1) → Named (c .before .before .before .before .before .before .args .self) (now (c .before .before .before .before .before .before .args .volume)) (now (c .before .before .before .before .before .before .args .f)) false
+clear : (c : tie.Else1) → Named (c .before .before .before .before .before .before .args .self) (now (c .before .before .before .before .before .before .args .volume)) (now (c .before .before .before .before .before .before .args .fcb)) false
 clear c = named _ _ _ false (c .before .before .named-why .ensures) (c .before .is-none .ensures) (c .if1 .left)
 
 named-why-requires : tie.Need-named-why-requires
@@ -45,22 +45,22 @@ returns : tie.Need-returns
 unfolding attributesAct attributesLadder
 returns c =
     let a = c .before .before .before .before .before .before .before .args in
-    named-no (a .self) (now (a .volume)) (now (a .f)) false _ _ (c .before .before .before .named-why .ensures) (c .before .before .is-none .ensures) (c .before .if1 .taken) (c .refused .ensures)
+    named-no (a .self) (now (a .volume)) (now (a .fcb)) false _ _ (c .before .before .before .named-why .ensures) (c .before .before .is-none .ensures) (c .before .if1 .taken) (c .refused .ensures)
 
 refuse-requires : tie.Need-refuse-requires
 refuse-requires c κs = search needs
 
-sub-mark-file : tie.Need-sub-mark-file
-sub-mark-file c = search needs
+sub-attribute-file : tie.Need-sub-attribute-file
+sub-attribute-file c = search needs
 
-part-mark-file-start : tie.Need-part-mark-file-start
-part-mark-file-start c = search needs
+part-attribute-file-start : tie.Need-part-attribute-file-start
+part-attribute-file-start c = search needs
 
-part-mark-file-end : tie.Need-part-mark-file-end
-part-mark-file-end c = omega (arith, clear (c .before .before .before) .lent .block)
+part-attribute-file-end : tie.Need-part-attribute-file-end
+part-attribute-file-end c = omega (arith, clear (c .before .before .before) .lent .fcb)
 
-mark-file-requires : tie.Need-mark-file-requires
-mark-file-requires c κs = let l = clear (c .before .before .before .before) .lent in (l .state .law, (l .volume, search needs))
+attribute-file-requires : tie.Need-attribute-file-requires
+attribute-file-requires c κs = let l = clear (c .before .before .before .before) .lent in (l .state .law, (l .volume, search needs))
 
 answered-requires : tie.Need-answered-requires
 answered-requires c κs = search needs
@@ -74,8 +74,8 @@ returns-2 c =
     let a = c .before .before .before .before .before .before .before .before .before .before .before .before .before .before .args in
     let d = a .self in
     let v = now (a .volume) in
-    let f = now (a .f) in
-    let m = c .before .before .before .mark-file in
+    let f = now (a .fcb) in
+    let m = c .before .before .before .attribute-file in
     let t = isNone (m .result) in
     named-decided d v f (clear (c .before .before .before .before .before .before .before .before)) 0 keeps (eachEntry (changed Attributes (d .user) (nameOf f) (part f 1 11)) ∷ []) f _
     (after (protectedDrive d ∷ []) (test NoMatch (leb (slots (d .geometry)) (findSlot (d .geometry) v (d .user) (nameOf f) File)) ∷ []) (c .before .before .before .before .before .before .before .refuse .ensures ∙ ladder-one Protected (d .protected) refl) (m .ensures .0))
@@ -91,10 +91,10 @@ set-attributes-spec =
     same-length
     returns
     refuse-requires
-    sub-mark-file
-    part-mark-file-start
-    part-mark-file-end
-    mark-file-requires
+    sub-attribute-file
+    part-attribute-file-start
+    part-attribute-file-end
+    attribute-file-requires
     answered-requires
     same-length-2
     returns-2)

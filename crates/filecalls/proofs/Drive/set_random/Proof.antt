@@ -2,9 +2,9 @@
 use Rattle.filecalls.proofs.OutcomeLaws.{refused-at, clears}
 use Rattle.filecalls.specs.Small.{setRandomTests, setRandomAct}
 use Rattle.filecalls.specs.Outcome.{unless, outcome, changedState, storedAll}
-use Rattle.answers.proofs.Ladder.{unmet}
-use Rattle.answers.specs.Refusal.{firstMet, isNone}
-use Rattle.answers.specs.declared.Refusal.the-variants.{Closed, BlockLength}
+use Rattle.call_answers.proofs.Ladder.{unmet}
+use Rattle.call_answers.specs.Refusal.{firstMet, isNone}
+use Rattle.call_answers.specs.declared.Refusal.the-variants.{Closed, FcbLength}
 use borrow.Author.Tests.{not-false, eqb-true}
 use lib.ListN.{length}
 use lib.Dec.{eqb}
@@ -17,15 +17,15 @@ use borrow.Author.Needs.{needs}
 use Rattle.filecalls.proofs.Drive.set_random.Statement.{statement}
 use Rattle.filecalls.proofs.Drive.set_random.Tie as tie
 
-none : (c : tie.Else1) → isNone (firstMet (setRandomTests (c .before .before .before .before .before .args .self) (now (c .before .before .before .before .before .args .f)))) ≡ true
-none c = clears (setRandomTests (c .before .before .before .before .before .args .self) (now (c .before .before .before .before .before .args .f))) (c .before .before .position-why .ensures) (c .before .is-none .ensures) (c .if1 .left)
+none : (c : tie.Else1) → isNone (firstMet (setRandomTests (c .before .before .before .before .before .args .self) (now (c .before .before .before .before .before .args .fcb)))) ≡ true
+none c = clears (setRandomTests (c .before .before .before .before .before .args .self) (now (c .before .before .before .before .before .args .fcb))) (c .before .before .position-why .ensures) (c .before .is-none .ensures) (c .if1 .left)
 
-whole : (c : tie.Else1) → length (now (c .before .before .before .before .before .args .f)) ≡ 36
+whole : (c : tie.Else1) → length (now (c .before .before .before .before .before .args .fcb)) ≡ 36
 unfolding setRandomTests
 whole c =
     let x = unmet Closed _ _ refl (none c) in
-    let y = unmet BlockLength _ _ refl (x .1) in
-    eqb-true _ _ (not-false (eqb (length (now (c .before .before .before .before .before .args .f))) 36) (y .0))
+    let y = unmet FcbLength _ _ refl (x .1) in
+    eqb-true _ _ (not-false (eqb (length (now (c .before .before .before .before .before .args .fcb))) 36) (y .0))
 
 position-why-requires : tie.Need-position-why-requires
 position-why-requires c κs = search needs
@@ -43,7 +43,7 @@ returns : tie.Need-returns
 unfolding setRandomAct setRandomTests
 returns c =
     let a = c .before .before .before .before .before .before .args in
-    refused-at (a .self) [] (now (a .f)) [] (setRandomTests (a .self) (now (a .f))) [] _ (c .before .before .before .position-why .ensures) (c .before .before .is-none .ensures) (c .before .if1 .taken) (c .refused .ensures)
+    refused-at (a .self) [] (now (a .fcb)) [] (setRandomTests (a .self) (now (a .fcb))) [] _ (c .before .before .before .position-why .ensures) (c .before .before .is-none .ensures) (c .before .if1 .taken) (c .refused .ensures)
 
 position-of-requires : tie.Need-position-of-requires
 position-of-requires c κs = whole (c .before)

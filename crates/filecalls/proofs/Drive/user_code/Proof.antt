@@ -1,7 +1,7 @@
 -- Closed; a code from 16 to 254; 255; a code that is set.
 use Rattle.filecalls.specs.Small.{userAct, userTests}
 use Rattle.filecalls.specs.Outcome.{outcome, unless, changedState, storedAll}
-use Rattle.answers.specs.Refusal.{firstMet}
+use Rattle.call_answers.specs.Refusal.{firstMet}
 use borrow.Author.Tests.{eq-eqb, ne-eqb}
 use borrow.Author.Needs.{needs}
 use Rattle.filecalls.proofs.Drive.user_code.Statement.{statement}

@@ -2,7 +2,7 @@
 use Rattle.filecalls.proofs.LentLaws.{Random, random-passed, random-lent}
 use Rattle.filecalls.proofs.OutcomeLaws.{passes, refused-at}
 use Rattle.filecalls.specs.Read.{randomTests}
-use Rattle.answers.specs.Refusal.{firstMet, isNone}
+use Rattle.call_answers.specs.Refusal.{firstMet, isNone}
 use mathlib.Core.Path.{_≡_, sym, ap, _∙_}
 use mathlib.Core.Bool.{true}
 use lib.ListN.{length}
@@ -11,7 +11,7 @@ use borrow.Author.Needs.{needs}
 use Rattle.filecalls.proofs.Drive.write_direct.Statement.{statement}
 use Rattle.filecalls.proofs.Drive.write_direct.Tie as tie
 
-clear : (c : tie.Else1) → Random (c .before .before .before .before .before .before .before .before .args .self) (now (c .before .before .before .before .before .before .before .before .args .volume)) (now (c .before .before .before .before .before .before .before .before .args .f)) (length (now (c .before .before .before .before .before .before .before .before .args .buffer)))
+clear : (c : tie.Else1) → Random (c .before .before .before .before .before .before .before .before .args .self) (now (c .before .before .before .before .before .before .before .before .args .volume)) (now (c .before .before .before .before .before .before .before .before .args .fcb)) (length (now (c .before .before .before .before .before .before .before .before .args .buffer)))
 clear c = random-passed _ _ _ _ (c .before .before .random-why .ensures) (c .before .is-none .ensures) (c .if1 .left)
 
 random-why-requires : tie.Need-random-why-requires
@@ -32,11 +32,11 @@ same-length-2 c = search needs
 returns : tie.Need-returns
 returns c =
     let a = c .before .before .before .before .before .before .before .before .before .args in
-    refused-at (a .self) (now (a .volume)) (now (a .f)) (now (a .buffer)) (randomTests (a .self) (now (a .volume)) (now (a .f)) (now (a .buffer))) _ _
-    (c .before .before .before .random-why .ensures ∙ ap firstMet (sym (random-lent (a .self) (now (a .volume)) (now (a .f)) (now (a .buffer))))) (c .before .before .is-none .ensures) (c .before .if1 .taken) (c .refused .ensures)
+    refused-at (a .self) (now (a .volume)) (now (a .fcb)) (now (a .buffer)) (randomTests (a .self) (now (a .volume)) (now (a .fcb)) (now (a .buffer))) _ _
+    (c .before .before .before .random-why .ensures ∙ ap firstMet (sym (random-lent (a .self) (now (a .volume)) (now (a .fcb)) (now (a .buffer))))) (c .before .before .is-none .ensures) (c .before .if1 .taken) (c .refused .ensures)
 
 random-of-requires : tie.Need-random-of-requires
-random-of-requires c κs = clear (c .before) .lent .block
+random-of-requires c κs = clear (c .before) .lent .fcb
 
 cast-write-at : tie.Need-cast-write-at
 cast-write-at c = search needs
@@ -54,8 +54,8 @@ returns-2 : tie.Need-returns-2
 returns-2 c =
     let a = c .before .before .before .before .before .before .before .before .before .before .before .before .before .before .before .before .before .args in
     let s = clear (c .before .before .before .before .before .before .before .before .before) in
-    let n : isNone (firstMet (randomTests (a .self) (now (a .volume)) (now (a .f)) (now (a .buffer)))) ≡ true = rw (random-lent (a .self) (now (a .volume)) (now (a .f)) (now (a .buffer))) (s .none) in
-    rw (passes (randomTests (a .self) (now (a .volume)) (now (a .f)) (now (a .buffer))) _ _ n, ← c .before .before .before .before .before .before .before .random-of .ensures .0) (c .before .before .before .before .write-at .ensures)
+    let n : isNone (firstMet (randomTests (a .self) (now (a .volume)) (now (a .fcb)) (now (a .buffer)))) ≡ true = rw (random-lent (a .self) (now (a .volume)) (now (a .fcb)) (now (a .buffer))) (s .none) in
+    rw (passes (randomTests (a .self) (now (a .volume)) (now (a .fcb)) (now (a .buffer))) _ _ n, ← c .before .before .before .before .before .before .before .random-of .ensures .0) (c .before .before .before .before .write-at .ensures)
 
 pub write-direct-spec : {M : Type 1} → statement M
 write-direct-spec =

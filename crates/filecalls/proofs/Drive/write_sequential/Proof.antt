@@ -3,7 +3,7 @@ use Rattle.filecalls.proofs.LentLaws.{Sequential, sequential-passed, se
 use Rattle.filecalls.proofs.OutcomeLaws.{passes, refused-at}
 use Rattle.filecalls.specs.Write.{writeSequentialAct}
 use Rattle.filecalls.specs.Read.{sequentialTests}
-use Rattle.answers.specs.Refusal.{firstMet, isNone}
+use Rattle.call_answers.specs.Refusal.{firstMet, isNone}
 use native.Mathlib.Omega.{arith}
 use mathlib.Core.Path.{_≡_, sym, ap, _∙_}
 use mathlib.Core.Bool.{true}
@@ -13,7 +13,7 @@ use borrow.Author.Needs.{needs}
 use Rattle.filecalls.proofs.Drive.write_sequential.Statement.{statement}
 use Rattle.filecalls.proofs.Drive.write_sequential.Tie as tie
 
-clear : (c : tie.Else1) → Sequential (c .before .before .before .before .before .before .before .before .args .self) (now (c .before .before .before .before .before .before .before .before .args .volume)) (now (c .before .before .before .before .before .before .before .before .args .f)) (length (now (c .before .before .before .before .before .before .before .before .args .buffer)))
+clear : (c : tie.Else1) → Sequential (c .before .before .before .before .before .before .before .before .args .self) (now (c .before .before .before .before .before .before .before .before .args .volume)) (now (c .before .before .before .before .before .before .before .before .args .fcb)) (length (now (c .before .before .before .before .before .before .before .before .args .buffer)))
 clear c = sequential-passed _ _ _ _ (c .before .before .sequential-why .ensures) (c .before .is-none .ensures) (c .if1 .left)
 
 sequential-why-requires : tie.Need-sequential-why-requires
@@ -35,11 +35,11 @@ returns : tie.Need-returns
 unfolding writeSequentialAct
 returns c =
     let a = c .before .before .before .before .before .before .before .before .before .args in
-    refused-at (a .self) (now (a .volume)) (now (a .f)) (now (a .buffer)) (sequentialTests (a .self) (now (a .volume)) (now (a .f)) (now (a .buffer))) _ _
-    (c .before .before .before .sequential-why .ensures ∙ ap firstMet (sym (sequential-lent (a .self) (now (a .volume)) (now (a .f)) (now (a .buffer))))) (c .before .before .is-none .ensures) (c .before .if1 .taken) (c .refused .ensures)
+    refused-at (a .self) (now (a .volume)) (now (a .fcb)) (now (a .buffer)) (sequentialTests (a .self) (now (a .volume)) (now (a .fcb)) (now (a .buffer))) _ _
+    (c .before .before .before .sequential-why .ensures ∙ ap firstMet (sym (sequential-lent (a .self) (now (a .volume)) (now (a .fcb)) (now (a .buffer))))) (c .before .before .is-none .ensures) (c .before .if1 .taken) (c .refused .ensures)
 
 position-of-requires : tie.Need-position-of-requires
-position-of-requires c κs = clear (c .before) .lent .block
+position-of-requires c κs = clear (c .before) .lent .fcb
 
 add-write-at : tie.Need-add-write-at
 add-write-at c = search needs
@@ -61,8 +61,8 @@ unfolding writeSequentialAct
 returns-2 c =
     let a = c .before .before .before .before .before .before .before .before .before .before .before .before .before .before .before .before .before .args in
     let s = clear (c .before .before .before .before .before .before .before .before .before) in
-    let n : isNone (firstMet (sequentialTests (a .self) (now (a .volume)) (now (a .f)) (now (a .buffer)))) ≡ true = rw (sequential-lent (a .self) (now (a .volume)) (now (a .f)) (now (a .buffer))) (s .none) in
-    rw (passes (sequentialTests (a .self) (now (a .volume)) (now (a .f)) (now (a .buffer))) _ _ n, ← c .before .before .before .before .before .before .before .position-of .ensures .0) (c .before .before .before .before .write-at .ensures)
+    let n : isNone (firstMet (sequentialTests (a .self) (now (a .volume)) (now (a .fcb)) (now (a .buffer)))) ≡ true = rw (sequential-lent (a .self) (now (a .volume)) (now (a .fcb)) (now (a .buffer))) (s .none) in
+    rw (passes (sequentialTests (a .self) (now (a .volume)) (now (a .fcb)) (now (a .buffer))) _ _ n, ← c .before .before .before .before .before .before .before .position-of .ensures .0) (c .before .before .before .before .write-at .ensures)
 
 pub write-sequential-spec : {M : Type 1} → statement M
 write-sequential-spec =

@@ -1,5 +1,5 @@
 -- Name and ex, as the rule has them.
-use Rattle.volume.specs.Name.{nameAt}
+use Rattle.disk_volume.specs.Name.{nameAt}
 use Rattle.lists.specs.Bytes.{part}
 use borrow.Author.Needs.{needs}
 use Rattle.filecalls.proofs.state.is_pattern.Statement.{statement}

@@ -2,8 +2,8 @@
 use mathlib.Core.Path.{sym}
 use Prim.Native.Nat.{_≤_, _-_, _*_}
 use Rattle.listing.specs.Listing.{moreBlocks, blocksOf}
-use Rattle.geometry.specs.Geometry.{slots}
-use Rattle.volume.specs.Name.{strip}
+use Rattle.disk_geometry.specs.Geometry.{slots}
+use Rattle.disk_volume.specs.Name.{strip}
 use Rattle.lists.proofs.FoldLaws.{Folded, folded-start, folded-next, folded-end}
 use borrow.Author.Needs.{needs}
 use Rattle.listing.proofs.blocks_held.blocks_of.Statement.{statement}

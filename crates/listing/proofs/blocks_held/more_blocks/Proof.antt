@@ -4,11 +4,11 @@ use native.Mathlib.Omega.{arith}
 use denote.Ref.{now}
 use borrow.Author.Tests.{not-true, not-false}
 use Rattle.listing.specs.Listing.{usedPlaces, moreBlocks}
-use Rattle.geometry.proofs.GeometryLaws.{bounds}
-use Rattle.volume.proofs.EntryLaws.{lent-slot}
-use Rattle.volume.specs.Name.{strip}
-use Rattle.volume.specs.Entry.{ofFile}
-use Rattle.volume.specs.Directory.{slotAt}
+use Rattle.disk_geometry.proofs.GeometryLaws.{bounds}
+use Rattle.disk_volume.proofs.EntryLaws.{lent-slot}
+use Rattle.disk_volume.specs.Name.{strip}
+use Rattle.disk_volume.specs.Entry.{ofFile}
+use Rattle.disk_volume.specs.Directory.{slotAt}
 use borrow.Author.Needs.{needs}
 use Rattle.listing.proofs.blocks_held.more_blocks.Statement.{statement}
 use Rattle.listing.proofs.blocks_held.more_blocks.Tie as tie

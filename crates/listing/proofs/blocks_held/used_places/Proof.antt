@@ -2,7 +2,7 @@
 use Prim.Native.Nat.{_≤_, _-_}
 use Rattle.listing.proofs.ListingLaws.{Counted, counted-start, counted-next, counted-end}
 use Rattle.listing.specs.Listing.{isUsed, usedPlaces}
-use Rattle.geometry.specs.Geometry.{places}
+use Rattle.disk_geometry.specs.Geometry.{places}
 use borrow.Author.Needs.{needs}
 use Rattle.listing.proofs.blocks_held.used_places.Statement.{statement}
 use Rattle.listing.proofs.blocks_held.used_places.Tie as tie

@@ -2,7 +2,7 @@
 use denote.Ref.{now}
 use borrow.Author.Tests.{eq-eqb, ne-eqb}
 use Rattle.listing.specs.Listing.{isListed}
-use Rattle.volume.specs.Name.{nameAt}
+use Rattle.disk_volume.specs.Name.{nameAt}
 use Rattle.lists.specs.Bytes.{byte, part}
 use borrow.Author.Needs.{needs}
 use Rattle.listing.proofs.lines.is_listed.Statement.{statement}

@@ -3,7 +3,7 @@ use denote.Ref.{now}
 use Rattle.listing.specs.Listing.{header, freeWord, linesFrom, accepted}
 use Rattle.text.proofs.TextLaws.{wrote, wrote-byte, then}
 use Rattle.text.specs.Decimal.{decimal}
-use Rattle.geometry.specs.Geometry.{slots}
+use Rattle.disk_geometry.specs.Geometry.{slots}
 use borrow.Author.Needs.{needs}
 use Rattle.listing.proofs.lines.put_accepted.Statement.{statement}
 use Rattle.listing.proofs.lines.put_accepted.Tie as tie

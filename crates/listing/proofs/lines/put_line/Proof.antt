@@ -1,10 +1,10 @@
 -- Eight runs of bytes, one after the other; the numbers are those of the definition.
 use denote.Ref.{now}
-use Rattle.listing.proofs.ListingLaws.{wrote-number}
+use Rattle.text.proofs.TextLaws.{wrote-number}
 use Rattle.listing.specs.Listing.{nameText, blocksOf, line}
 use Rattle.text.proofs.TextLaws.{wrote, wrote-byte, then}
-use Rattle.measuring.specs.Size.{sizeOf}
-use Rattle.volume.specs.Name.{nameAt, nameOf}
+use Rattle.call_size.specs.Size.{sizeOf}
+use Rattle.disk_volume.specs.Name.{nameAt, nameOf}
 use Rattle.lists.specs.Bytes.{byte, part}
 use borrow.Author.Needs.{needs}
 use Rattle.listing.proofs.lines.put_line.Statement.{statement}

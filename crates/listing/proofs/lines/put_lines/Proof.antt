@@ -7,7 +7,7 @@ use lib.ListN.{length}
 use Rattle.listing.proofs.ListingLaws.{lines-next, lines-end}
 use Rattle.listing.specs.Listing.{linesFrom}
 use Rattle.text.specs.Text.{text, puts}
-use Rattle.geometry.specs.Geometry.{slots}
+use Rattle.disk_geometry.specs.Geometry.{slots}
 use borrow.Author.Needs.{needs}
 use Rattle.listing.proofs.lines.put_lines.Statement.{statement}
 use Rattle.listing.proofs.lines.put_lines.Tie as tie

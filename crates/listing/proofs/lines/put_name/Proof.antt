@@ -2,7 +2,7 @@
 use denote.Ref.{now}
 use Rattle.listing.specs.Listing.{nameText}
 use Rattle.text.proofs.TextLaws.{wrote, wrote-byte, then}
-use Rattle.volume.specs.Name.{strip}
+use Rattle.disk_volume.specs.Name.{strip}
 use Rattle.lists.specs.Bytes.{part}
 use borrow.Author.Needs.{needs}
 use Rattle.listing.proofs.lines.put_name.Statement.{statement}

@@ -4,8 +4,8 @@ use denote.Ref.{now}
 use borrow.Author.Tests.{not-true, not-false}
 use Rattle.listing.specs.Listing.{isListed, lineAt}
 use Rattle.text.specs.Text.{puts}
-use Rattle.volume.proofs.EntryLaws.{lent-slot}
-use Rattle.volume.specs.Directory.{slotAt}
+use Rattle.disk_volume.proofs.EntryLaws.{lent-slot}
+use Rattle.disk_volume.specs.Directory.{slotAt}
 use borrow.Author.Needs.{needs}
 use Rattle.listing.proofs.lines.put_slot_line.Statement.{statement}
 use Rattle.listing.proofs.lines.put_slot_line.Tie as tie

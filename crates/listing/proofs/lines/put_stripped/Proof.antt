@@ -5,7 +5,7 @@ use native.Mathlib.Omega.{arith}
 use lib.ListN.{length, drop}
 use Rattle.listing.proofs.ListingLaws.{strip-next, strip-end}
 use Rattle.text.specs.Text.{Text, text, puts}
-use Rattle.volume.specs.Name.{strip}
+use Rattle.disk_volume.specs.Name.{strip}
 use borrow.Author.Needs.{needs}
 use Rattle.listing.proofs.lines.put_stripped.Statement.{statement}
 use Rattle.listing.proofs.lines.put_stripped.Tie as tie

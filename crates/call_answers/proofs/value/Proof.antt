@@ -1,0 +1,49 @@
+-- Each arm is the definition's case of the same name.
+use borrow.Author.Needs.{needs}
+use Rattle.call_answers.proofs.value.Statement.{statement}
+use Rattle.call_answers.proofs.value.Tie as tie
+
+enum-told : tie.Need-enum-told
+enum-told c = search needs
+
+enum-known-a : tie.Need-enum-known-a
+enum-known-a c = search needs
+
+enum-known-a-2 : tie.Need-enum-known-a-2
+enum-known-a-2 c = search needs
+
+enum-told-2 : tie.Need-enum-told-2
+enum-told-2 c = search needs
+
+enum-known-a-3 : tie.Need-enum-known-a-3
+enum-known-a-3 c = search needs
+
+returns : tie.Need-returns
+returns c = search needs
+
+returns-2 : tie.Need-returns-2
+returns-2 c = search needs
+
+returns-3 : tie.Need-returns-3
+returns-3 c = search needs
+
+returns-4 : tie.Need-returns-4
+returns-4 c = search needs
+
+returns-5 : tie.Need-returns-5
+returns-5 c = rw (c .before .a3 .given .1)
+
+pub value-spec : {M : Type 1} → statement M
+value-spec =
+    tie.close
+    (tie.spec
+    enum-told
+    enum-known-a
+    enum-known-a-2
+    enum-told-2
+    enum-known-a-3
+    returns
+    returns-2
+    returns-3
+    returns-4
+    returns-5)

@@ -1,0 +1,3 @@
+-- The writes.
+pub mod Write
+pub mod CodePlan

@@ -1,0 +1,52 @@
+-- The slots passed are freed, so what is still to be freed gives the whole.
+use mathlib.Core.Path.{sym}
+use Prim.Native.Nat.{_-_, _≤_}
+use borrow.Author.Needs.{needs}
+use Rattle.lists.proofs.FoldLaws.{Folded, folded-start, folded-next, folded-end}
+use Rattle.disk_volume.specs.Name.{strip}
+use Rattle.disk_geometry.specs.Geometry.{slots}
+use Rattle.call_delete.specs.Delete.{freeSlot, freeMatches}
+use Rattle.call_delete.proofs.free_matches.Statement.{statement}
+use Rattle.call_delete.proofs.free_matches.Tie as tie
+
+abbrev Inv-loop : tie.InvT-loop
+Inv-loop g volume user pattern n rest₀ i₀ rest i = (i ≤ slots g) × Folded (freeSlot g volume user (strip pattern)) rest₀ (slots g) rest i
+
+abbrev μ-loop : tie.MeasureT-loop
+μ-loop g volume user pattern n rest₀ i₀ rest i = n - i
+
+slots-requires : tie.Need-slots-requires Inv-loop μ-loop
+slots-requires c κs = search needs
+
+loop-holds : tie.Need-loop-holds Inv-loop μ-loop
+loop-holds c = (search needs, folded-start)
+
+free-slot-requires : tie.Need-free-slot-requires Inv-loop μ-loop
+free-slot-requires c κs = search needs
+
+add-i : tie.Need-add-i Inv-loop μ-loop
+add-i c = search needs
+
+loop-less : tie.Need-loop-less Inv-loop μ-loop
+loop-less c = search needs
+
+loop-again : tie.Need-loop-again Inv-loop μ-loop
+loop-again c = (search needs, folded-next (c .before .before .loop .inv .1) (search needs) (c .free-slot .ensures))
+
+returns : tie.Need-returns Inv-loop μ-loop
+unfolding freeMatches
+returns c = sym (folded-end (c .before .loop .inv .1) (search needs))
+
+pub free-matches-spec : {M : Type 1} → statement M
+free-matches-spec =
+    tie.close
+    (tie.spec
+    Inv-loop
+    μ-loop
+    slots-requires
+    loop-holds
+    free-slot-requires
+    add-i
+    loop-less
+    loop-again
+    returns)

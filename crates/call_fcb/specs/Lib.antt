@@ -1,0 +1,2 @@
+-- "Control block and position."
+pub mod Fcb

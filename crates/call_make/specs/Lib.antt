@@ -1,0 +1,3 @@
+-- The call that makes a file.
+pub mod Make
+pub mod CodeNewFile

@@ -1,0 +1,3 @@
+-- Open and close.
+pub mod Open
+pub mod CodeFound

@@ -1,0 +1,3 @@
+-- Search.
+pub mod Search
+pub mod CodeHit

@@ -1,0 +1,3 @@
+-- Size.
+pub mod Size
+pub mod CodeMeasure

@@ -1,0 +1,76 @@
+// Size: the file's end by its entries.
+ghost use mathlib.Core.Path.{_≡_};
+ghost use Prim.Native.Nat.{_<_};
+ghost use Rattle.disk_geometry.specs.Geometry.{slots};
+ghost use Rattle.disk_volume.specs.CodeLent.{VolumeAnd, IsEntry, IsFcb, IsName};
+ghost use Rattle.disk_volume.specs.Name.{strip};
+ghost use Rattle.call_answers.specs.Refusal.{unlessRefused};
+ghost use Rattle.call_size.specs.Size.{entryEnd, larger, sizeOf};
+ghost use Rattle.call_size.specs.CodeMeasure.{endBound, measureWhy, measured};
+use call_answers::Refusal;
+use disk_geometry::Geometry;
+use disk_volume::Wanted;
+use disk_volume::fields::NAME;
+use disk_volume::fields::NAME_END;
+
+// Where the file ends by this entry.
+fn entry_end(e: &[u8]) -> usize
+    requires { ⌜ IsEntry (now e) ⌝ }
+    ensures { λ r. ⌜ (r ≡ entryEnd (now (e .entry))) × (r < endBound) ⌝ }
+{
+    let own = disk_volume::entry::extent_of(e);
+    Geometry::EXTENT_RECORDS * own + lists::wide(disk_volume::entry::count_of(e, own))
+}
+
+// The larger of m and what slot i says of the file.
+fn larger_at(g: Geometry, volume: &[u8], user: u8, name: &[u8], m: usize, i: usize) -> usize
+    requires { ⌜ VolumeAnd g (now volume) (IsName (now name)) ⌝ }
+    requires { ⌜ (i < slots g) × (m < endBound) ⌝ }
+    ensures { λ r. ⌜ (r ≡ larger g (now (volume .entry)) user (strip (now (name .entry))) m i) × (r < endBound) ⌝ }
+{
+    let at = g.slot_start(i);
+    if !disk_volume::entry::has(
+        g,
+        &volume[at..at + Geometry::ENTRY_BYTES],
+        user,
+        name,
+        Wanted::File,
+    ) {
+        return m;
+    }
+    let end = entry_end(&volume[at..at + Geometry::ENTRY_BYTES]);
+    if m < end { end } else { m }
+}
+
+// Answers the file's size in records.
+pub fn size_of(g: Geometry, volume: &[u8], user: u8, name: &[u8]) -> usize
+    requires { ⌜ VolumeAnd g (now volume) (IsName (now name)) ⌝ }
+    ensures { λ r. ⌜ (r ≡ sizeOf g (now (volume .entry)) user (strip (now (name .entry)))) × (r < endBound) ⌝ }
+{
+    let n = g.slots();
+    let mut m = 0;
+    let mut i = 0;
+    while i < n {
+        m = larger_at(g, volume, user, name, m, i);
+        i += 1;
+    }
+    m
+}
+
+// Lays the file's size into the control block, or refuses. Answers why, None where it is laid.
+pub fn measure(g: Geometry, volume: &[u8], fcb: &mut [u8], user: u8) -> Refusal
+    requires { ⌜ VolumeAnd g (now volume) (IsFcb (now fcb)) ⌝ }
+    ensures { λ r. ⌜ r ≡ measureWhy g (now (volume .entry)) user (now (fcb .entry)) ⌝ }
+    ensures { λ r. ⌜
+        now (fcb .exit)
+        ≡ unlessRefused r (measured g (now (volume .entry)) user (now (fcb .entry))) (now (fcb .entry))
+        ⌝ }
+{
+    let slot = disk_volume::directory::find(g, volume, user, &fcb[NAME..NAME_END], Wanted::File);
+    let why = call_answers::refuse(Refusal::NoMatch, g.slots() <= slot);
+    if call_answers::is_none(why) {
+        let size = size_of(g, volume, user, &fcb[NAME..NAME_END]);
+        call_fcb::set_random(fcb, size);
+    }
+    why
+}

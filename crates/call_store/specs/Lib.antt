@@ -1,0 +1,2 @@
+-- The stores of a write, as code lays them.
+pub mod CodeStores

@@ -1,0 +1,90 @@
+-- Each piece passed is changed; where no edit was meant, the record is as it was.
+use mathlib.Core.Bool.{false}
+use mathlib.Core.Path.{_≡_, refl, sym, ap, _∙_}
+use Prim.Native.Nat.{_*_, _+_, _-_, _≤_}
+use native.Mathlib.Omega.{arith}
+use lib.ListN.{length-take, length-drop, length}
+use borrow.Author.Needs.{needs}
+use Rattle.lists.proofs.FoldLaws.{Folded, folded-start, folded-next, folded-end}
+use Rattle.call_sweep.proofs.SweepLaws.{mapPiece-length}
+use Rattle.call_sweep.specs.CodeRecords.{mapPiece}
+use Rattle.disk_volume.specs.Name.{strip}
+use Rattle.call_sweep.specs.Sweep.{changed}
+use Rattle.call_sweep.proofs.EditLaws.{changed-keeps, lent-piece, lent-same, or-false}
+use Rattle.call_sweep.proofs.change_four.Statement.{statement}
+use Rattle.call_sweep.proofs.change_four.Tie as tie
+
+abbrev Inv-loop : tie.InvT-loop
+Inv-loop g sector₀ user name new edit any₀ k₀ sector any k = (k ≤ 4) × ((length sector ≡ 128) × (Folded (mapPiece (changed edit user (strip name) new)) sector₀ 4 sector k × (any ≡ false → sector ≡ sector₀)))
+
+abbrev μ-loop : tie.MeasureT-loop
+μ-loop g sector₀ user name new edit any₀ k₀ sector any k = 4 - k
+
+loop-holds : tie.Need-loop-holds Inv-loop μ-loop
+loop-holds c = (search needs, (search needs, (folded-start, λ q. refl)))
+
+mul-at : tie.Need-mul-at Inv-loop μ-loop
+mul-at c = search needs
+
+add-change-one : tie.Need-add-change-one Inv-loop μ-loop
+add-change-one c = search needs
+
+sub-change-one : tie.Need-sub-change-one Inv-loop μ-loop
+sub-change-one c = search needs
+
+part-change-one-start : tie.Need-part-change-one-start Inv-loop μ-loop
+part-change-one-start c = search needs
+
+part-change-one-end : tie.Need-part-change-one-end Inv-loop μ-loop
+part-change-one-end c = search needs
+
+change-one-requires : tie.Need-change-one-requires Inv-loop μ-loop
+change-one-requires c κs = ((search needs, simp (length-take, length-drop) (omega arith)), search needs)
+
+add-k : tie.Need-add-k Inv-loop μ-loop
+add-k c = search needs
+
+loop-less : tie.Need-loop-less Inv-loop μ-loop
+loop-less c = search needs
+
+loop-again : tie.Need-loop-again Inv-loop μ-loop
+loop-again c =
+    let a = c .before .before .before .before .before .before .before .before .before .args in
+    let l = c .before .before .before .before .before .loop in
+    let o = c .before .before .change-one in
+    let f = changed (a .edit) (a .user) (strip (a .name .now)) (a .new .now) in
+    let e = lent-piece f (l .sector) (o .last .1 .0) (l .k) (o .ensures .0) in (
+      search needs,
+      (
+        ap length e ∙ mapPiece-length (a .g) (search needs) f (changed-keeps (a .edit) (a .user) (strip (a .name .now)) (a .new .now) (search needs)) (l .sector) (l .k) (l .inv .1 .0) (search needs),
+        (
+          folded-next (l .inv .1 .1 .0) (search needs) e,
+          λ q. let s = or-false (l .any) (o .result) q in lent-same (l .sector) (o .last .1 .0) (l .k * 32) (l .k * 32 + 32 - l .k * 32) (o .ensures .1 (s .1)) ∙ l .inv .1 .1 .1 (s .0),
+        ),
+      ),
+    )
+
+same-length : tie.Need-same-length Inv-loop μ-loop
+same-length c = search needs
+
+returns : tie.Need-returns Inv-loop μ-loop
+returns c = let l = c .before .loop in (sym (folded-end (l .inv .1 .1 .0) (search needs)), l .inv .1 .1 .1)
+
+pub change-four-spec : {M : Type 1} → statement M
+change-four-spec =
+    tie.close
+    (tie.spec
+    Inv-loop
+    μ-loop
+    loop-holds
+    mul-at
+    add-change-one
+    sub-change-one
+    part-change-one-start
+    part-change-one-end
+    change-one-requires
+    add-k
+    loop-less
+    loop-again
+    same-length
+    returns)

@@ -1,0 +1,48 @@
+-- An edit is made where it is meant, and else nothing changes.
+use mathlib.Core.Bool.{true≢false}
+use mathlib.Core.Path.{refl, sym, _∙_}
+use denote.Ref.{now}
+use borrow.Author.Needs.{needs}
+use Rattle.disk_volume.specs.Name.{strip}
+use Rattle.call_sweep.proofs.EditLaws.{changed-is}
+use Rattle.call_sweep.proofs.change_one.Statement.{statement}
+use Rattle.call_sweep.proofs.change_one.Tie as tie
+
+meant-requires : tie.Need-meant-requires
+meant-requires c κs = search needs
+
+has-requires : tie.Need-has-requires
+has-requires c κs = search needs
+
+edit-entry-requires : tie.Need-edit-entry-requires
+edit-entry-requires c κs = search needs
+
+same-length : tie.Need-same-length
+same-length c = search needs
+
+returns : tie.Need-returns
+returns c =
+    let a = c .before .before .before .before .before .before .before .before .before .before .before .args in (
+      rw (changed-is (a .g) (a .edit) (a .user) (strip (now (a .name))) (now (a .new)) (now (a .e)), ← c .before .before .before .before .before .before .before .meant .ensures, ← c .before .before .before .before .before .has .ensures, c .before .before .before .before .if1 .taken) (c .before .before .edit-entry .ensures),
+      λ q. absurd (true≢false (sym (c .before .before .before .before .if1 .taken) ∙ q)),
+    )
+
+same-length-2 : tie.Need-same-length-2
+same-length-2 c = search needs
+
+returns-2 : tie.Need-returns-2
+returns-2 c =
+    let a = c .before .before .before .before .before .before .before .args in
+    (rw (changed-is (a .g) (a .edit) (a .user) (strip (now (a .name))) (now (a .new)) (now (a .e)), ← c .before .before .before .meant .ensures, ← c .before .has .ensures, c .if1 .left), λ q. refl)
+
+pub change-one-spec : {M : Type 1} → statement M
+change-one-spec =
+    tie.close
+    (tie.spec
+    meant-requires
+    has-requires
+    edit-entry-requires
+    same-length
+    returns
+    same-length-2
+    returns-2)

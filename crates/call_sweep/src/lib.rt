@@ -1,0 +1,183 @@
+// The sweep over the directory: entries changed in a copy of their record, which is stored whole if one of them was meant.
+ghost use mathlib.Core.Path.{_≡_};
+ghost use mathlib.Core.Bool.{true, false};
+ghost use Prim.Native.Nat.{_*_, _<_};
+ghost use lib.ListN.{length};
+ghost use Rattle.disk_geometry.specs.Geometry.{lawful, records, directoryBlocks};
+ghost use Rattle.disk_volume.specs.Name.{strip};
+ghost use Rattle.disk_volume.specs.Directory.{mapSlots};
+ghost use Rattle.disk_volume.specs.CodeLent.{IsVolume, VolumeAnd, IsName, IsEntry, IsRecord};
+ghost use Rattle.call_sweep.specs.CodeRecords.{mapPieces, mapRecord};
+ghost use Rattle.call_sweep.specs.Sweep.{withTopBit, renamed, attributed};
+ghost use Rattle.call_sweep.specs.CodeEdit.{meant, edited, lentChange};
+use disk_geometry::Geometry;
+use disk_volume::Wanted;
+use disk_volume::entry;
+use disk_volume::fields;
+use disk_volume::names;
+
+// How entries change in a sweep over the directory.
+pub enum Edit {
+    Erase,
+    Rename,
+    Attributes,
+}
+
+// Lays the name without its top bits over dst, which is as long.
+pub fn lay_name(dst: &mut [u8], name: &[u8])
+    requires { ⌜ length (now dst) ≡ length (now name) ⌝ }
+    ensures { λ _. ⌜ now (dst .exit) ≡ strip (now (name .entry)) ⌝ }
+{
+    let mut i = 0;
+    while i < name.len() {
+        dst[i] = name[i] % names::TOP_BIT;
+        i += 1;
+    }
+}
+
+// A byte with the top bit of another.
+fn with_top_bit(x: u8, top: u8) -> u8
+    ensures { λ r. ⌜ r ≡ withTopBit x top ⌝ }
+{
+    x % names::TOP_BIT + top / names::TOP_BIT * names::TOP_BIT
+}
+
+// Gives the entry the new name; bytes 9 and 10 keep their top bits.
+fn rename_entry(e: &mut [u8], new: &[u8])
+    requires { ⌜ IsEntry (now e) × IsName (now new) ⌝ }
+    ensures { λ _. ⌜ now (e .exit) ≡ renamed (now (e .entry)) (now (new .entry)) ⌝ }
+{
+    let read_only = with_top_bit(new[fields::NAME_T1], e[fields::T1]);
+    let system = with_top_bit(new[fields::NAME_T2], e[fields::T2]);
+    lay_name(&mut e[fields::NAME..fields::NAME_END], new);
+    e[fields::T1] = read_only;
+    e[fields::T2] = system;
+}
+
+// Gives the entry's bytes 9 and 10 the top bits of the name's.
+fn attribute_entry(e: &mut [u8], new: &[u8])
+    requires { ⌜ IsEntry (now e) × IsName (now new) ⌝ }
+    ensures { λ _. ⌜ now (e .exit) ≡ attributed (now (e .entry)) (now (new .entry)) ⌝ }
+{
+    let read_only = with_top_bit(e[fields::T1], new[fields::NAME_T1]);
+    let system = with_top_bit(e[fields::T2], new[fields::NAME_T2]);
+    e[fields::T1] = read_only;
+    e[fields::T2] = system;
+}
+
+// Which entries an edit is meant for.
+fn meant(edit: Edit) -> Wanted
+    ensures { λ r. ⌜ r ≡ meant edit ⌝ }
+{
+    match edit {
+        Edit::Erase => Wanted::Match,
+        Edit::Rename => Wanted::File,
+        Edit::Attributes => Wanted::File,
+    }
+}
+
+// Makes the edit in an entry that it is meant for.
+fn edit_entry(e: &mut [u8], new: &[u8], edit: Edit)
+    requires { ⌜ IsEntry (now e) × IsName (now new) ⌝ }
+    ensures { λ _. ⌜ now (e .exit) ≡ edited edit (now (new .entry)) (now (e .entry)) ⌝ }
+{
+    match edit {
+        Edit::Erase => {
+            e[fields::USER] = fields::EMPTY;
+        }
+        Edit::Rename => rename_entry(e, new),
+        Edit::Attributes => attribute_entry(e, new),
+    }
+}
+
+// Changes the entry if the edit is meant for it; whether it is.
+fn change_one(g: Geometry, e: &mut [u8], user: u8, name: &[u8], new: &[u8], edit: Edit) -> bool
+    requires { ⌜ (lawful g ≡ true) × IsEntry (now e) ⌝ }
+    requires { ⌜ IsName (now name) × IsName (now new) ⌝ }
+    ensures { λ _. ⌜ now (e .exit) ≡ lentChange edit user (now (name .entry)) (now (new .entry)) (now (e .entry)) ⌝ }
+    ensures { λ r. ⌜ (r ≡ false → now (e .exit) ≡ now (e .entry)) ⌝ }
+{
+    let wanted = meant(edit);
+    let hit = entry::has(g, e, user, name, wanted);
+    if hit {
+        edit_entry(e, new, edit);
+    }
+    hit
+}
+
+// Changes the four entries of a directory record; whether the edit is meant for one of them.
+fn change_four(
+    g: Geometry,
+    sector: &mut [u8],
+    user: u8,
+    name: &[u8],
+    new: &[u8],
+    edit: Edit,
+) -> bool
+    requires { ⌜ (lawful g ≡ true) × IsRecord (now sector) ⌝ }
+    requires { ⌜ IsName (now name) × IsName (now new) ⌝ }
+    ensures { λ _. ⌜
+        now (sector .exit)
+        ≡ mapPieces (lentChange edit user (now (name .entry)) (now (new .entry))) (now (sector .entry))
+        ⌝ }
+    ensures { λ r. ⌜ (r ≡ false → now (sector .exit) ≡ now (sector .entry)) ⌝ }
+{
+    let mut any = false;
+    let mut k = 0;
+    while k < Geometry::RECORD_SLOTS {
+        let at = k * Geometry::ENTRY_BYTES;
+        let hit = change_one(
+            g,
+            &mut sector[at..at + Geometry::ENTRY_BYTES],
+            user,
+            name,
+            new,
+            edit,
+        );
+        any = any | hit;
+        k += 1;
+    }
+    any
+}
+
+// Changes the entries of directory record r, which is stored whole if the edit is meant for one of them.
+fn change_record(
+    g: Geometry,
+    volume: &mut [u8],
+    r: usize,
+    user: u8,
+    name: &[u8],
+    new: &[u8],
+    edit: Edit,
+)
+    requires { ⌜ VolumeAnd g (now volume) (r < directoryBlocks g * records g) ⌝ }
+    requires { ⌜ IsName (now name) × IsName (now new) ⌝ }
+    ensures { λ _. ⌜
+        now (volume .exit)
+        ≡ mapRecord g (lentChange edit user (now (name .entry)) (now (new .entry))) (now (volume .entry)) r
+        ⌝ }
+{
+    let at = g.start(r);
+    let mut sector = [0u8; Geometry::RECORD_BYTES];
+    lists::copy(&mut sector, &volume[at..at + Geometry::RECORD_BYTES]);
+    if change_four(g, &mut sector, user, name, new, edit) {
+        lists::copy(&mut volume[at..at + Geometry::RECORD_BYTES], &sector);
+    }
+}
+
+// Makes the edit in every entry of the directory that it is meant for.
+pub fn change_all(g: Geometry, volume: &mut [u8], user: u8, name: &[u8], new: &[u8], edit: Edit)
+    requires { ⌜ IsVolume g (now volume) ⌝ }
+    requires { ⌜ IsName (now name) × IsName (now new) ⌝ }
+    ensures { λ _. ⌜
+        now (volume .exit)
+        ≡ mapSlots g (lentChange edit user (now (name .entry)) (now (new .entry))) (now (volume .entry))
+        ⌝ }
+{
+    let count = g.slots() / Geometry::RECORD_SLOTS;
+    let mut r = 0;
+    while r < count {
+        change_record(g, volume, r, user, name, new, edit);
+        r += 1;
+    }
+}

@@ -1,0 +1,100 @@
+// The write of a record: decided first, by reading alone, and then carried out by stores with no test in between.
+ghost use mathlib.Core.Path.{_≡_};
+ghost use mathlib.Core.Bool.{cond};
+ghost use Prim.Native.Nat.{_<_};
+ghost use Rattle.disk_volume.specs.Name.{nameOf};
+ghost use Rattle.disk_volume.specs.CodeLent.{IsVolume, IsFcb, IsRecord};
+ghost use Rattle.disk_held.specs.Held.{hold};
+ghost use Rattle.call_fcb.specs.Fcb.{fileRecords, setTo};
+ghost use Rattle.call_answers.specs.Refusal.{isNone, firstMet};
+ghost use Rattle.call_decide.specs.Write.{entryAfter, writeTests};
+ghost use Rattle.call_write.specs.CodeAfter.{volumeAfter, heldAfter};
+use call_answers::Refusal;
+use disk_geometry::Geometry;
+use disk_volume::fields;
+
+// What a write hands back: why it is refused, and the held blocks.
+pub struct Written {
+    pub why: Refusal,
+    pub held: [u64; 4],
+}
+
+// Block b is held from now on, if it is newly taken.
+fn hold_if(held: [u64; 4], fresh: bool, b: usize) -> [u64; 4]
+    requires { ⌜ b < 256 ⌝ }
+    ensures { λ r. ⌜ r ≡ cond fresh (hold held b) held ⌝ }
+{
+    if fresh {
+        return disk_held::hold(held, b);
+    }
+    held
+}
+
+// Writes record n of the file that the control block names, and sets the control block to it, with this cr; or refuses,
+// and alters nothing. If it `fills`, a block that the record's place is given is first filled with zeros.
+pub fn write_record(
+    g: Geometry,
+    fills: bool,
+    volume: &mut [u8],
+    fcb: &mut [u8],
+    buffer: &[u8],
+    user: u8,
+    held: [u64; 4],
+    n: usize,
+    cr: u8,
+) -> Written
+    requires { ⌜ IsVolume g (now volume) ⌝ }
+    requires { ⌜ IsFcb (now fcb) × (IsRecord (now buffer) × (n < fileRecords)) ⌝ }
+    ensures { λ r. ⌜
+        r .why ≡ firstMet (writeTests g held (now (volume .entry)) user (nameOf (now (fcb .entry))) n)
+        ⌝ }
+    ensures { λ r. ⌜
+        now (volume .exit)
+        ≡ cond (isNone (r .why))
+        (volumeAfter g held (now (volume .entry)) user (nameOf (now (fcb .entry))) n fills (now (buffer .entry)))
+        (now (volume .entry))
+        ⌝ }
+    ensures { λ r. ⌜
+        now (fcb .exit)
+        ≡ cond (isNone (r .why))
+        (setTo (now (fcb .entry)) (entryAfter g held (now (volume .entry)) user (nameOf (now (fcb .entry))) n) n cr)
+        (now (fcb .entry))
+        ⌝ }
+    ensures { λ r. ⌜
+        r .held
+        ≡ cond (isNone (r .why))
+        (heldAfter g held (now (volume .entry)) user (nameOf (now (fcb .entry))) n)
+        held
+        ⌝ }
+{
+    let mut e = [0u8; Geometry::ENTRY_BYTES];
+    let plan = call_decide::decide(
+        g,
+        volume,
+        user,
+        &fcb[fields::NAME..fields::NAME_END],
+        held,
+        n,
+        &mut e,
+    );
+    let why = plan.why;
+    if !call_answers::is_none(why) {
+        return Written { why, held };
+    }
+    call_entry::write_entry(g, &mut e, n, plan.block);
+    let fill = fills & plan.fresh;
+    call_store::carry_out(
+        g,
+        fill,
+        volume,
+        fcb,
+        buffer,
+        &e,
+        plan.slot,
+        plan.block,
+        n,
+        cr,
+    );
+    let next = hold_if(held, plan.fresh, plan.block);
+    Written { why, held: next }
+}

@@ -1,0 +1,216 @@
+-- The drive's bytes carry the state from call to call, and a refusal alters no lent byte: the statements of
+-- `specs/Faithful`.
+use mathlib.Core.Path.{_≡_, refl, sym, ap, _∙_}
+use mathlib.Core.Bool.{Bool, true, false, true≢false, false≢true}
+use mathlib.Core.Logic.{_⊎_, inl, inr, ⊎-elim}
+use mathlib.Core.List.{List, []}
+use Prim.Native.Nat.{ℕ, _<_}
+use native.Mathlib.Omega.{arith}
+use lib.ListN.{length}
+use borrow.Author.Tests.{not-false, eq-eqb}
+use Rattle.disk_geometry.specs.declared.Geometry.{Geometry}
+use Rattle.disk_geometry.specs.Geometry.{lawful}
+use Rattle.disk_geometry.proofs.GeometryLaws.{bounds}
+use Rattle.call_answers.specs.declared.Refusal.the-variants.{Closed}
+use Rattle.call_answers.specs.declared.Answer.the-variants as answer
+use Rattle.call_answers.specs.Refusal.{isNone, firstMet}
+use Rattle.call_answers.specs.Answer.{succeeded}
+use Rattle.call_answers.proofs.Ladder.{unmet}
+use Rattle.disk_held.specs.Held.{freeCount}
+use Rattle.disk_held.proofs.WordsLaws.{Words, words-none}
+use Rattle.disk_rules.specs.Named.{heldOf}
+use Rattle.disk_rules.proofs.NamedLaws.{words-held}
+use Rattle.filecalls.specs.declared.Drive.{Drive}
+use Rattle.filecalls.specs.declared.Reply.{Reply}
+use Rattle.filecalls.specs.State.{isOpen, closed, loggedIn}
+use Rattle.filecalls.specs.LogIn.{logInTests, refusedLogIn, logIn}
+use Rattle.filecalls.proofs.LogInLaws.{refused-fails}
+use Rattle.filecalls.proofs.OutcomeLaws.{sameAll, outcome-refused}
+use Rattle.filecalls.specs.Leaves.{readSequentialLeaves, writeSequentialLeaves}
+use Rattle.filecalls.proofs.SeveralLaws.{leaves-all, read-refuses, write-refuses}
+use Rattle.call_served.specs.declared.Call.{Call}
+use Rattle.call_served.specs.declared.Call.the-variants.{LogIn, Open, Close, SearchFirst, SearchNext, Delete, Make, Rename, Protect, Attributes, User, Size, SetRandom, Moves, Unserved}
+use Rattle.call_served.specs.declared.Transfer.the-variants.{ReadSequential, WriteSequential, ReadRandom, WriteRandom, WriteZeroFill, ReadSeveral, WriteSeveral}
+use Rattle.bdos.specs.Step.{keepsBuffer, keepsFcb, keepsVolume, carries, does, step}
+use Rattle.call_served.specs.Asked.{Asked, asked}
+use Rattle.call_served.specs.Calls.{callOf}
+use Rattle.drive_bytes.specs.Layout.{encoded, decoded}
+use Rattle.drive_bytes.specs.RoundTrip.{Carried}
+use Rattle.drive_bytes.proofs.RoundTripHolds.{decode-encode, encode-decode, read-carried, closed-is-zeros}
+use Rattle.churawel.specs.Seam.{answered, sealed, through, atSeam, logInAtSeam}
+use Rattle.churawel.specs.Faithful.{LogInCarried, LogInOpens, CallCarried, CallStaysOpen, LogInFaithful, CallFaithful, RefusedLeavesAll, RefusedLogInCloses, RefusedResetCloses}
+use Rattle.churawel.proofs.LastingLaws.{Lasts, denied, outcome-lasts}
+use Rattle.churawel.proofs.CallsLast.{open-lasting, close-lasting, size-lasting, first-lasting, next-lasting, delete-lasting, make-lasting, rename-lasting, attributes-lasting, read-sequential-lasting, read-random-lasting, write-sequential-lasting, write-random-lasting, write-zero-fill-lasting, protect-lasting, user-lasting, set-random-lasting, read-several-lasts, write-several-lasts}
+
+-- ---- log-in
+closed-carried : Carried closed
+closed-carried =
+    record {
+      block-bytes-16 = omega arith;
+      blocks-16 = omega arith;
+      directory-blocks-16 = omega arith;
+      last = omega arith;
+      pattern = refl;
+      four = refl;
+      words = words-none .small;
+      idle = λ e. refl;
+    }
+
+logged-in-carried : (g : Geometry) (held : List ℕ) → lawful g ≡ true → Words held → Carried (loggedIn g held)
+logged-in-carried g held law w =
+    let k = bounds g law in
+    record {
+      block-bytes-16 = omega (arith, k .block-high);
+      blocks-16 = omega (arith, k .blocks-high);
+      directory-blocks-16 = omega (arith, k .directory-high);
+      last = omega arith;
+      pattern = refl;
+      four = w .four;
+      words = w .small;
+      idle = λ e. refl;
+    }
+
+-- the two ways that a log-in can end
+module _ (g : Geometry) (v : List ℕ) where
+  accepted : isNone (firstMet (logInTests g v)) ≡ true → lawful g ≡ true
+  unfolding logInTests
+  accepted h = not-false (lawful g) (unmet Closed _ _ refl h .0)
+
+  taken : isNone (firstMet (logInTests g v)) ≡ true
+      → logIn g v ≡ record { answer = answer.Ready (freeCount (heldOf g v) (g .«directory_blocks») (g .blocks)); drive = loggedIn g (heldOf g v) }
+  unfolding logIn
+  taken h = rw h
+
+  turned-away : isNone (firstMet (logInTests g v)) ≡ false
+      → logIn g v ≡ record { answer = refusedLogIn g v; drive = closed }
+  unfolding logIn
+  turned-away h = rw h
+
+pub log-in-carried : LogInCarried
+log-in-carried g v = go (isNone (firstMet (logInTests g v))) refl
+  where
+    go : (t : Bool) → isNone (firstMet (logInTests g v)) ≡ t → Carried (logIn g v .drive)
+    go true h = rw (taken g v h) (logged-in-carried g (heldOf g v) (accepted g v h) (words-held g v))
+    go false h = rw (turned-away g v h) closed-carried
+
+pub log-in-opens : LogInOpens
+log-in-opens g v s = go (isNone (firstMet (logInTests g v))) refl
+  where
+    go : (t : Bool) → isNone (firstMet (logInTests g v)) ≡ t → isOpen (logIn g v .drive) ≡ true
+    go true h = unfold isOpen in rw (taken g v h, accepted g v h)
+    go false h = absurd (false≢true (sym (refused-fails g v) ∙ ap (λ (r : Reply). succeeded (r .answer)) (sym (turned-away g v h)) ∙ s))
+
+-- ---- every call logs in, or leaves a state that lasts
+module _ (g : Geometry) (p : ℕ) (small : p < 256) (d : Drive) (l : Lasts d) (v f b : List ℕ) where
+  call-lasts : (call : Call) → (call ≡ LogIn) ⊎ Lasts (does g call p d v f b .drive)
+  unfolding does carries
+  call-lasts LogIn = inl refl
+  call-lasts Open = inr (outcome-lasts d v f [] _ l (open-lasting d v f b l))
+  call-lasts Close = inr (outcome-lasts d v f [] _ l (close-lasting d v f b l))
+  call-lasts SearchFirst = inr (outcome-lasts d v f b _ l (first-lasting d v f b l))
+  call-lasts SearchNext = inr (outcome-lasts d v [] b _ l (next-lasting d v f b l))
+  call-lasts Delete = inr (outcome-lasts d v f [] _ l (delete-lasting d v f b l))
+  call-lasts (Moves ReadSequential) = inr (outcome-lasts d v f b _ l (read-sequential-lasting d v f b l))
+  call-lasts (Moves WriteSequential) = inr (outcome-lasts d v f b _ l (write-sequential-lasting d v f b l))
+  call-lasts Make = inr (outcome-lasts d v f [] _ l (make-lasting d v f b l))
+  call-lasts Rename = inr (outcome-lasts d v f [] _ l (rename-lasting d v f b l))
+  call-lasts Protect = inr (outcome-lasts d [] [] [] _ l (protect-lasting d [] f b l))
+  call-lasts Attributes = inr (outcome-lasts d v f [] _ l (attributes-lasting d v f b l))
+  call-lasts User = inr (outcome-lasts d [] [] [] _ l (user-lasting d [] f b l p small))
+  call-lasts (Moves ReadRandom) = inr (outcome-lasts d v f b _ l (read-random-lasting d v f b l))
+  call-lasts (Moves WriteRandom) = inr (outcome-lasts d v f b _ l (write-random-lasting d v f b l))
+  call-lasts Size = inr (outcome-lasts d v f [] _ l (size-lasting d v f b l))
+  call-lasts SetRandom = inr (outcome-lasts d [] f [] _ l (set-random-lasting d [] f b l))
+  call-lasts (Moves WriteZeroFill) = inr (outcome-lasts d v f b _ l (write-zero-fill-lasting d v f b l))
+  call-lasts (Moves ReadSeveral) = inr (read-several-lasts d v f b p l)
+  call-lasts (Moves WriteSeveral) = inr (write-several-lasts d v f b p l)
+  call-lasts Unserved = inr (outcome-lasts d v f b _ l denied)
+
+step-lasts : (d : Drive) → Carried d → isOpen d ≡ true → (c : Asked) → c .parameter < 256 → (v : List ℕ)
+    → (callOf (c .function) ≡ LogIn) ⊎ Lasts (step (d .geometry) c d v .drive)
+unfolding step
+step-lasts d k o c small v = call-lasts (d .geometry) (c .parameter) small d (record { carried = k; opens = o }) v (c .fcb) (c .buffer) (callOf (c .function))
+
+step-log-in : (g : Geometry) (c : Asked) (d : Drive) (v : List ℕ) → callOf (c .function) ≡ LogIn → step g c d v .drive ≡ logIn g v .drive
+unfolding step does carries
+step-log-in g c d v e = rw e
+
+pub call-carried : CallCarried
+call-carried d k o c small v =
+    ⊎-elim (λ e. rw (step-log-in (d .geometry) c d v e) (log-in-carried (d .geometry) v)) (λ l. l .carried) (step-lasts d k o c small v)
+
+pub call-stays-open : CallStaysOpen
+call-stays-open d k o c small v n = ⊎-elim (λ e. absurd (n e)) (λ l. l .opens) (step-lasts d k o c small v)
+
+-- ---- what is read back is what was returned
+pub log-in-faithful : LogInFaithful
+unfolding logInAtSeam
+log-in-faithful g v s e = rw (eq-eqb (length s) 64 e) (decode-encode (logIn g v .drive) (log-in-carried g v))
+
+pub call-faithful : CallFaithful
+unfolding atSeam
+call-faithful n p s v f b small bytes o =
+    rw o (decode-encode _ (call-carried (decoded s) (read-carried s bytes o) o (asked n p f b) small v))
+
+-- ---- a refusal alters nothing
+module _ (g : Geometry) (p : ℕ) (d : Drive) (v f b : List ℕ) where
+  call-refused : (call : Call) → (call ≡ LogIn → ⊥) → succeeded (does g call p d v f b .answer) ≡ false
+      → does g call p d v f b ≡ sameAll (does g call p d v f b) d v f b
+  unfolding does carries
+  call-refused LogIn n e = absurd (n refl)
+  call-refused Open n e = ap (keepsBuffer b) (outcome-refused d v f [] _ e)
+  call-refused Close n e = ap (keepsBuffer b) (outcome-refused d v f [] _ e)
+  call-refused SearchFirst n e = outcome-refused d v f b _ e
+  call-refused SearchNext n e = ap (keepsFcb f) (outcome-refused d v [] b _ e)
+  call-refused Delete n e = ap (keepsBuffer b) (outcome-refused d v f [] _ e)
+  call-refused (Moves ReadSequential) n e = outcome-refused d v f b _ e
+  call-refused (Moves WriteSequential) n e = outcome-refused d v f b _ e
+  call-refused Make n e = ap (keepsBuffer b) (outcome-refused d v f [] _ e)
+  call-refused Rename n e = ap (keepsBuffer b) (outcome-refused d v f [] _ e)
+  call-refused Protect n e = ap (keepsVolume v) (ap (keepsFcb f) (ap (keepsBuffer b) (outcome-refused d [] [] [] _ e)))
+  call-refused Attributes n e = ap (keepsBuffer b) (outcome-refused d v f [] _ e)
+  call-refused User n e = ap (keepsVolume v) (ap (keepsFcb f) (ap (keepsBuffer b) (outcome-refused d [] [] [] _ e)))
+  call-refused (Moves ReadRandom) n e = outcome-refused d v f b _ e
+  call-refused (Moves WriteRandom) n e = outcome-refused d v f b _ e
+  call-refused Size n e = ap (keepsBuffer b) (outcome-refused d v f [] _ e)
+  call-refused SetRandom n e = ap (keepsVolume v) (ap (keepsBuffer b) (outcome-refused d [] f [] _ e))
+  call-refused (Moves WriteZeroFill) n e = outcome-refused d v f b _ e
+  call-refused (Moves ReadSeveral) n e = leaves-all readSequentialLeaves read-refuses d v f b p e
+  call-refused (Moves WriteSeveral) n e = leaves-all writeSequentialLeaves write-refuses d v f b p e
+  call-refused Unserved n e = outcome-refused d v f b _ e
+
+step-refused : (g : Geometry) (c : Asked) (d : Drive) (v : List ℕ) → (callOf (c .function) ≡ LogIn → ⊥) → succeeded (step g c d v .answer) ≡ false
+    → step g c d v ≡ sameAll (step g c d v) d v (c .fcb) (c .buffer)
+unfolding step
+step-refused g c d v n e = call-refused g (c .parameter) d v (c .fcb) (c .buffer) (callOf (c .function)) n e
+
+pub refused-leaves-all : RefusedLeavesAll
+unfolding atSeam
+refused-leaves-all n p s v f b bytes o other e =
+    rw o
+    (ap through (step-refused (decoded s .geometry) (asked n p f b) (decoded s) v other e)
+    ∙ ap (λ (x : List ℕ). sealed (answered (step (decoded s .geometry) (asked n p f b) (decoded s) v .answer)) x v f b) (encode-decode s bytes o))
+
+-- ---- a refused log-in closes
+log-in-closed : (g : Geometry) (v : List ℕ) → succeeded (logIn g v .answer) ≡ false → logIn g v .drive ≡ closed
+log-in-closed g v s = go (isNone (firstMet (logInTests g v))) refl
+  where
+    go : (t : Bool) → isNone (firstMet (logInTests g v)) ≡ t → logIn g v .drive ≡ closed
+    go true h = absurd (true≢false (ap (λ (r : Reply). succeeded (r .answer)) (sym (taken g v h)) ∙ s))
+    go false h = ap (λ (r : Reply). r .drive) (turned-away g v h)
+
+pub refused-log-in-closes : RefusedLogInCloses
+unfolding logInAtSeam
+refused-log-in-closes g v s e no-success = rw (eq-eqb (length s) 64 e) (ap encoded (log-in-closed g v no-success) ∙ closed-is-zeros)
+
+step-answer : (g : Geometry) (c : Asked) (d : Drive) (v : List ℕ) → callOf (c .function) ≡ LogIn → step g c d v .answer ≡ logIn g v .answer
+unfolding step does carries
+step-answer g c d v e = rw e
+
+pub refused-reset-closes : RefusedResetCloses
+unfolding atSeam
+refused-reset-closes n p s v f b o e no-success =
+    let g = decoded s .geometry in
+    let c = asked n p f b in
+    let fails = ap succeeded (sym (step-answer g c (decoded s) v e)) ∙ no-success in
+    rw o (ap encoded (step-log-in g c (decoded s) v e ∙ log-in-closed g v fails) ∙ closed-is-zeros)

@@ -1,0 +1,96 @@
+-- The value beside an answer fits 16 bits: a count is at most 256, a slot at most 2,048, and every other answer has 0.
+use mathlib.Core.Path.{_≡_, refl}
+use mathlib.Core.Bool.{Bool, true, false, not, cond}
+use mathlib.Core.List.{List, []}
+use Prim.Native.Nat.{ℕ, _-_, _≤_, _<_}
+use native.Mathlib.Omega.{arith}
+use Rattle.lists.proofs.BoundedLaws.{low-le}
+use Rattle.disk_geometry.specs.declared.Geometry.{Geometry}
+use Rattle.disk_geometry.specs.Geometry.{lawful, slots}
+use Rattle.disk_geometry.proofs.GeometryLaws.{bounds}
+use Rattle.call_answers.specs.declared.Refusal.the-variants.{Closed}
+use Rattle.call_answers.specs.declared.Answer.the-variants as answer
+use Rattle.call_answers.specs.Refusal.{isNone, firstMet}
+use Rattle.call_answers.specs.Answer.{valueOf}
+use Rattle.disk_held.specs.Held.{holds, freeCount}
+use Rattle.disk_held.proofs.CountLaws.{count-not}
+use Rattle.disk_rules.specs.GoodSlot.{goodSlot, lowestBad}
+use Rattle.disk_rules.specs.Named.{heldOf}
+use Rattle.filecalls.specs.declared.Drive.{Drive}
+use Rattle.filecalls.specs.declared.Reply.{Reply}
+use Rattle.filecalls.specs.State.{closed, loggedIn}
+use Rattle.filecalls.specs.Outcome.{Act, deny, done, outcome}
+use Rattle.filecalls.specs.LogIn.{logInTests, refusedLogIn, logIn}
+use Rattle.filecalls.proofs.LogInLaws.{refused-value}
+use Rattle.filecalls.specs.Leaves.{readSequentialLeaves, writeSequentialLeaves}
+use Rattle.filecalls.proofs.SeveralLaws.{done-most}
+use Rattle.call_served.specs.declared.Call.{Call}
+use Rattle.call_served.specs.declared.Call.the-variants.{LogIn, Open, Close, SearchFirst, SearchNext, Delete, Make, Rename, Protect, Attributes, User, Size, SetRandom, Moves, Unserved}
+use Rattle.call_served.specs.declared.Transfer.the-variants.{ReadSequential, WriteSequential, ReadRandom, WriteRandom, WriteZeroFill, ReadSeveral, WriteSeveral}
+use Rattle.bdos.specs.Step.{carries, does, step}
+use Rattle.call_served.specs.Asked.{Asked}
+use Rattle.call_served.specs.Calls.{callOf}
+
+free-le : (held : List ℕ) (d t : ℕ) → freeCount held d t ≤ t - d
+unfolding freeCount
+free-le held d t = omega (arith, count-not (holds held) d (t - d))
+
+bad-le : (g : Geometry) (v : List ℕ) → lowestBad g v ≤ slots g
+unfolding lowestBad
+bad-le g v = omega (arith, low-le (λ i. not (goodSlot g v i)) 0 (slots g))
+
+module _ (g : Geometry) (v : List ℕ) where
+  unlawful : lawful g ≡ false → logIn g v .answer ≡ answer.Refused Closed
+  unfolding logIn logInTests firstMet refusedLogIn
+  unlawful e = rw e
+
+  within : lawful g ≡ true → valueOf (logIn g v .answer) < 65536
+  unfolding logIn
+  within e = go (isNone (firstMet (logInTests g v)))
+    where
+      go : (t : Bool)
+          → valueOf (cond {A = Reply} t (record { answer = answer.Ready (freeCount (heldOf g v) (g .«directory_blocks») (g .blocks)); drive = loggedIn g (heldOf g v) })
+          (record { answer = refusedLogIn g v; drive = closed }) .answer) < 65536
+      go true = omega (arith, free-le (heldOf g v) (g .«directory_blocks») (g .blocks), bounds g e .blocks-high)
+      go false = omega (arith, refused-value g v, bad-le g v, bounds g e .slots-high)
+
+  pub log-in-value : valueOf (logIn g v .answer) < 65536
+  log-in-value = go (lawful g) refl
+    where
+      go : (t : Bool) → lawful g ≡ t → valueOf (logIn g v .answer) < 65536
+      go true e = within e
+      go false e = rw (unlawful e) (omega arith)
+
+-- an act's answer has no value beside it
+act-value : (d : Drive) (v f b : List ℕ) (act : Act) → valueOf (outcome d v f b act .answer) < 65536
+unfolding outcome
+act-value d v f b (deny why) = omega arith
+act-value d v f b (done code change stores f′ b′) = omega arith
+
+call-value : (g : Geometry) (call : Call) (p : ℕ) (d : Drive) (v f b : List ℕ) → valueOf (does g call p d v f b .answer) < 65536
+unfolding does carries
+call-value g LogIn p d v f b = log-in-value g v
+call-value g Open p d v f b = act-value d v f [] _
+call-value g Close p d v f b = act-value d v f [] _
+call-value g SearchFirst p d v f b = act-value d v f b _
+call-value g SearchNext p d v f b = act-value d v [] b _
+call-value g Delete p d v f b = act-value d v f [] _
+call-value g (Moves ReadSequential) p d v f b = act-value d v f b _
+call-value g (Moves WriteSequential) p d v f b = act-value d v f b _
+call-value g Make p d v f b = act-value d v f [] _
+call-value g Rename p d v f b = act-value d v f [] _
+call-value g Protect p d v f b = act-value d [] [] [] _
+call-value g Attributes p d v f b = act-value d v f [] _
+call-value g User p d v f b = act-value d [] [] [] _
+call-value g (Moves ReadRandom) p d v f b = act-value d v f b _
+call-value g (Moves WriteRandom) p d v f b = act-value d v f b _
+call-value g Size p d v f b = act-value d v f [] _
+call-value g SetRandom p d v f b = act-value d [] f [] _
+call-value g (Moves WriteZeroFill) p d v f b = act-value d v f b _
+call-value g (Moves ReadSeveral) p d v f b = omega (arith, done-most readSequentialLeaves d v f b p)
+call-value g (Moves WriteSeveral) p d v f b = omega (arith, done-most writeSequentialLeaves d v f b p)
+call-value g Unserved p d v f b = act-value d v f b _
+
+pub step-value : (g : Geometry) (c : Asked) (d : Drive) (v : List ℕ) → valueOf (step g c d v .answer) < 65536
+unfolding step
+step-value g c d v = call-value g (callOf (c .function)) (c .parameter) d v (c .fcb) (c .buffer)

@@ -1,0 +1,68 @@
+-- A drive that counts as closed is refused; any other goes through the door and is laid back.
+use Rattle.churawel.proofs.SeamLaws.{call-refused, call-done, call-value}
+use borrow.Author.Needs.{needs}
+use Rattle.churawel.proofs.churawel_call.Statement.{statement}
+use Rattle.churawel.proofs.churawel_call.Tie as tie
+
+decode-requires : tie.Need-decode-requires
+decode-requires c κs = search needs
+
+is-open-requires : tie.Need-is-open-requires
+is-open-requires c κs = search needs
+
+seal-requires : tie.Need-seal-requires
+seal-requires c κs = search needs
+
+same-length : tie.Need-same-length
+same-length c = search needs
+
+returns : tie.Need-returns
+returns c =
+    let a = c .before .before .before .before .before .before .before .before .before .args in
+    call-refused (a .function) (a .parameter) (a .drive .now) (a .volume .now) (a .fcb .now) (a .buffer .now) (c .before .before .before .decode .ensures) (c .before .before .is-open .ensures) (c .before .if1 .taken) (c .seal .ensures)
+
+enter-requires : tie.Need-enter-requires
+enter-requires c κs = search needs
+
+encode-requires : tie.Need-encode-requires
+encode-requires c κs = search needs
+
+seal-requires-2 : tie.Need-seal-requires-2
+seal-requires-2 c κs =
+    let a = c .before .before .before .before .before .before .before .before .before .before .before .before .before .before .before .before .before .before .before .before .before .before .before .before .args in
+    call-value _ _ (a .drive .now) (a .volume .now) (a .fcb .now) (a .buffer .now) (c .before .before .before .before .before .before .before .before .before .before .before .before .before .before .before .before .before .before .decode .ensures) (c .before .before .before .before .before .before .before .before .before .before .before .before .before .before .before .before .before .is-open .ensures) (c .before .before .before .before .before .before .before .before .before .before .before .enter .ensures)
+
+same-length-2 : tie.Need-same-length-2
+same-length-2 c = search needs
+
+same-length-3 : tie.Need-same-length-3
+same-length-3 c = search needs
+
+same-length-4 : tie.Need-same-length-4
+same-length-4 c = search needs
+
+same-length-5 : tie.Need-same-length-5
+same-length-5 c = search needs
+
+returns-2 : tie.Need-returns-2
+returns-2 c =
+    let a = c .before .before .before .before .before .before .before .before .before .before .before .before .before .before .before .before .before .before .before .before .before .before .before .before .before .args in
+    call-done (a .function) (a .parameter) (a .drive .now) (a .volume .now) (a .fcb .now) (a .buffer .now) (c .before .before .before .before .before .before .before .before .before .before .before .before .before .before .before .before .before .before .before .decode .ensures) (c .before .before .before .before .before .before .before .before .before .before .before .before .before .before .before .before .before .before .is-open .ensures) (c .before .before .before .before .before .before .before .before .before .before .before .before .before .before .before .before .before .if1 .left) (c .before .before .before .before .before .before .before .before .before .before .before .before .enter .ensures) (c .before .before .before .encode .ensures) (c .seal2 .ensures)
+
+pub churawel-call-spec : {M : Type 1} → statement M
+churawel-call-spec =
+    tie.close
+    (tie.spec
+    decode-requires
+    is-open-requires
+    seal-requires
+    same-length
+    returns
+    enter-requires
+    encode-requires
+    seal-requires-2
+    same-length-2
+    same-length-3
+    same-length-4
+    same-length-5
+    returns-2)

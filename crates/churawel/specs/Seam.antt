@@ -1,0 +1,53 @@
+-- What an exported call leaves, for every input: its answer as one number, and every lent byte.
+use mathlib.Core.Bool.{cond}
+use mathlib.Core.List.{List, []}
+use Prim.Native.Nat.{ℕ, _+_, _*_}
+use lib.Dec.{eqb}
+use lib.ListN.{length}
+use Rattle.disk_geometry.specs.declared.Geometry.{Geometry}
+use Rattle.call_answers.specs.declared.Refusal.the-variants.{Closed}
+use Rattle.call_answers.specs.declared.Answer.{Answer}
+use Rattle.call_answers.specs.declared.Answer.the-variants.{Refused}
+use Rattle.call_answers.specs.Answer.{numberOf, valueOf}
+use Rattle.filecalls.specs.State.{isOpen}
+use Rattle.filecalls.specs.Outcome.{Outcome}
+use Rattle.filecalls.specs.LogIn.{logIn}
+use Rattle.bdos.specs.Step.{step}
+use Rattle.call_served.specs.Asked.{asked}
+use Rattle.drive_bytes.specs.Layout.{driveBytes, encoded, decoded}
+
+-- "the answer's number in the low 16 bits, log-in's count or slot in the high 16"
+unfoldable pub answered : Answer → ℕ
+answered a = numberOf a + 65536 * valueOf a
+
+-- the answer, and the bytes of drive, volume, control block and transfer buffer
+pub record Sealed : Type 0 where
+  pub answer : ℕ
+  pub drive : List ℕ
+  pub volume : List ℕ
+  pub fcb : List ℕ
+  pub buffer : List ℕ
+
+abbrev pub sealed : ℕ → List ℕ → List ℕ → List ℕ → List ℕ → Sealed
+sealed r s v fcb b = record { answer = r; drive = s; volume = v; fcb = fcb; buffer = b }
+
+-- all that a call at the door leaves, the state as bytes
+abbrev pub through : Outcome → Sealed
+through o = sealed (answered (o .answer)) (encoded (o .drive)) (o .volume) (o .fcb) (o .buffer)
+
+-- "Any other length or byte pattern counts as closed: 32, nothing changed"
+abbrev pub refusedClosed : List ℕ → List ℕ → List ℕ → List ℕ → Sealed
+refusedClosed s v fcb b = sealed (answered (Refused Closed)) s v fcb b
+
+-- a call: by function's number, parameter, and the bytes of drive, volume, control block and buffer. The geometry is the
+-- drive's own, so that 13 and 37 log in anew with it.
+unfoldable pub atSeam : ℕ → ℕ → List ℕ → List ℕ → List ℕ → List ℕ → Sealed
+atSeam n p s v fcb b =
+    cond (isOpen (decoded s)) (through (step (decoded s .geometry) (asked n p fcb b) (decoded s) v))
+    (refusedClosed s v fcb b)
+
+-- log-in: by geometry, and the bytes of volume and drive; it is lent neither control block nor buffer
+unfoldable pub logInAtSeam : Geometry → List ℕ → List ℕ → Sealed
+logInAtSeam g v s =
+    cond (eqb (length s) driveBytes) (sealed (answered (logIn g v .answer)) (encoded (logIn g v .drive)) v [] [])
+    (refusedClosed s v [] [])

@@ -1,2 +1,0 @@
--- "Control block and position."
-pub mod Block

@@ -1,3 +1,0 @@
--- The writes.
-pub mod Write
-pub mod WritePlan

@@ -1,2 +1,0 @@
--- Delete: its tests, and the blocks that it frees.
-pub mod Delete

@@ -1,0 +1,203 @@
+-- What a lawful geometry's sizes are, and where its records and slots lie: inside the volume, and apart from each other.
+-- Only `start-in` and `start-apart` know how records lie. Of two things apart the first lies before the second, or behind it.
+use mathlib.Core.Path.{_≡_, refl, sym, ap, _∙_}
+use mathlib.Core.Bool.{Bool, true, false, _||_}
+use mathlib.Core.Logic.{_⊎_, inl, inr, ⊎-elim, _≢_}
+use Prim.Native.Nat.{ℕ, suc, _+_, _*_, _/_, _%_, _≤_, _<_}
+use native.Mathlib.Decide.{ℕ-discrete}
+use native.Mathlib.Nat.{mul-comm, mul-le-mul, mul-le-mul-right, mod-lt, div-lt-iff-lt-mul, div-add-mod', div-div-eq-div-mul}
+use native.Mathlib.Omega.{arith}
+use lib.Arith.{digits-lt, digits-div, mod-mul}
+use lib.Dec.{ltb}
+use borrow.Author.Tests.{leb-true, ltb-true, ltb-false, eqb-true}
+use Rattle.lists.proofs.BoolLaws.{and-parts}
+use Rattle.disk_geometry.specs.declared.Geometry.{Geometry}
+use Rattle.disk_geometry.specs.Geometry.{lawful, bytes, records, extents, start, slots, slotStart, recordStart, groupOf, placeOf, places}
+
+-- ---- the sizes
+pub record Bounds (g : Geometry) : Type 0 where
+  pub block-sizes : (g .«block_bytes» ≡ 1024) ⊎ ((g .«block_bytes» ≡ 2048) ⊎ (g .«block_bytes» ≡ 4096))
+  pub block-low : 1024 ≤ g .«block_bytes»
+  pub block-high : g .«block_bytes» ≤ 4096
+  pub blocks-low : 2 ≤ g .blocks
+  pub blocks-high : g .blocks ≤ 256
+  pub directory-low : 1 ≤ g .«directory_blocks»
+  pub directory-high : g .«directory_blocks» ≤ 16
+  pub directory-below : g .«directory_blocks» < g .blocks
+  pub block-records : records g * 128 ≡ g .«block_bytes»
+  pub block-extents : records g ≡ 8 * extents g
+  pub some-records : 0 < records g
+  pub some-extents : 0 < extents g
+  pub entry-records : places g * records g ≡ 128 * extents g
+  pub whole : g .blocks * g .«block_bytes» ≤ 1048576
+  pub part : g .«directory_blocks» * g .«block_bytes» ≤ g .blocks * g .«block_bytes»
+  pub whole-records : g .blocks * g .«block_bytes» ≡ g .blocks * records g * 128
+  pub part-records : g .«directory_blocks» * records g ≤ g .blocks * records g
+  pub slots-bytes : slots g * 32 ≡ g .«directory_blocks» * g .«block_bytes»
+  pub slots-high : slots g ≤ 2048
+
+-- each of the three block sizes is a number of extents
+in-extents : (b : ℕ) → (b ≡ 1024) ⊎ ((b ≡ 2048) ⊎ (b ≡ 4096)) → (b ≡ 1024 * (b / 1024)) × ((1024 ≤ b) × (b ≤ 4096))
+in-extents b (inl e) = (omega arith, (omega arith, omega arith))
+in-extents b (inr (inl e)) = (omega arith, (omega arith, omega arith))
+in-extents b (inr (inr e)) = (omega arith, (omega arith, omega arith))
+
+one-of-three : (a b c : Bool) {x y z : Type 0} → (a ≡ true → x) → (b ≡ true → y) → (c ≡ true → z) → (a || b || c) ≡ true → x ⊎ (y ⊎ z)
+one-of-three true b c f g h e = inl (f refl)
+one-of-three false true c f g h e = inr (inl (g refl))
+one-of-three false false c f g h e = inr (inr (h e))
+
+pub bounds : (g : Geometry) → lawful g ≡ true → Bounds g
+unfolding lawful places
+bounds g e =
+    let p₁ = and-parts _ _ e in
+    let p₂ = and-parts _ _ (p₁ .0) in
+    let p₃ = and-parts _ _ (p₂ .0) in
+    let p₄ = and-parts _ _ (p₃ .0) in
+    let p₅ = and-parts _ _ (p₄ .0) in
+    let three = one-of-three _ _ _ (eqb-true (g .«block_bytes») 1024) (eqb-true (g .«block_bytes») 2048) (eqb-true (g .«block_bytes») 4096) (p₅ .0) in
+    let s = in-extents (g .«block_bytes») three in
+    let r : g .«block_bytes» / 128 * 128 ≡ g .«block_bytes» = omega arith in
+    let lt : g .«directory_blocks» < g .blocks = ltb-true _ _ (p₁ .1) in
+    let th : g .blocks ≤ 256 = leb-true _ _ (p₄ .1) in
+    let dh : g .«directory_blocks» ≤ 16 = leb-true _ _ (p₂ .1) in
+    let t : g .blocks * g .«block_bytes» ≡ g .blocks * (g .«block_bytes» / 128 * 128) = ap (λ (x : ℕ). g .blocks * x) (sym r) in
+    let d : g .«directory_blocks» * g .«block_bytes» ≡ g .«directory_blocks» * (g .«block_bytes» / 128 * 128) = ap (λ (x : ℕ). g .«directory_blocks» * x) (sym r) in
+    let m : g .«directory_blocks» * g .«block_bytes» ≤ 16 * 4096 = mul-le-mul dh (s .1 .1) in
+    record {
+      block-sizes = three;
+      block-low = s .1 .0;
+      block-high = s .1 .1;
+      blocks-low = leb-true _ _ (p₅ .1);
+      blocks-high = th;
+      directory-low = leb-true _ _ (p₃ .1);
+      directory-high = dh;
+      directory-below = lt;
+      block-records = r;
+      block-extents = omega arith;
+      some-records = omega arith;
+      some-extents = omega arith;
+      entry-records = omega arith;
+      whole = mul-le-mul th (s .1 .1);
+      part = mul-le-mul (omega arith) (omega arith);
+      whole-records = omega arith;
+      part-records = mul-le-mul-right (g .«block_bytes» / 128) (omega arith);
+      slots-bytes = omega arith;
+      slots-high = omega arith;
+    }
+
+-- ---- where records and slots lie
+less-or-more : (p q : ℕ) → p ≢ q → (p < q) ⊎ (q < p)
+less-or-more p q ne = go (ltb p q) refl
+  where
+    go : (t : Bool) → ltb p q ≡ t → (p < q) ⊎ (q < p)
+    go true e = inl (ltb-true p q e)
+    go false e = inr (omega (arith, ltb-false p q e))
+
+module _ (g : Geometry) (good : lawful g ≡ true) where
+  pub start-in : (q : ℕ) → q < g .blocks * records g → start g q + 128 ≤ bytes g
+  unfolding start
+  start-in q h = let a : suc q * 128 ≤ g .blocks * records g * 128 = mul-le-mul-right 128 h in omega (arith, bounds g good)
+
+  pub start-apart : (p q : ℕ) → p < g .blocks * records g → q < g .blocks * records g → p ≢ q
+      → (start g p + 128 ≤ start g q) ⊎ (start g q + 128 ≤ start g p)
+  unfolding start
+  start-apart p q hp hq ne = ⊎-elim (λ (k : p < q). inl (omega arith)) (λ (k : q < p). inr (omega arith)) (less-or-more p q ne)
+
+  -- ---- slots
+  -- the record that holds slot i is one of the directory's
+  pub slot-record-below-directory : (i : ℕ) → i < slots g → i / 4 < g .«directory_blocks» * records g
+  slot-record-below-directory i h = omega arith
+
+  pub slot-record-below : (i : ℕ) → i < slots g → i / 4 < g .blocks * records g
+  slot-record-below i h = omega (arith, bounds g good)
+
+  pub slot-in : (i : ℕ) → i < slots g → slotStart g i + 32 ≤ bytes g
+  unfolding slotStart
+  slot-in i h = omega (arith, start-in (i / 4) (slot-record-below i h))
+
+  pub slots-apart : (i j : ℕ) → i < slots g → j < slots g → i ≢ j → (slotStart g i + 32 ≤ slotStart g j) ⊎ (slotStart g j + 32 ≤ slotStart g i)
+  unfolding slotStart
+  slots-apart i j hi hj ne = go (ℕ-discrete (i / 4) (j / 4))
+    where
+      go : Dec (i / 4 ≡ j / 4) → (start g (i / 4) + i % 4 * 32 + 32 ≤ start g (j / 4) + j % 4 * 32) ⊎ (start g (j / 4) + j % 4 * 32 + 32 ≤ start g (i / 4) + i % 4 * 32)
+      go (yes z) =
+          let s : start g (i / 4) ≡ start g (j / 4) = ap (start g) z in
+          ⊎-elim (λ (k : i % 4 < j % 4). inl (omega arith)) (λ (k : j % 4 < i % 4). inr (omega arith)) (less-or-more (i % 4) (j % 4) (omega arith))
+      go (no z) =
+          ⊎-elim
+          (λ (k : start g (i / 4) + 128 ≤ start g (j / 4)). inl (omega arith))
+          (λ (k : start g (j / 4) + 128 ≤ start g (i / 4)). inr (omega arith))
+          (start-apart (i / 4) (j / 4) (slot-record-below i hi) (slot-record-below j hj) z)
+
+  -- ---- records of blocks
+  -- the logical record that record n in block b is
+  pub record-below : (b n : ℕ) → b < g .blocks → b * records g + n % records g < g .blocks * records g
+  record-below b n h = digits-lt h (mod-lt n (bounds g good .some-records))
+
+  pub record-in : (b n : ℕ) → b < g .blocks → recordStart g b n + 128 ≤ bytes g
+  unfolding recordStart
+  record-in b n h = start-in (b * records g + n % records g) (record-below b n h)
+
+  pub records-apart : (b c n m : ℕ) → b < g .blocks → c < g .blocks → b ≢ c → (recordStart g b n + 128 ≤ recordStart g c m) ⊎ (recordStart g c m + 128 ≤ recordStart g b n)
+  unfolding recordStart
+  records-apart b c n m hb hc ne =
+      start-apart (b * records g + n % records g) (c * records g + m % records g) (record-below b n hb) (record-below c m hc)
+      (λ e. ne (sym (digits-div b (mod-lt n (bounds g good .some-records))) ∙ ap (λ (x : ℕ). x / records g) e ∙ digits-div c (mod-lt m (bounds g good .some-records))))
+
+  pub records-apart-within : (b n m : ℕ) → b < g .blocks → n % records g ≢ m % records g
+      → (recordStart g b n + 128 ≤ recordStart g b m) ⊎ (recordStart g b m + 128 ≤ recordStart g b n)
+  unfolding recordStart
+  records-apart-within b n m h ne =
+      start-apart (b * records g + n % records g) (b * records g + m % records g) (record-below b n h) (record-below b m h) (λ e. ne (omega arith))
+
+  -- a slot and a record of a block from D to T-1
+  pub slot-record-apart : (i b n : ℕ) → i < slots g → g .«directory_blocks» ≤ b → b < g .blocks
+      → (slotStart g i + 32 ≤ recordStart g b n) ⊎ (recordStart g b n + 128 ≤ slotStart g i)
+  unfolding slotStart recordStart
+  slot-record-apart i b n hi low high =
+      let a : g .«directory_blocks» * records g ≤ b * records g = mul-le-mul-right (records g) low in
+      ⊎-elim
+      (λ (k : start g (i / 4) + 128 ≤ start g (b * records g + n % records g)). inl (omega arith))
+      (λ (k : start g (b * records g + n % records g) + 128 ≤ start g (i / 4)). inr (omega arith))
+      (start-apart (i / 4) (b * records g + n % records g) (slot-record-below i hi) (record-below b n high) (omega (arith, slot-record-below-directory i hi)))
+
+  -- ---- places
+  pub place-lt : (n : ℕ) → placeOf g n < places g
+  unfolding placeOf
+  place-lt n =
+      let k : n % (128 * extents g) < 128 * extents g = mod-lt n (omega (arith, bounds g good)) in
+      div-lt-iff-lt-mul (bounds g good .some-records) .1 (rw (bounds g good .entry-records) k)
+
+  -- place and group by the number of blocks' worth of records before it
+  place-of-block : (n : ℕ) → placeOf g n ≡ n / records g % places g
+  unfolding placeOf
+  place-of-block n =
+      let some = bounds g good .some-records in
+      let k : n % (128 * extents g) ≡ n / records g % places g * records g + n % records g
+      = rw (← bounds g good .entry-records) (mod-mul n {m = places g} {c = records g} (omega (arith, place-lt n)) some) in
+      rw k (digits-div (n / records g % places g) (mod-lt n some))
+
+  group-of-block : (n : ℕ) → groupOf g (n / 128) ≡ n / records g / places g
+  unfolding groupOf
+  group-of-block n =
+      let m : records g * places g ≡ 128 * extents g = mul-comm (records g) (places g) ∙ bounds g good .entry-records in
+      div-div-eq-div-mul n 128 (extents g) ∙ ap (λ (x : ℕ). n / x) (sym m) ∙ sym (div-div-eq-div-mul n (records g) (places g))
+
+  -- two records of one block have one place in one group
+  pub same-place : (m n : ℕ) → m / records g ≡ n / records g → placeOf g m ≡ placeOf g n
+  same-place m n e = place-of-block m ∙ ap (λ (x : ℕ). x % places g) e ∙ sym (place-of-block n)
+
+  pub same-group : (m n : ℕ) → m / records g ≡ n / records g → groupOf g (m / 128) ≡ groupOf g (n / 128)
+  same-group m n e = group-of-block m ∙ ap (λ (x : ℕ). x / places g) e ∙ sym (group-of-block n)
+
+  -- a record's number from its group, its place and its place in the block
+  pub record-number : (n : ℕ) → n ≡ groupOf g (n / 128) * (128 * extents g) + (placeOf g n * records g + n % records g)
+  unfolding groupOf placeOf
+  record-number n =
+      let some = bounds g good .some-records in
+      let k : n % (128 * extents g) ≡ n / records g % places g * records g + n % records g
+      = rw (← bounds g good .entry-records) (mod-mul n {m = places g} {c = records g} (omega (arith, place-lt n)) some) in
+      let p : n % (128 * extents g) / records g ≡ n / records g % places g = rw k (digits-div (n / records g % places g) (mod-lt n some)) in
+      let q : n / 128 / extents g ≡ n / (128 * extents g) = div-div-eq-div-mul n 128 (extents g) in
+      sym (div-add-mod' n (128 * extents g)) ∙ rw (q, p, k)

@@ -1,0 +1,157 @@
+// The geometry of a volume: its sizes, and where its records and slots lie.
+ghost use mathlib.Core.Path.{_≡_};
+ghost use mathlib.Core.Bool.{true};
+ghost use Prim.Native.Nat.{_+_, _*_, _/_, _%_, _≤_, _<_};
+ghost use Rattle.disk_geometry.specs.Geometry.{recordBytes, entryBytes, recordSlots, lawful, bytes, records, extents, start, slots, slotStart, recordStart, groupOf, places, placeOf, inside, blocks};
+ghost use Rattle.disk_geometry.specs.Shift.{bsh, blm};
+
+// How the volume is cut up: B, T and D of the paper.
+pub struct Geometry {
+    pub block_bytes: usize,
+    pub blocks: usize,
+    pub directory_blocks: usize,
+}
+
+impl Geometry {
+    // Bytes of a record and of an entry, records of an extent, slots of a directory record, bytes of a block for each
+    // extent of its entry.
+    pub const RECORD_BYTES: usize = 128;
+
+    pub const ENTRY_BYTES: usize = 32;
+
+    pub const EXTENT_RECORDS: usize = 128;
+
+    pub const RECORD_SLOTS: usize = 4;
+
+    pub const EXTENT_BLOCK_BYTES: usize = 1024;
+
+    // Is the geometry within the rules?
+    pub fn is_lawful(self) -> bool
+        ensures { λ r. ⌜ r ≡ lawful self ⌝ }
+    {
+        ((self.block_bytes == 1024) | (self.block_bytes == 2048) | (self.block_bytes == 4096))
+            & (2 <= self.blocks)
+            & (self.blocks <= 256)
+            & (1 <= self.directory_blocks)
+            & (self.directory_blocks <= 16)
+            & (self.directory_blocks < self.blocks)
+    }
+
+    // T times B: the volume's length.
+    pub fn bytes(self) -> usize
+        requires { ⌜ lawful self ≡ true ⌝ }
+        ensures { λ r. ⌜ r ≡ bytes self ⌝ }
+    {
+        self.blocks * self.block_bytes
+    }
+
+    // R: records a block.
+    pub fn records(self) -> usize
+        ensures { λ r. ⌜ r ≡ records self ⌝ }
+    {
+        self.block_bytes / Geometry::RECORD_BYTES
+    }
+
+    // BSH, the block shift of Digital Research's table (000, Tabelle 13): R is 1 << BSH.
+    pub fn bsh(self) -> usize
+        ensures { λ r. ⌜ (r ≡ bsh self) × (r ≤ 5) ⌝ }
+    {
+        let bls = self.block_bytes;
+        match bls {
+            1024 => 3,
+            2048 => 4,
+            4096 => 5,
+            _ => 0,
+        }
+    }
+
+    // BLM, the block mask of the same table: R - 1.
+    pub fn blm(self) -> usize
+        ensures { λ r. ⌜ r ≡ blm self ⌝ }
+    {
+        let bls = self.block_bytes;
+        match bls {
+            1024 => 7,
+            2048 => 15,
+            4096 => 31,
+            _ => 0,
+        }
+    }
+
+    // X: extents an entry.
+    pub fn extents(self) -> usize
+        ensures { λ r. ⌜ r ≡ extents self ⌝ }
+    {
+        self.block_bytes / Geometry::EXTENT_BLOCK_BYTES
+    }
+
+    // How many slots the directory has.
+    pub fn slots(self) -> usize
+        requires { ⌜ lawful self ≡ true ⌝ }
+        ensures { λ r. ⌜ (r ≡ slots self) × (r ≤ 2048) ⌝ }
+    {
+        Geometry::RECORD_SLOTS * (self.directory_blocks * self.records())
+    }
+
+    // Where logical record q begins.
+    pub fn start(self, q: usize) -> usize
+        requires { ⌜ (lawful self ≡ true) × (q < blocks self * records self) ⌝ }
+        ensures { λ r. ⌜ (r ≡ start self q) × (r + recordBytes ≤ bytes self) ⌝ }
+    {
+        q * Geometry::RECORD_BYTES
+    }
+
+    // Where the directory record begins that holds slot i.
+    pub fn slot_record(self, i: usize) -> usize
+        requires { ⌜ (lawful self ≡ true) × (i < slots self) ⌝ }
+        ensures { λ r. ⌜ (r ≡ start self (i / recordSlots)) × (r + recordBytes ≤ bytes self) ⌝ }
+    {
+        self.start(i / Geometry::RECORD_SLOTS)
+    }
+
+    // Where slot i begins.
+    pub fn slot_start(self, i: usize) -> usize
+        requires { ⌜ (lawful self ≡ true) × (i < slots self) ⌝ }
+        ensures { λ r. ⌜ (r ≡ slotStart self i) × (r + entryBytes ≤ bytes self) ⌝ }
+    {
+        self.slot_record(i) + i % Geometry::RECORD_SLOTS * Geometry::ENTRY_BYTES
+    }
+
+    // Where record n begins that lies in block b.
+    pub fn record_start(self, b: usize, n: usize) -> usize
+        requires { ⌜ (lawful self ≡ true) × (b < blocks self) ⌝ }
+        ensures { λ r. ⌜ (r ≡ recordStart self b n) × (r + recordBytes ≤ bytes self) ⌝ }
+    {
+        self.start((b << self.bsh()) + (n & self.blm()))
+    }
+
+    // The group of extent x.
+    pub fn group(self, x: usize) -> usize
+        requires { ⌜ lawful self ≡ true ⌝ }
+        ensures { λ r. ⌜ r ≡ groupOf self x ⌝ }
+    {
+        x / self.extents()
+    }
+
+    // How many places an entry's map has.
+    pub fn places(self) -> usize
+        ensures { λ r. ⌜ (r ≡ places self) × (r ≤ 16) ⌝ }
+    {
+        16
+    }
+
+    // The map place of record n.
+    pub fn place(self, n: usize) -> usize
+        requires { ⌜ lawful self ≡ true ⌝ }
+        ensures { λ r. ⌜ (r ≡ placeOf self n) × (r < places self) ⌝ }
+    {
+        (n % (Geometry::EXTENT_RECORDS * self.extents())) >> self.bsh()
+    }
+
+    // Is the block one from D to T-1?
+    pub fn is_inside(self, b: usize) -> bool
+        ensures { λ r. ⌜ r ≡ inside self b ⌝ }
+    {
+        (self.directory_blocks <= b) & (b < self.blocks)
+    }
+}

@@ -1,0 +1,2 @@
+-- The held blocks while inspection goes on.
+pub mod CodeHeldBelow

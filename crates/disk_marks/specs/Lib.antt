@@ -1,0 +1,2 @@
+-- The marks of the slots passed so far.
+pub mod CodeMarks

@@ -1,0 +1,66 @@
+-- What the lowest slot that has something tells: found, the entry in it has what is wanted and none below does; not found, none has.
+use mathlib.Core.Path.{_≡_, refl, sym, _∙_}
+use mathlib.Core.Bool.{Bool, true, false, true≢false}
+use mathlib.Core.List.{List}
+use Prim.Native.Nat.{ℕ, _≤_, _<_}
+use native.Mathlib.Omega.{arith}
+use lib.Dec.{ltb, eqb}
+use borrow.Author.Tests.{ltb-true, ltb-false}
+use Rattle.lists.proofs.BoolLaws.{and-left}
+use Rattle.lists.specs.Bounded.{lowFrom}
+use Rattle.lists.proofs.BoundedLaws.{Low, low-le, low-hit, low-miss, low-is}
+use Rattle.disk_geometry.specs.declared.Geometry.{Geometry}
+use Rattle.disk_volume.specs.declared.Wanted.{Wanted}
+use Rattle.disk_volume.specs.declared.Wanted.the-variants.{File, Group}
+use Rattle.disk_geometry.specs.Geometry.{slots, groupOf}
+use Rattle.disk_volume.specs.Entry.{Entry, extent, ofFile, ofGroup}
+use Rattle.disk_volume.specs.Directory.{fits, slotFits, slotAt, findSlot}
+
+module _ (g : Geometry) (v : List ℕ) (u : ℕ) (name : List ℕ) where
+  pub find-le : (w : Wanted) → findSlot g v u name w ≤ slots g
+  unfolding findSlot
+  find-le w = let h = low-le (slotFits g v u name w) 0 (slots g) in omega arith
+
+  pub found : (w : Wanted) → findSlot g v u name w < slots g → Low (slotFits g v u name w) 0 (slots g) (findSlot g v u name w)
+  unfolding findSlot
+  found w h = low-hit (slotFits g v u name w) 0 (slots g) (lowFrom (slotFits g v u name w) 0 (slots g)) refl (omega arith)
+
+  -- the entry in the slot has what is wanted
+  pub found-fits : (w : Wanted) → findSlot g v u name w < slots g → slotFits g v u name w (findSlot g v u name w) ≡ true
+  found-fits w h = found w h .passes
+
+  -- none has it
+  pub not-found : (w : Wanted) → slots g ≤ findSlot g v u name w → (i : ℕ) → i < slots g → slotFits g v u name w i ≡ false
+  unfolding findSlot
+  not-found w h i b = low-miss (slotFits g v u name w) 0 (slots g) (omega arith) i (omega arith) (omega arith)
+
+  -- none below has it
+  pub found-first : (w : Wanted) (i : ℕ) → i < findSlot g v u name w → slotFits g v u name w i ≡ false
+  found-first w i h = go (ltb (findSlot g v u name w) (slots g)) refl
+    where
+      go : (t : Bool) → ltb (findSlot g v u name w) (slots g) ≡ t → slotFits g v u name w i ≡ false
+      go true e = found w (ltb-true _ _ e) .first i (omega arith) h
+      go false e = not-found w (ltb-false _ _ e) i (omega (arith, find-le w))
+
+  -- a slot that has it: the lowest is no higher
+  pub find-low : (w : Wanted) (i : ℕ) → slotFits g v u name w i ≡ true → findSlot g v u name w ≤ i
+  find-low w i e = go (ltb i (findSlot g v u name w)) refl
+    where
+      go : (t : Bool) → ltb i (findSlot g v u name w) ≡ t → findSlot g v u name w ≤ i
+      go true q = absurd (true≢false (sym e ∙ found-first w i (ltb-true _ _ q)))
+      go false q = ltb-false _ _ q
+
+  pub find-is : (w : Wanted) (i : ℕ) → Low (slotFits g v u name w) 0 (slots g) i → findSlot g v u name w ≡ i
+  unfolding findSlot
+  find-is w i l = low-is (slotFits g v u name w) 0 (slots g) i l
+
+  -- what has the one also has the other: where the one is found so is the other
+  pub found-other : (w x : Wanted) → ((e : Entry) → fits g u name w e ≡ true → fits g u name x e ≡ true) → findSlot g v u name w < slots g → findSlot g v u name x < slots g
+  found-other w x f h =
+      let l : findSlot g v u name x ≤ findSlot g v u name w = find-low x (findSlot g v u name w) (f (slotAt g v (findSlot g v u name w)) (found-fits w h)) in
+      omega arith
+
+  -- a file that has an entry of group k exists
+  pub group-file : (k : ℕ) → findSlot g v u name (Group k) < slots g → findSlot g v u name File < slots g
+  unfolding ofGroup
+  group-file k = found-other (Group k) File (λ e h. and-left (ofFile u name e) (eqb (groupOf g (extent e)) k) h)

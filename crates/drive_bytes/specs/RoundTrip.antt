@@ -1,0 +1,41 @@
+-- The two round trips: "Decoding what was encoded is the identity, and encoding what was decoded and not closed gives the
+-- same bytes". They are proved in `proofs/RoundTripHolds`.
+use mathlib.Core.Path.{_≡_}
+use mathlib.Core.Bool.{true}
+use mathlib.Core.List.{List}
+use Prim.Native.Nat.{ℕ, _<_, _^_}
+use lib.ListN.{length, replicate}
+use Rattle.disk_geometry.specs.Geometry.{blockBytes, blocks, directoryBlocks}
+use Rattle.lists.specs.Bytes.{byte}
+use Rattle.numbers.specs.Numbers.{Bytes}
+use Rattle.call_search.specs.declared.SearchKind.the-variants.{Nothing}
+use Rattle.filecalls.specs.declared.Drive.{Drive}
+use Rattle.call_search.specs.Search.{patternBytes}
+use Rattle.filecalls.specs.State.{noSearch, isOpen, closed}
+use Rattle.drive_bytes.specs.Layout.{driveBytes, encoded, decoded}
+
+-- what 64 bytes can carry of a state: sizes and last slot of 16 bits, twelve bytes of pattern, four words of 64 bits; and
+-- where no search is kept there is nothing beside it. Every state that a log-in or a call leaves is so (crate `churawel`).
+pub record Carried (d : Drive) : Type 0 where
+  pub block-bytes-16 : blockBytes (d .geometry) < 65536
+  pub blocks-16 : blocks (d .geometry) < 65536
+  pub directory-blocks-16 : directoryBlocks (d .geometry) < 65536
+  pub last : d .search .last < 65536
+  pub pattern : length (d .search .pattern) ≡ patternBytes
+  pub four : length (d .held) ≡ 4
+  pub words : (k : ℕ) → byte (d .held) k < 2 ^ 64
+  pub idle : d .search .kind ≡ Nothing → d .search ≡ noSearch
+
+abbrev pub DecodeEncode : Type 0
+DecodeEncode = (d : Drive) → Carried d → decoded (encoded d) ≡ d
+
+abbrev pub EncodeDecode : Type 0
+EncodeDecode = (s : List ℕ) → Bytes s → isOpen (decoded s) ≡ true → encoded (decoded s) ≡ s
+
+-- what is read from bytes and is not closed can be carried
+abbrev pub ReadCarried : Type 0
+ReadCarried = (s : List ℕ) → Bytes s → isOpen (decoded s) ≡ true → Carried (decoded s)
+
+-- "the closed value is 64 zero bytes"
+abbrev pub ClosedIsZeros : Type 0
+ClosedIsZeros = encoded closed ≡ replicate driveBytes 0

@@ -1,0 +1,97 @@
+// The drive's state laid into 64 lent bytes, each group of fields into its part.
+ghost use mathlib.Core.Path.{_≡_};
+ghost use lib.ListN.{length};
+ghost use Rattle.drive_bytes.specs.Layout.{driveBytes, headBytes, keptBytes, searchBytes, heldBytes, encoded};
+use crate::DRIVE_BYTES;
+use crate::layout::HELD_AT;
+use crate::layout::LAST_AT;
+use crate::layout::PATTERN_AT;
+use crate::layout::SEARCH_AT;
+use crate::layout::SEARCH_USER_AT;
+use crate::layout::SPARE_AT;
+use call_search::PATTERN_BYTES;
+use call_search::SearchKind;
+use disk_geometry::Geometry;
+use filecalls::Drive;
+use filecalls::KeptSearch;
+use numbers::put_eight;
+
+// Where the fields of a search stand in its own bytes.
+const USER: usize = SEARCH_USER_AT - SEARCH_AT;
+
+const LAST: usize = LAST_AT - SEARCH_AT;
+
+const LAST_HIGH: usize = LAST + 1;
+
+const PATTERN: usize = PATTERN_AT - SEARCH_AT;
+
+const PATTERN_END: usize = PATTERN + PATTERN_BYTES;
+
+// Lays B, T, D, user and protection into bytes 0 to 7.
+fn put_head(out: &mut [u8], g: Geometry, user: u8, protected: bool)
+    requires { ⌜ length (now out) ≡ 8 ⌝ }
+    ensures { λ _. ⌜ now (out .exit) ≡ headBytes g user protected ⌝ }
+{
+    let bytes = [
+        (g.block_bytes % 256) as u8,
+        (g.block_bytes / 256 % 256) as u8,
+        (g.blocks % 256) as u8,
+        (g.blocks / 256 % 256) as u8,
+        (g.directory_blocks % 256) as u8,
+        (g.directory_blocks / 256 % 256) as u8,
+        user,
+        protected as u8,
+    ];
+    lists::copy(out, &bytes);
+}
+
+// Lays a search that is kept into bytes 8 to 23.
+fn put_kept(out: &mut [u8], kind: u8, user: u8, last: usize, pattern: &[u8; PATTERN_BYTES])
+    requires { ⌜ length (now out) ≡ 16 ⌝ }
+    ensures { λ _. ⌜ now (out .exit) ≡ keptBytes kind user last (now (pattern .entry)) ⌝ }
+{
+    out[0] = kind;
+    out[USER] = user;
+    out[LAST] = (last % 256) as u8;
+    out[LAST_HIGH] = (last / 256 % 256) as u8;
+    lists::copy(&mut out[PATTERN..PATTERN_END], pattern);
+}
+
+// Lays the search into bytes 8 to 23: zeros where none is kept.
+fn put_search(out: &mut [u8], q: KeptSearch)
+    requires { ⌜ length (now out) ≡ 16 ⌝ }
+    ensures { λ _. ⌜ now (out .exit) ≡ searchBytes (q .kind) (q .user) (q .last) (q .pattern) ⌝ }
+{
+    let kind = q.kind;
+    let pattern = q.pattern;
+    match kind {
+        SearchKind::Nothing => lists::fill(out, 0),
+        SearchKind::Pattern => put_kept(out, 1, q.user, q.last, &pattern),
+        SearchKind::Everything => put_kept(out, 2, q.user, q.last, &pattern),
+    }
+}
+
+// Lays the held words into bytes 32 to 63.
+fn put_words(out: &mut [u8], held: [u64; 4])
+    requires { ⌜ length (now out) ≡ 32 ⌝ }
+    ensures { λ _. ⌜ now (out .exit) ≡ heldBytes held ⌝ }
+{
+    put_eight(&mut out[0..8], held[0]);
+    put_eight(&mut out[8..16], held[1]);
+    put_eight(&mut out[16..24], held[2]);
+    put_eight(&mut out[24..32], held[3]);
+}
+
+// Lays the state into 64 bytes.
+pub(crate) fn put_drive(out: &mut [u8], d: Drive)
+    requires { ⌜ length (now out) ≡ driveBytes ⌝ }
+    ensures { λ _. ⌜ now (out .exit) ≡ encoded d ⌝ }
+{
+    let g = d.geometry;
+    let q = d.search;
+    let held = d.held;
+    put_head(&mut out[0..SEARCH_AT], g, d.user, d.protected);
+    put_search(&mut out[SEARCH_AT..SPARE_AT], q);
+    put_eight(&mut out[SPARE_AT..HELD_AT], 0);
+    put_words(&mut out[HELD_AT..DRIVE_BYTES], held);
+}

@@ -1,2 +1,0 @@
--- Laws of bytes laid one part after the other.
-pub mod LayLaws

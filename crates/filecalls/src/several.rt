@@ -1,0 +1,152 @@
+// Several records a call: a sequential read (220) and write (221) of 1 to 16 records. Each single call is lent its own piece of
+// the buffer.
+ghost use mathlib.Core.Path.{_≡_};
+ghost use Prim.Native.Nat.{_+_, _*_, _≤_};
+ghost use lib.ListN.{length};
+ghost use Rattle.disk_geometry.specs.Geometry.{recordBytes};
+ghost use Rattle.call_answers.specs.Refusal.{firstMet};
+ghost use Rattle.call_answers.specs.declared.Answer.the-variants.{Several};
+ghost use Rattle.filecalls.specs.Outcome.{left};
+ghost use Rattle.filecalls.specs.Leaves.{readSequentialLeaves, writeSequentialLeaves};
+ghost use Rattle.filecalls.specs.Several.{severalTests, onPiece, singles, several};
+use crate::Drive;
+use crate::Reply;
+use call_answers::Answer;
+use call_answers::Refusal;
+use call_fcb::FCB_BYTES;
+use disk_geometry::Geometry;
+
+impl Drive {
+    // 32, 33, 34, then 46 for k outside 1..16, then 35 for a buffer that is not k records long.
+    fn several_why(self, volume: &[u8], fcb: &[u8], buffer: &[u8], k: u8) -> Refusal
+        ensures { λ r. ⌜
+            r ≡ firstMet (severalTests self (now (volume .entry)) (now (fcb .entry)) (now (buffer .entry)) k)
+            ⌝ }
+    {
+        if !self.is_open() {
+            return Refusal::Closed;
+        }
+        let g = self.geometry;
+        let n = lists::wide(k);
+        let a = call_answers::refuse(Refusal::VolumeLength, volume.len() != g.bytes());
+        let b = call_answers::refuse(Refusal::FcbLength, fcb.len() != FCB_BYTES);
+        let c = call_answers::refuse(Refusal::BadCount, !((1 <= n) & (n <= 16)));
+        let d = call_answers::refuse(
+            Refusal::BufferLength,
+            buffer.len() != Geometry::RECORD_BYTES * n,
+        );
+        call_answers::first_of(a, call_answers::first_of(b, call_answers::first_of(c, d)))
+    }
+
+    // n records are done, and why no more.
+    fn ended(self, n: usize, why: Refusal) -> Reply
+        ensures { λ r. ⌜ r ≡ record { answer = Several n why; drive = self } ⌝ }
+    {
+        Reply {
+            answer: Answer::Several(n, why),
+            drive: self,
+        }
+    }
+
+    // The single read into piece i: the part of the buffer is lent on to it.
+    fn read_piece(self, volume: &[u8], fcb: &mut [u8], buffer: &mut [u8], i: usize) -> Reply
+        requires { ⌜ recordBytes * i + recordBytes ≤ length (now buffer) ⌝ }
+        ensures { λ r. ⌜
+            left r (now (volume .entry)) (now (fcb .exit)) (now (buffer .exit))
+            ≡ onPiece readSequentialLeaves i self (now (volume .entry)) (now (fcb .entry)) (now (buffer .entry))
+            ⌝ }
+    {
+        let from = Geometry::RECORD_BYTES * i;
+        self.read_sequential(
+            volume,
+            fcb,
+            &mut buffer[from..from + Geometry::RECORD_BYTES],
+        )
+    }
+
+    // k single reads in order, up to the first that is refused.
+    fn read_pieces(self, volume: &[u8], fcb: &mut [u8], buffer: &mut [u8], k: usize) -> Reply
+        requires { ⌜ length (now buffer) ≡ recordBytes * k ⌝ }
+        ensures { λ r. ⌜
+            left r (now (volume .entry)) (now (fcb .exit)) (now (buffer .exit))
+            ≡ singles readSequentialLeaves 0 k self (now (volume .entry)) (now (fcb .entry)) (now (buffer .entry))
+            ⌝ }
+    {
+        let mut d = self;
+        let mut i = 0;
+        while i < k {
+            let read = d.read_piece(volume, fcb, buffer, i);
+            let answer = read.answer;
+            let next = read.drive;
+            if !call_answers::succeeded(answer) {
+                return next.ended(i, call_answers::why_of(answer));
+            }
+            d = next;
+            i += 1;
+        }
+        d.ended(i, Refusal::None)
+    }
+
+    // Function 220: reads k records at the sequential position, and moves it on.
+    pub fn read_several(self, volume: &[u8], fcb: &mut [u8], buffer: &mut [u8], k: u8) -> Reply
+        ensures { λ r. ⌜
+            left r (now (volume .entry)) (now (fcb .exit)) (now (buffer .exit))
+            ≡ several readSequentialLeaves self (now (volume .entry)) (now (fcb .entry)) (now (buffer .entry)) k
+            ⌝ }
+    {
+        let why = self.several_why(volume, fcb, buffer, k);
+        if !call_answers::is_none(why) {
+            return self.ended(0, why);
+        }
+        self.read_pieces(volume, fcb, buffer, lists::wide(k))
+    }
+
+    // The single write of piece i.
+    fn write_piece(self, volume: &mut [u8], fcb: &mut [u8], buffer: &[u8], i: usize) -> Reply
+        requires { ⌜ recordBytes * i + recordBytes ≤ length (now buffer) ⌝ }
+        ensures { λ r. ⌜
+            left r (now (volume .exit)) (now (fcb .exit)) (now (buffer .entry))
+            ≡ onPiece writeSequentialLeaves i self (now (volume .entry)) (now (fcb .entry)) (now (buffer .entry))
+            ⌝ }
+    {
+        let from = Geometry::RECORD_BYTES * i;
+        self.write_sequential(volume, fcb, &buffer[from..from + Geometry::RECORD_BYTES])
+    }
+
+    // k single writes in order, up to the first that is refused.
+    fn write_pieces(self, volume: &mut [u8], fcb: &mut [u8], buffer: &[u8], k: usize) -> Reply
+        requires { ⌜ length (now buffer) ≡ recordBytes * k ⌝ }
+        ensures { λ r. ⌜
+            left r (now (volume .exit)) (now (fcb .exit)) (now (buffer .entry))
+            ≡ singles writeSequentialLeaves 0 k self (now (volume .entry)) (now (fcb .entry)) (now (buffer .entry))
+            ⌝ }
+    {
+        let mut d = self;
+        let mut i = 0;
+        while i < k {
+            let written = d.write_piece(volume, fcb, buffer, i);
+            let answer = written.answer;
+            let after = written.drive;
+            if !call_answers::succeeded(answer) {
+                return after.ended(i, call_answers::why_of(answer));
+            }
+            d = after;
+            i += 1;
+        }
+        d.ended(i, Refusal::None)
+    }
+
+    // Function 221: writes k records at the sequential position, and moves it on.
+    pub fn write_several(self, volume: &mut [u8], fcb: &mut [u8], buffer: &[u8], k: u8) -> Reply
+        ensures { λ r. ⌜
+            left r (now (volume .exit)) (now (fcb .exit)) (now (buffer .entry))
+            ≡ several writeSequentialLeaves self (now (volume .entry)) (now (fcb .entry)) (now (buffer .entry)) k
+            ⌝ }
+    {
+        let why = self.several_why(volume, fcb, buffer, k);
+        if !call_answers::is_none(why) {
+            return self.ended(0, why);
+        }
+        self.write_pieces(volume, fcb, buffer, lists::wide(k))
+    }
+}

@@ -1,2 +1,0 @@
--- Search.
-pub mod Search

@@ -1,9 +1,0 @@
-// Search, over what is lent to it.
-pub mod search;
-
-// What kind of search is open.
-pub enum Kept {
-    Nothing,
-    Pattern,
-    Everything,
-}

@@ -1,7 +1,0 @@
--- What theorems cite: good slots, twins, accepted directories, the blocks that entries name, volumes with the same entries.
-pub mod GoodLaws
-pub mod TwinLaws
-pub mod AcceptedLaws
-pub mod NamedLaws
-pub mod SameSlots
-pub mod Examples

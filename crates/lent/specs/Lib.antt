@@ -1,2 +1,0 @@
--- What is tested before the first of several records.
-pub mod Lent

@@ -1,2 +1,0 @@
--- The call that makes a file.
-pub mod Make

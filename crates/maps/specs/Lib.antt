@@ -1,2 +1,0 @@
--- The held blocks while inspection goes on.
-pub mod HeldBelow

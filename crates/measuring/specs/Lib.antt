@@ -1,2 +1,0 @@
--- Size.
-pub mod Size

@@ -1,2 +1,0 @@
--- The call that gives a file another name.
-pub mod Rename

@@ -1,2 +1,0 @@
--- Open and close.
-pub mod Open

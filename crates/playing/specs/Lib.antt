@@ -1,4 +1,0 @@
--- What a call of the script does, and the whole transcript.
-pub mod Play
-pub mod Transcript
-pub mod Turns

@@ -1,3 +1,0 @@
--- The reads: their tests and bytes, and the plan of one.
-pub mod Read
-pub mod Plan

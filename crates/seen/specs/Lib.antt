@@ -1,2 +1,0 @@
--- The marks of the slots passed so far.
-pub mod Marks

@@ -1,2 +1,0 @@
--- Several records a call.
-pub mod Several
