@@ -25,9 +25,11 @@ use Rattle.filecalls.specs.declared.Reply.{Reply}
 use Rattle.filecalls.specs.State.{isOpen, closed, loggedIn}
 use Rattle.filecalls.specs.LogIn.{logInTests, refusedLogIn, logIn}
 use Rattle.filecalls.proofs.LogInLaws.{refused-fails}
+use Rattle.filecalls.specs.Outcome.{keeps, takes, frees, protects, becomes, searches, Act, deny, done, changedState, outcome}
 use Rattle.filecalls.proofs.OutcomeLaws.{sameAll, outcome-refused}
 use Rattle.filecalls.specs.Leaves.{readSequentialLeaves, writeSequentialLeaves}
-use Rattle.filecalls.proofs.SeveralLaws.{leaves-all, read-refuses, write-refuses}
+use Rattle.filecalls.specs.Several.{Single, onPiece, several}
+use Rattle.filecalls.proofs.SeveralLaws.{several-keeps, leaves-all, read-refuses, write-refuses}
 use Rattle.call_served.specs.declared.Call.{Call}
 use Rattle.call_served.specs.declared.Call.the-variants.{LogIn, Open, Close, SearchFirst, SearchNext, Delete, Make, Rename, Protect, Attributes, User, Size, SetRandom, Moves, Unserved}
 use Rattle.call_served.specs.declared.Transfer.the-variants.{ReadSequential, WriteSequential, ReadRandom, WriteRandom, WriteZeroFill, ReadSeveral, WriteSeveral}
@@ -38,7 +40,7 @@ use Rattle.drive_bytes.specs.Layout.{encoded, decoded}
 use Rattle.drive_bytes.specs.RoundTrip.{Carried}
 use Rattle.drive_bytes.proofs.RoundTripHolds.{decode-encode, encode-decode, read-carried, closed-is-zeros}
 use Rattle.churawel.specs.Seam.{answered, sealed, through, atSeam, logInAtSeam}
-use Rattle.churawel.specs.Faithful.{LogInCarried, LogInOpens, CallCarried, CallStaysOpen, LogInFaithful, CallFaithful, RefusedLeavesAll, RefusedLogInCloses, RefusedResetCloses}
+use Rattle.churawel.specs.Faithful.{LogInCarried, LogInOpens, CallCarried, CallStaysOpen, LogInGeometry, CallGeometry, LogInFaithful, CallFaithful, RefusedLeavesAll, RefusedLogInCloses, RefusedResetCloses}
 use Rattle.churawel.proofs.LastingLaws.{Lasts, denied, outcome-lasts}
 use Rattle.churawel.proofs.CallsLast.{open-lasting, close-lasting, size-lasting, first-lasting, next-lasting, delete-lasting, make-lasting, rename-lasting, attributes-lasting, read-sequential-lasting, read-random-lasting, write-sequential-lasting, write-random-lasting, write-zero-fill-lasting, protect-lasting, user-lasting, set-random-lasting, read-several-lasts, write-several-lasts}
 
@@ -126,12 +128,12 @@ module _ (g : Geometry) (p : ℕ) (small : p < 256) (d : Drive) (l : Lasts d) (v
   call-lasts (Moves WriteSeveral) = inr (write-several-lasts d v f b p l)
   call-lasts Unserved = inr (outcome-lasts d v f b _ l denied)
 
-step-lasts : (d : Drive) → Carried d → isOpen d ≡ true → (c : Asked) → c .parameter < 256 → (v : List ℕ)
+pub step-lasts : (d : Drive) → Carried d → isOpen d ≡ true → (c : Asked) → c .parameter < 256 → (v : List ℕ)
     → (callOf (c .function) ≡ LogIn) ⊎ Lasts (step (d .geometry) c d v .drive)
 unfolding step
 step-lasts d k o c small v = call-lasts (d .geometry) (c .parameter) small d (record { carried = k; opens = o }) v (c .fcb) (c .buffer) (callOf (c .function))
 
-step-log-in : (g : Geometry) (c : Asked) (d : Drive) (v : List ℕ) → callOf (c .function) ≡ LogIn → step g c d v .drive ≡ logIn g v .drive
+pub step-log-in : (g : Geometry) (c : Asked) (d : Drive) (v : List ℕ) → callOf (c .function) ≡ LogIn → step g c d v .drive ≡ logIn g v .drive
 unfolding step does carries
 step-log-in g c d v e = rw e
 
@@ -141,6 +143,62 @@ call-carried d k o c small v =
 
 pub call-stays-open : CallStaysOpen
 call-stays-open d k o c small v n = ⊎-elim (λ e. absurd (n e)) (λ l. l .opens) (step-lasts d k o c small v)
+
+-- ---- the geometry
+pub log-in-geometry : LogInGeometry
+unfolding isOpen lawful
+log-in-geometry g v o = go (isNone (firstMet (logInTests g v))) refl
+  where
+    go : (t : Bool) → isNone (firstMet (logInTests g v)) ≡ t → logIn g v .drive .geometry ≡ g
+    go true h = ap (λ (r : Reply). r .drive .geometry) (taken g v h)
+    go false h = absurd (false≢true (ap (λ (r : Reply). isOpen (r .drive)) (sym (turned-away g v h)) ∙ o))
+
+-- no change of a state alters it, so no act does
+outcome-geometry : (d : Drive) (v f b : List ℕ) (act : Act) → outcome d v f b act .drive .geometry ≡ d .geometry
+unfolding outcome changedState
+outcome-geometry d v f b (deny why) = refl
+outcome-geometry d v f b (done code keeps stores f′ b′) = refl
+outcome-geometry d v f b (done code (takes x) stores f′ b′) = refl
+outcome-geometry d v f b (done code (frees u pattern) stores f′ b′) = refl
+outcome-geometry d v f b (done code protects stores f′ b′) = refl
+outcome-geometry d v f b (done code (becomes u) stores f′ b′) = refl
+outcome-geometry d v f b (done code (searches q) stores f′ b′) = refl
+
+several-geometry : (single : Single) → ((d : Drive) (v f b : List ℕ) → single d v f b .drive .geometry ≡ d .geometry)
+    → (d : Drive) (v f b : List ℕ) (k : ℕ) → several single d v f b k .drive .geometry ≡ d .geometry
+unfolding onPiece
+several-geometry single one d v f b k = several-keeps single (λ x w h c. x .geometry ≡ d .geometry) (λ i x w h c e. one x w h _ ∙ e) d v f b k refl
+
+module _ (d : Drive) (p : ℕ) (v f b : List ℕ) where
+  call-geometry-of : (call : Call) → (call ≡ LogIn) ⊎ (does (d .geometry) call p d v f b .drive .geometry ≡ d .geometry)
+  unfolding does carries
+  call-geometry-of LogIn = inl refl
+  call-geometry-of Open = inr (outcome-geometry d v f [] _)
+  call-geometry-of Close = inr (outcome-geometry d v f [] _)
+  call-geometry-of SearchFirst = inr (outcome-geometry d v f b _)
+  call-geometry-of SearchNext = inr (outcome-geometry d v [] b _)
+  call-geometry-of Delete = inr (outcome-geometry d v f [] _)
+  call-geometry-of (Moves ReadSequential) = inr (outcome-geometry d v f b _)
+  call-geometry-of (Moves WriteSequential) = inr (outcome-geometry d v f b _)
+  call-geometry-of Make = inr (outcome-geometry d v f [] _)
+  call-geometry-of Rename = inr (outcome-geometry d v f [] _)
+  call-geometry-of Protect = inr (outcome-geometry d [] [] [] _)
+  call-geometry-of Attributes = inr (outcome-geometry d v f [] _)
+  call-geometry-of User = inr (outcome-geometry d [] [] [] _)
+  call-geometry-of (Moves ReadRandom) = inr (outcome-geometry d v f b _)
+  call-geometry-of (Moves WriteRandom) = inr (outcome-geometry d v f b _)
+  call-geometry-of Size = inr (outcome-geometry d v f [] _)
+  call-geometry-of SetRandom = inr (outcome-geometry d [] f [] _)
+  call-geometry-of (Moves WriteZeroFill) = inr (outcome-geometry d v f b _)
+  call-geometry-of (Moves ReadSeveral) = inr (several-geometry readSequentialLeaves (λ x w h c. outcome-geometry x w h c _) d v f b p)
+  call-geometry-of (Moves WriteSeveral) = inr (several-geometry writeSequentialLeaves (λ x w h c. outcome-geometry x w h c _) d v f b p)
+  call-geometry-of Unserved = inr (outcome-geometry d v f b _)
+
+pub call-geometry : CallGeometry
+unfolding step
+call-geometry d c v o =
+    ⊎-elim (λ e. let same = step-log-in (d .geometry) c d v e in ap (λ (x : Drive). x .geometry) same ∙ log-in-geometry (d .geometry) v (ap isOpen (sym same) ∙ o)) (λ e. e)
+    (call-geometry-of d (c .parameter) v (c .fcb) (c .buffer) (callOf (c .function)))
 
 -- ---- what is read back is what was returned
 pub log-in-faithful : LogInFaithful

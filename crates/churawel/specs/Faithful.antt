@@ -38,6 +38,14 @@ CallStaysOpen =
     (d : Drive) → Carried d → isOpen d ≡ true → (c : Asked) → c .parameter < 256 → (v : List ℕ)
     → (callOf (c .function) ≡ LogIn → ⊥) → isOpen (step (d .geometry) c d v .drive) ≡ true
 
+-- and while it is open its geometry is that of the log-in
+abbrev pub LogInGeometry : Type 0
+LogInGeometry = (g : Geometry) (v : List ℕ) → isOpen (logIn g v .drive) ≡ true → logIn g v .drive .geometry ≡ g
+
+abbrev pub CallGeometry : Type 0
+CallGeometry =
+    (d : Drive) (c : Asked) (v : List ℕ) → isOpen (step (d .geometry) c d v .drive) ≡ true → step (d .geometry) c d v .drive .geometry ≡ d .geometry
+
 -- so the drive's bytes are read back as the state that was returned
 abbrev pub LogInFaithful : Type 0
 LogInFaithful =

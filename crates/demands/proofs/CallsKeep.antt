@@ -35,7 +35,8 @@ use Rattle.call_served.specs.declared.Call.the-variants.{LogIn, Open, Close, Se
 use Rattle.call_served.specs.declared.Transfer.the-variants.{ReadSequential, WriteSequential, ReadRandom, WriteRandom, WriteZeroFill, ReadSeveral, WriteSeveral}
 use Rattle.bdos.specs.Step.{keepsBuffer, keepsFcb, keepsVolume}
 use Rattle.bdos.specs.Step as door
-use Rattle.demands.specs.Demand3.{Bytes, namesFile}
+use Rattle.numbers.specs.Numbers.{Bytes}
+use Rattle.demands.specs.Demand3.{namesFile}
 use Rattle.demands.proofs.Orderly.{Orderly}
 use Rattle.demands.proofs.Inspected.{sound-accepted, held-of}
 use Rattle.demands.proofs.Acts.{Consistent, Keeps, denied, does, keeps-unless, still, still-search, StepKeeps, outcome-keeps, leaves-all}

@@ -41,7 +41,7 @@ use Rattle.call_served.specs.declared.Transfer.the-variants.{ReadSequential, Wr
 use Rattle.bdos.specs.Step.{carries, does, step}
 use Rattle.call_served.specs.Asked.{Asked}
 use Rattle.demands.specs.Order.{paperTable, numbersOf, reasons, inOrder, testsOf, refusalsOf, among, answersOf}
-use Rattle.demands.specs.Demand1.{call, tests, answer, Leaves, Demand1}
+use Rattle.demands.specs.Demand1.{call, tests, Leaves, Demand1}
 use Rattle.demands.proofs.Says.{Says, was-met, was-none, number-among}
 use Rattle.demands.proofs.SeveralSays.{read-says, write-says}
 
@@ -231,12 +231,12 @@ in-table-order (Moves WriteSeveral) n = refl
 in-table-order Unserved n = absurd (n refl)
 
 -- ---- all together
-pub step-says : (g : Geometry) (c : Asked) (d : Drive) (v : List ℕ) → Says (answer g c d v) (tests g c d v) (answersOf (call c))
+pub step-says : (g : Geometry) (c : Asked) (d : Drive) (v : List ℕ) → Says (step g c d v .answer) (tests g c d v) (answersOf (call c))
 unfolding step
 step-says g c d v = call-says g (c .parameter) d v (c .fcb) (c .buffer) (call c)
 
-refusal-among : (g : Geometry) (c : Asked) (d : Drive) (v : List ℕ) → succeeded (answer g c d v) ≡ false
-    → among (numberOf (answer g c d v)) (numbersOf (refusalsOf (call c))) ≡ true
+refusal-among : (g : Geometry) (c : Asked) (d : Drive) (v : List ℕ) → succeeded (step g c d v .answer) ≡ false
+    → among (numberOf (step g c d v .answer)) (numbersOf (refusalsOf (call c))) ≡ true
 refusal-among g c d v h =
     let s = step-says g c d v in
     let m = was-met s h in

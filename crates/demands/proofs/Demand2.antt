@@ -45,7 +45,7 @@ use Rattle.call_served.specs.declared.Call.the-variants.{LogIn}
 use Rattle.bdos.specs.Step.{does, step}
 use Rattle.call_served.specs.Asked.{Asked}
 use Rattle.demands.specs.Order.{testsOf, answersOf}
-use Rattle.demands.specs.Demand1.{call, tests, answer}
+use Rattle.demands.specs.Demand1.{call, tests}
 use Rattle.demands.specs.Demand2.{Writes, sequential, direct, zero-filling, Reads, earlier, NoneFree, Sound, Present, Same, Demand2}
 use Rattle.demands.proofs.Says.{was-none}
 use Rattle.demands.proofs.Demand1.{log-in-says, step-says}
@@ -114,7 +114,7 @@ module _ (g : Geometry) (c : Asked) (d : Drive) (v : List ℕ) (n : ℕ) (r : Li
   decides : firstMet (tests g c d v) ≡ firstMet (test NoBlock (noneLeft d v (c .fcb) n) ∷ [])
   decides = last-decides g (c .parameter) d v (c .fcb) (c .buffer) w e
 
-  two-none : numberOf (answer g c d v) ≡ 2 → NoneFree d
+  two-none : numberOf (step g c d v .answer) ≡ 2 → NoneFree d
   two-none two = go (noneLeft d v (c .fcb) n) refl
     where
       go : (m : Bool) → noneLeft d v (c .fcb) n ≡ m → NoneFree d
@@ -126,7 +126,7 @@ module _ (g : Geometry) (c : Asked) (d : Drive) (v : List ℕ) (n : ℕ) (r : Li
           let l = step-says g c d v .none (ap isNone decides ∙ last-none _ q) .1 in
           absurd (omega (arith, one-code g (c .parameter) d v (c .fcb) (c .buffer) w _ l))
 
-  none-two : NoneFree d → numberOf (answer g c d v) ≡ 2
+  none-two : NoneFree d → numberOf (step g c d v .answer) ≡ 2
   none-two h =
       let a = none-alloc (d .geometry) (d .held) (baseEntry (d .geometry) v (d .user) (nameOf (c .fcb)) n) (placeOf (d .geometry) n) good h in
       let q : noneLeft d v (c .fcb) n ≡ true = rw (needs, le-leb (d .geometry .blocks) given (omega arith)) in
@@ -220,16 +220,16 @@ module _ (g : Geometry) (c : Asked) (d : Drive) (v : List ℕ) (e : call c ≡ L
   unfolding step
   door = at-door g (call c) (c .parameter) d v (c .fcb) (c .buffer) e
 
-  answer-is : answer g c d v ≡ logIn g v .answer
+  answer-is : step g c d v .answer ≡ logIn g v .answer
   answer-is = ap (λ (o : Outcome). o .answer) door
 
   state-is : step g c d v .drive ≡ logIn g v .drive
   state-is = ap (λ (o : Outcome). o .drive) door
 
-  log-in-accepts : lawful g ≡ true → length v ≡ bytes g → ((i : ℕ) → i < slots g → goodSlot g v i ≡ true) → succeeded (answer g c d v) ≡ true
+  log-in-accepts : lawful g ≡ true → length v ≡ bytes g → ((i : ℕ) → i < slots g → goodSlot g v i ≡ true) → succeeded (step g c d v .answer) ≡ true
   log-in-accepts l s h = ap succeeded answer-is ∙ log-in-says g v .none (passes-tests g v l s (accepts g v h)) .0
 
-  module _ (h : succeeded (answer g c d v) ≡ true) where
+  module _ (h : succeeded (step g c d v .answer) ≡ true) where
     facts : Accepted g v
     facts = accepted-log-in g v (sym (ap succeeded answer-is) ∙ h)
 
@@ -239,7 +239,7 @@ module _ (g : Geometry) (c : Asked) (d : Drive) (v : List ℕ) (e : call c ≡ L
     log-in-sound : Sound (step g c d v .drive) (step g c d v .volume)
     log-in-sound = rw (door, facts .state) (logged-in-sound g v facts)
 
-    log-in-count : valueOf (answer g c d v) ≡ countFrom (λ b. not (namedBelow g v (slots g) b)) (g .«directory_blocks») (g .blocks - g .«directory_blocks»)
+    log-in-count : valueOf (step g c d v .answer) ≡ countFrom (λ b. not (namedBelow g v (slots g) b)) (g .«directory_blocks») (g .blocks - g .«directory_blocks»)
     log-in-count = ap valueOf answer-is ∙ facts .count ∙ free-named g v (facts .law)
 
     held-words : step g c d v .drive .held ≡ heldOf g v
@@ -256,7 +256,7 @@ apart : (d : Drive) (v : List ℕ) → Sound d v → Apart (d .geometry) (d .hel
 apart d v s = inspected (d .geometry) (d .held) v (s .words) (s .inspected) (s .holds-named)
 
 module _ (g : Geometry) (c : Asked) (d : Drive) (v : List ℕ) (n : ℕ) (r : List ℕ) (w : Writes (c .fcb) (c .buffer) (call c) n r)
-    (h : succeeded (answer g c d v) ≡ true) where
+    (h : succeeded (step g c d v .answer) ≡ true) where
   write-stores : Present d (c .fcb) (step g c d v .volume) n r
   unfolding step
   write-stores = stores g (c .parameter) d v (c .fcb) (c .buffer) w (was-none (step-says g c d v) h)
@@ -269,11 +269,11 @@ module _ (g : Geometry) (c : Asked) (d : Drive) (v : List ℕ) (n : ℕ) (r : Li
 
 -- ---- the reads
 module _ (g : Geometry) (c : Asked) (d : Drive) (v : List ℕ) (n : ℕ) (ts : List Test) (w : Reads d v (c .fcb) (c .buffer) (call c) n ts) where
-  read-shows : succeeded (answer g c d v) ≡ true → Present d (c .fcb) v n (step g c d v .buffer)
+  read-shows : succeeded (step g c d v .answer) ≡ true → Present d (c .fcb) v n (step g c d v .buffer)
   unfolding step
   read-shows h = shows g (c .parameter) d v (c .fcb) (c .buffer) w (was-none (step-says g c d v) h)
 
-  present-read : isNone (firstMet ts) ≡ true → Sound d v → (r : List ℕ) → Present d (c .fcb) v n r → succeeded (answer g c d v) ≡ true
+  present-read : isNone (firstMet ts) ≡ true → Sound d v → (r : List ℕ) → Present d (c .fcb) v n r → succeeded (step g c d v .answer) ≡ true
   present-read e s r h = step-says g c d v .none (reads-present g (c .parameter) d v (c .fcb) (c .buffer) w e (apart d v s) (h .is-present)) .0
 
 -- ---- all together

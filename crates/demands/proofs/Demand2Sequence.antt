@@ -25,7 +25,7 @@ use Rattle.bdos.specs.Step.{carries, does, step}
 use Rattle.call_served.specs.Asked.{asked}
 use Rattle.call_served.specs.Calls.{callOf}
 use Rattle.demands.specs.Order.{testsOf}
-use Rattle.demands.specs.Demand2.{sequential, Present, allWritten, volumeAtEnd}
+use Rattle.demands.specs.Demand2.{sequential, Present, allWrittenBy, volumeBy}
 use Rattle.demands.proofs.Says.{was-none}
 use Rattle.demands.proofs.Demand1.{call-says}
 use Rattle.demands.proofs.Demand2Apart.{Apart}
@@ -75,13 +75,13 @@ module _ (g : Geometry) (p : ℕ) (d : Drive) (v f r : List ℕ) where
 -- ---- all of them
 module _ (g : Geometry) (p : ℕ) where
   -- a record below the position stays
-  below-stays : (rs : List (List ℕ)) (d : Drive) (v f : List ℕ) → Apart (d .geometry) (d .held) v → allWritten g p rs d v f ≡ true
+  below-stays : (rs : List (List ℕ)) (d : Drive) (v f : List ℕ) → Apart (d .geometry) (d .held) v → allWrittenBy (step g) p rs d v f ≡ true
       → (m : ℕ) → m < position f → present (d .geometry) v (d .user) (nameOf f) m ≡ true
-      → Stays (d .geometry) v (volumeAtEnd g p rs d v f) (d .user) (nameOf f) m
+      → Stays (d .geometry) v (volumeBy (step g) p rs d v f) (d .user) (nameOf f) m
   below-stays [] d v f a h m l q = record { still-present = q; same-bytes = refl }
   below-stays (r ∷ rs) d v f a h m l q =
       let o = step g (asked 21 p f r) d v in
-      let both = and-parts (succeeded (o .answer)) (allWritten g p rs (o .drive) (o .volume) (o .fcb)) h in
+      let both = and-parts (succeeded (o .answer)) (allWrittenBy (step g) p rs (o .drive) (o .volume) (o .fcb)) h in
       let x = next g p d v f r (both .0) in
       let s = x .others-stay a m (omega arith) q in
       let t = below-stays rs (o .drive) (o .volume) (o .fcb) (rw (x .geometry-is) (x .apart a)) (both .1) m (omega (arith, x .position-is))
@@ -89,12 +89,12 @@ module _ (g : Geometry) (p : ℕ) where
       let u = rw (x .geometry-is, x .user-is, x .name-is) at t in
       record { still-present = u .still-present; same-bytes = u .same-bytes ∙ s .same-bytes }
 
-  pub sequence : (rs : List (List ℕ)) (d : Drive) (v f : List ℕ) → Apart (d .geometry) (d .held) v → allWritten g p rs d v f ≡ true
-      → (j : ℕ) → j < length rs → Present d f (volumeAtEnd g p rs d v f) (position f + j) (getD rs j [])
+  pub sequence : (rs : List (List ℕ)) (d : Drive) (v f : List ℕ) → Apart (d .geometry) (d .held) v → allWrittenBy (step g) p rs d v f ≡ true
+      → (j : ℕ) → j < length rs → Present d f (volumeBy (step g) p rs d v f) (position f + j) (getD rs j [])
   sequence [] d v f a h j l = absurd (omega arith)
   sequence (r ∷ rs) d v f a h zero l =
       let o = step g (asked 21 p f r) d v in
-      let both = and-parts (succeeded (o .answer)) (allWritten g p rs (o .drive) (o .volume) (o .fcb)) h in
+      let both = and-parts (succeeded (o .answer)) (allWrittenBy (step g) p rs (o .drive) (o .volume) (o .fcb)) h in
       let x = next g p d v f r (both .0) in
       let t = below-stays rs (o .drive) (o .volume) (o .fcb) (rw (x .geometry-is) (x .apart a)) (both .1) (position f) (omega (arith, x .position-is))
       (rw (x .geometry-is, x .user-is, x .name-is) (x .written .is-present)) in
@@ -103,7 +103,7 @@ module _ (g : Geometry) (p : ℕ) where
       rw z (record { is-present = u .still-present; has-bytes = u .same-bytes ∙ x .written .has-bytes })
   sequence (r ∷ rs) d v f a h (suc j) l =
       let o = step g (asked 21 p f r) d v in
-      let both = and-parts (succeeded (o .answer)) (allWritten g p rs (o .drive) (o .volume) (o .fcb)) h in
+      let both = and-parts (succeeded (o .answer)) (allWrittenBy (step g) p rs (o .drive) (o .volume) (o .fcb)) h in
       let x = next g p d v f r (both .0) in
       let t = sequence rs (o .drive) (o .volume) (o .fcb) (rw (x .geometry-is) (x .apart a)) (both .1) j (omega arith) in
       let z : position f + suc j ≡ position (o .fcb) + j = omega (arith, x .position-is) in

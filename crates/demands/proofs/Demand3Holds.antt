@@ -21,8 +21,9 @@ use Rattle.call_served.specs.declared.Call.the-variants.{LogIn}
 use Rattle.bdos.specs.Step.{does, step}
 use Rattle.call_served.specs.Asked.{Asked}
 use Rattle.call_served.specs.Calls.{callOf}
-use Rattle.demands.specs.Run.{Seen, seen, answers, final, plainStep}
-use Rattle.demands.specs.Demand3.{Bytes, BytesLent, touches, touched, Kept, Demand3, NoBlockTwice}
+use Rattle.demands.specs.Run.{Seen, seen, answers, final, plain}
+use Rattle.numbers.specs.Numbers.{Bytes}
+use Rattle.demands.specs.Demand3.{BytesLent, touches, touched, Kept, Demand3, AcceptsAgain, NoBlockTwice}
 use Rattle.demands.proofs.Inspected.{accepted-sound, sound-accepted, held-of}
 use Rattle.demands.proofs.Acts.{Consistent, Leaves, StepKeeps}
 use Rattle.demands.proofs.Alike.{Alike}
@@ -35,8 +36,8 @@ pub step-keeps : (g : Geometry) (c : Asked) (d : Drive) (v : List ℕ) → d .ge
 unfolding step touches
 step-keeps g c d v same k small = does-keeps g (c .parameter) d v (c .fcb) (c .buffer) same k small (callOf (c .function))
 
-plain-alike : (g : Geometry) (c : Asked) (d : Drive) (k v : List ℕ) → Consistent d v → Alike (step g c d v) (plainStep g c (withHeld d k) v)
-unfolding step plainStep
+plain-alike : (g : Geometry) (c : Asked) (d : Drive) (k v : List ℕ) → Consistent d v → Alike (step g c d v) (plain (step g) c (withHeld d k) v)
+unfolding step plain
 plain-alike g c d k v s =
     does-alike d (heldOf (d .geometry) v) v (c .fcb) (c .buffer) s
     (record { law = s .law; size = s .size; sound = s .sound; held = held-of (d .geometry) v (s .law) })
@@ -46,11 +47,13 @@ seen-alike : {o p : Outcome} → Alike o p → seen o ≡ seen p
 seen-alike a = λ i. record { answer = a .answer i; fcb = a .fcb i; buffer = a .buffer i }
 
 -- ---- a run from a consistent state; the plain way's state differs at most in what it holds
-runs : (g : Geometry) (cs : List Asked) (d : Drive) (k v : List ℕ) → d .geometry ≡ g → Consistent d v → BytesLent cs → Kept g v cs d (withHeld d k)
+runs : (g : Geometry) (cs : List Asked) (d : Drive) (k v : List ℕ) → d .geometry ≡ g → Consistent d v → BytesLent cs
+    → Kept (step g) g v cs (withHeld d k) (answers (step g) cs d v) (final (step g) cs d v) (touched (step g) cs d v)
 unfolding answers final touched
 runs g [] d k v same s small = record {
   answers-same = refl;
   volume-same = refl;
+  length-kept = refl;
   inspected = rw (← same) (sound-accepted (d .geometry) v (s .sound));
   others-present = λ u name u15 h n. refl;
   others-bytes = λ u name u15 h n there. refl;
@@ -60,15 +63,16 @@ runs g (c ∷ cs) d k v same s small =
     let alike = plain-alike g c d k v s in
     let d′ = step g c d v .drive in
     let v′ = step g c d v .volume in
-    let k′ = plainStep g c (withHeld d k) v .drive .held in
+    let k′ = plain (step g) c (withHeld d k) v .drive .held in
     let rest = runs g cs d′ k′ v′ (keeps .geometry ∙ same) (keeps .consistent) (small .1) in
-    let here : (u : ℕ) (name : List ℕ) → u ≤ 15 → ((succeeded (step g c d v .answer) && touches c d u name) || touched g cs d′ v′ u name) ≡ false → Leaves g v v′ u name
-    = λ u name u15 h. subst (λ (x : Geometry). Leaves x v v′ u name) same (keeps .others u name u15 (or-false (succeeded (step g c d v .answer) && touches c d u name) (touched g cs d′ v′ u name) h .0)) in
-    let later : (u : ℕ) (name : List ℕ) → ((succeeded (step g c d v .answer) && touches c d u name) || touched g cs d′ v′ u name) ≡ false → touched g cs d′ v′ u name ≡ false
-    = λ u name h. or-false (succeeded (step g c d v .answer) && touches c d u name) (touched g cs d′ v′ u name) h .1 in
+    let here : (u : ℕ) (name : List ℕ) → u ≤ 15 → ((succeeded (step g c d v .answer) && touches c d u name) || touched (step g) cs d′ v′ u name) ≡ false → Leaves g v v′ u name
+    = λ u name u15 h. subst (λ (x : Geometry). Leaves x v v′ u name) same (keeps .others u name u15 (or-false (succeeded (step g c d v .answer) && touches c d u name) (touched (step g) cs d′ v′ u name) h .0)) in
+    let later : (u : ℕ) (name : List ℕ) → ((succeeded (step g c d v .answer) && touches c d u name) || touched (step g) cs d′ v′ u name) ≡ false → touched (step g) cs d′ v′ u name ≡ false
+    = λ u name h. or-false (succeeded (step g c d v .answer) && touches c d u name) (touched (step g) cs d′ v′ u name) h .1 in
     record {
-      answers-same = ap₂ {C = List Seen} (λ a l. a ∷ l) (seen-alike alike) (rest .answers-same ∙ ap₂ (answers (plainStep g) cs) (sym (alike .drive)) (alike .volume));
-      volume-same = rest .volume-same ∙ ap₂ (final (plainStep g) cs) (sym (alike .drive)) (alike .volume);
+      answers-same = ap₂ {C = List Seen} (λ a l. a ∷ l) (seen-alike alike) (rest .answers-same ∙ ap₂ (answers (plain (step g)) cs) (sym (alike .drive)) (alike .volume));
+      volume-same = rest .volume-same ∙ ap₂ (final (plain (step g)) cs) (sym (alike .drive)) (alike .volume);
+      length-kept = rest .length-kept ∙ keeps .consistent .size ∙ ap bytes (keeps .geometry) ∙ sym (s .size);
       inspected = rest .inspected;
       others-present = λ u name u15 h n. rest .others-present u name u15 (later u name h) n ∙ here u name u15 h .presence n;
       others-bytes = λ u name u15 h n there.
@@ -92,8 +96,8 @@ module _ (g : Geometry) (law : lawful g ≡ true) (v : List ℕ) (size : length 
   unfolding step does
   starts d = rw (first, log-in-is g law v size (accepted-sound g v ok))
 
-  starts-plain : (e : Drive) → plainStep g login e v ≡ ready
-  unfolding plainStep
+  starts-plain : (e : Drive) → plain (step g) login e v ≡ ready
+  unfolding plain
   starts-plain e = starts (withHeld e (heldOf (e .geometry) v))
 
 -- any list of calls that begins with log-in
@@ -105,16 +109,23 @@ demand3 g law v size ok login first cs small d e =
     let s = logged-in g law v size (accepted-sound g v ok) in
     let r = runs g cs (loggedIn g (heldOf g v)) (heldOf g v) v refl s small in
     let rest : (u : ℕ) (name : List ℕ)
-    → ((succeeded (step g login d v .answer) && touches login d u name) || touched g cs (step g login d v .drive) (step g login d v .volume) u name) ≡ false
-    → touched g cs (loggedIn g (heldOf g v)) v u name ≡ false
-    = λ u name h. (rw a at (or-false (succeeded (step g login d v .answer) && touches login d u name) (touched g cs (step g login d v .drive) (step g login d v .volume) u name) h .1)) in
+    → ((succeeded (step g login d v .answer) && touches login d u name) || touched (step g) cs (step g login d v .drive) (step g login d v .volume) u name) ≡ false
+    → touched (step g) cs (loggedIn g (heldOf g v)) v u name ≡ false
+    = λ u name h. (rw a at (or-false (succeeded (step g login d v .answer) && touches login d u name) (touched (step g) cs (step g login d v .drive) (step g login d v .volume) u name) h .1)) in
     record {
       answers-same = rw (a, b) (ap {B = List Seen} (λ l. seen (ready g law v size ok login first) ∷ l) (r .answers-same));
       volume-same = rw (a, b) (r .volume-same);
+      length-kept = rw a (r .length-kept);
       inspected = rw a (r .inspected);
       others-present = λ u name u15 h n. rw a (r .others-present u name u15 (rest u name h) n);
       others-bytes = λ u name u15 h n there. rw a (r .others-bytes u name u15 (rest u name h) n there);
     }
+
+-- the volume has its length and passes inspection, so a further log-in accepts
+pub accepts-again : AcceptsAgain
+accepts-again g law v size ok login first cs small d again last e =
+    let kept = demand3 g law v size ok login first cs small d d in
+    ap (λ (o : Outcome). o .answer) (starts g law _ (kept .length-kept ∙ size) (kept .inspected) again last e)
 
 -- no block belongs to two entries: the list is any, so this is so after each of its calls
 pub no-block-twice : NoBlockTwice

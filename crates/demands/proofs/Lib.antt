@@ -32,6 +32,9 @@ pub mod Agree
 pub mod Demand3Holds
 pub mod AlwaysHolds
 pub mod TieHolds
+pub mod NumberTells
+pub mod AtSeamHolds
+pub mod CallsAtSeamHold
 pub mod SeveralHolds
 pub mod RenamingParts
 pub mod RenamingSweeps
@@ -40,3 +43,4 @@ pub mod RenamingCalls
 pub mod RenamingTwice
 pub mod RenamingHolds
 pub mod ZeroFillHolds
+pub mod WrongWaysFail

@@ -4,7 +4,8 @@ use mathlib.Core.List.{List, [], _∷_}
 use Rattle.filecalls.specs.Outcome.{Outcome}
 use Rattle.bdos.specs.Step.{step}
 use Rattle.demands.specs.Run.{Seen, seen, answers, final}
-use Rattle.demands.specs.Tie.{ended, called, Tie}
+use Rattle.demands.specs.Tie.{ended, called, Tie, TiedKept}
+use Rattle.demands.proofs.Demand3Holds.{demand3}
 
 pub tie : Tie
 unfolding answers final
@@ -17,3 +18,8 @@ tie g (c ∷ cs) d v (x ∷ ss) w (called r v′ f′ b′ e rest) =
       answers-are = ap (λ (y : Seen). y ∷ ss) (ap seen e) ∙ ap (λ (l : List Seen). seen (step g c d v) ∷ l) (i .answers-are ∙ rw (s, u));
       volume-is = i .volume-is ∙ rw (s, u);
     }
+
+pub tied-kept : TiedKept
+tied-kept g law v size ok login first cs small d e ss w ran =
+    let is = tie g (login ∷ cs) d v ss w ran in
+    rw (is .answers-are, is .volume-is) (demand3 g law v size ok login first cs small d e)

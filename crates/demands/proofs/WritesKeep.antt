@@ -21,7 +21,7 @@ use Rattle.filecalls.specs.Write.{writeEntry, writeChange, writeDone, directory
 use Rattle.filecalls.proofs.LentLaws.{sequential-lent, random-lent, sequential-passed, random-passed}
 use Rattle.filecalls.proofs.StateLaws.{both-clear}
 use Rattle.filecalls.proofs.WriteLaws.{taken}
-use Rattle.demands.specs.Demand3.{Bytes}
+use Rattle.numbers.specs.Numbers.{Bytes}
 use Rattle.demands.proofs.Acts.{Consistent, Keeps, does, keeps-unless, leaves-apart}
 use Rattle.demands.proofs.WriteKeeps.{write-size, write-sound, write-held, write-apart}
 

@@ -16,16 +16,18 @@ use mathlib.Core.List.{List, [], _∷_}
 use Prim.Native.Nat.{ℕ, _≤_, _<_}
 use lib.Dec.{eqb}
 use lib.ListN.{length}
-use Rattle.lists.specs.Bytes.{byte}
 use Rattle.disk_geometry.specs.declared.Geometry.{Geometry}
-use Rattle.disk_geometry.specs.Geometry.{lawful, bytes, slots, places}
+use Rattle.disk_geometry.specs.Geometry.{lawful, bytes, slots, places, blocks, directoryBlocks}
 use Rattle.disk_volume.specs.Name.{nameOf, same, like}
 use Rattle.disk_volume.specs.Entry.{isEmpty, blockIn}
 use Rattle.disk_volume.specs.Directory.{slotAt}
 use Rattle.disk_volume.specs.Record.{present}
 use Rattle.call_fcb.specs.Fcb.{newName}
+use Rattle.call_answers.specs.declared.Answer.the-variants.{Ready}
 use Rattle.call_answers.specs.Answer.{succeeded}
+use Rattle.disk_held.specs.Held.{freeCount}
 use Rattle.disk_rules.specs.GoodSlot.{lowestBad}
+use Rattle.disk_rules.specs.Named.{heldOf}
 use Rattle.call_read.specs.Read.{readBytes}
 use Rattle.filecalls.specs.declared.Drive.{Drive}
 use Rattle.call_served.specs.declared.Call.{Call}
@@ -34,12 +36,10 @@ use Rattle.call_served.specs.declared.Transfer.the-variants.{ReadSequential, Wr
 use Rattle.bdos.specs.Step.{step}
 use Rattle.call_served.specs.Asked.{Asked}
 use Rattle.call_served.specs.Calls.{callOf}
-use Rattle.demands.specs.Run.{answers, final, plainStep}
+use Rattle.numbers.specs.Numbers.{Bytes}
+use Rattle.demands.specs.Run.{Seen, Way, answers, final, plain}
 
--- bytes are below 256
-abbrev pub Bytes : List ℕ → Type 0
-Bytes l = (k : ℕ) → byte l k < 256
-
+-- the control blocks that are lent are bytes
 abbrev pub BytesLent : List Asked → Type 0
 BytesLent [] = Unit {0}
 BytesLent (c ∷ cs) = Bytes (c .fcb) × BytesLent cs
@@ -73,27 +73,46 @@ unfoldable pub touches : Asked → Drive → ℕ → List ℕ → Bool
 touches c d u name = namesFile (callOf (c .function)) (d .user) (c .fcb) u name
 
 -- a successful call of the run touches the file
-unfoldable pub touched : Geometry → List Asked → Drive → List ℕ → ℕ → List ℕ → Bool
-touched g [] d v u name = false
-touched g (c ∷ cs) d v u name =
-    (succeeded (step g c d v .answer) && touches c d u name) || touched g cs (step g c d v .drive) (step g c d v .volume) u name
+unfoldable pub touched : Way → List Asked → Drive → List ℕ → ℕ → List ℕ → Bool
+touched way [] d v u name = false
+touched way (c ∷ cs) d v u name =
+    (succeeded (way c d v .answer) && touches c d u name) || touched way cs (way c d v .drive) (way c d v .volume) u name
 
--- what a run on the volume v leaves, from the state d, and from e the plain way
-pub record Kept (g : Geometry) (v : List ℕ) (cs : List Asked) (d e : Drive) : Type 0 where
-  pub answers-same : answers (step g) cs d v ≡ answers (plainStep g) cs e v
-  pub volume-same : final (step g) cs d v ≡ final (plainStep g) cs e v
-  pub inspected : lowestBad g (final (step g) cs d v) ≡ slots g
-  pub others-present : (u : ℕ) (name : List ℕ) → u ≤ 15 → touched g cs d v u name ≡ false
-      → (n : ℕ) → present g (final (step g) cs d v) u name n ≡ present g v u name n
-  pub others-bytes : (u : ℕ) (name : List ℕ) → u ≤ 15 → touched g cs d v u name ≡ false
-      → (n : ℕ) → present g v u name n ≡ true → readBytes g (final (step g) cs d v) u name n ≡ readBytes g v u name n
+-- what a run of these calls on the volume v leaves: ss is what is seen of them, w the volume at its end, and `hit` says which
+-- files a successful one touched; the plain way of doing the calls runs from the state e
+pub record Kept (way : Way) (g : Geometry) (v : List ℕ) (cs : List Asked) (e : Drive) (ss : List Seen) (w : List ℕ) (hit : ℕ → List ℕ → Bool) : Type 0 where
+  pub answers-same : ss ≡ answers (plain way) cs e v
+  pub volume-same : w ≡ final (plain way) cs e v
+  pub length-kept : length w ≡ length v
+  pub inspected : lowestBad g w ≡ slots g
+  pub others-present : (u : ℕ) (name : List ℕ) → u ≤ 15 → hit u name ≡ false
+      → (n : ℕ) → present g w u name n ≡ present g v u name n
+  pub others-bytes : (u : ℕ) (name : List ℕ) → u ≤ 15 → hit u name ≡ false
+      → (n : ℕ) → present g v u name n ≡ true → readBytes g w u name n ≡ readBytes g v u name n
 
--- the demand
-abbrev pub Demand3 : Type 0
-Demand3 =
+-- "For any geometry within the rules, any volume of its length that passes inspection, and any list of calls .. that begins
+-- with log-in"
+abbrev pub OverRuns : (Geometry → List ℕ → List Asked → Type 0) → Type 0
+OverRuns Says =
     (g : Geometry) → lawful g ≡ true → (v : List ℕ) → length v ≡ bytes g → lowestBad g v ≡ slots g
     → (login : Asked) → callOf (login .function) ≡ LogIn → (cs : List Asked) → BytesLent cs
-    → (d e : Drive) → Kept g v (login ∷ cs) d e
+    → Says g v (login ∷ cs)
+
+-- the demand, of a way to do calls
+abbrev pub Demand3Of : (Geometry → Way) → Type 0
+Demand3Of way = OverRuns (λ g v cs. (d e : Drive) → Kept (way g) g v cs e (answers (way g) cs d v) (final (way g) cs d v) (touched (way g) cs d v))
+
+abbrev pub Demand3 : Type 0
+Demand3 = Demand3Of step
+
+-- And so a further log-in accepts, by function 13 or 37 and from any state
+abbrev pub Accepts : Geometry → List ℕ → Type 0
+Accepts g w =
+    (again : Asked) → callOf (again .function) ≡ LogIn → (e : Drive)
+    → step g again e w .answer ≡ Ready (freeCount (heldOf g w) (directoryBlocks g) (blocks g))
+
+abbrev pub AcceptsAgain : Type 0
+AcceptsAgain = OverRuns (λ g v cs. (d : Drive) → Accepts g (final (step g) cs d v))
 
 -- And so no block belongs to two entries at any moment: it stands in one place of one entry
 pub record OneOwner (g : Geometry) (v : List ℕ) : Type 0 where
@@ -101,7 +120,4 @@ pub record OneOwner (g : Geometry) (v : List ℕ) : Type 0 where
       → p < places g → q < places g → blockIn g (slotAt g v i) p ≢ 0 → blockIn g (slotAt g v i) p ≡ blockIn g (slotAt g v j) q → (i ≡ j) × (p ≡ q)
 
 abbrev pub NoBlockTwice : Type 0
-NoBlockTwice =
-    (g : Geometry) → lawful g ≡ true → (v : List ℕ) → length v ≡ bytes g → lowestBad g v ≡ slots g
-    → (login : Asked) → callOf (login .function) ≡ LogIn → (cs : List Asked) → BytesLent cs
-    → (d : Drive) → OneOwner g (final (step g) (login ∷ cs) d v)
+NoBlockTwice = OverRuns (λ g v cs. (d : Drive) → OneOwner g (final (step g) cs d v))

@@ -1,13 +1,15 @@
 -- The user's demands, each stated in a file of its own.
 pub mod Order
+pub mod Run
 pub mod Demand1
 pub mod Demand2
-pub mod Run
 pub mod Demand3
 pub mod Always
 pub mod Tie
-pub mod WrongWays
+pub mod AtSeam
+pub mod CallsAtSeam
 pub mod Several
 pub mod Renaming
 pub mod RenamingOnV
 pub mod ZeroFill
+pub mod WrongWays

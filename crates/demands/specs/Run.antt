@@ -1,14 +1,12 @@
 -- A run: a list of calls at the door, "each given the state the last returned" and the volume that the last left.
 -- The kept way is `step`, in which the state carries the held blocks from call to call. The plain way works them out from
--- the directory before every call and otherwise does what `step` does.
+-- the directory before every call and otherwise does what the kept way does.
 use mathlib.Core.List.{List, [], _∷_}
 use Prim.Native.Nat.{ℕ}
-use Rattle.disk_geometry.specs.declared.Geometry.{Geometry}
 use Rattle.call_answers.specs.declared.Answer.{Answer}
 use Rattle.disk_rules.specs.Named.{heldOf}
 use Rattle.filecalls.specs.declared.Drive.{Drive}
 use Rattle.filecalls.specs.Outcome.{Outcome, withHeld}
-use Rattle.bdos.specs.Step.{step}
 use Rattle.call_served.specs.Asked.{Asked}
 
 -- what a program sees of a call: the answer, the control block and the transfer buffer
@@ -39,5 +37,5 @@ finalState way [] d v = d
 finalState way (c ∷ cs) d v = finalState way cs (way c d v .drive) (way c d v .volume)
 
 -- the plain way
-unfoldable pub plainStep : Geometry → Way
-plainStep g c d v = step g c (withHeld d (heldOf (d .geometry) v)) v
+unfoldable pub plain : Way → Way
+plain way c d v = way c (withHeld d (heldOf (d .geometry) v)) v

@@ -11,6 +11,7 @@ use Rattle.filecalls.specs.Outcome.{left}
 use Rattle.bdos.specs.Step.{step}
 use Rattle.call_served.specs.Asked.{Asked}
 use Rattle.demands.specs.Run.{Seen, answers, final}
+use Rattle.demands.specs.Demand3.{touched, Kept, OverRuns}
 
 -- the calls, the state and the volume that they begin with, what is seen of each, and the volume at the end
 pub data Ran (g : Geometry) : List Asked → Drive → List ℕ → List Seen → List ℕ → Type 0 where
@@ -28,3 +29,8 @@ pub record IsStep (g : Geometry) (cs : List Asked) (d : Drive) (v : List ℕ) (s
 abbrev pub Tie : Type 0
 Tie =
     (g : Geometry) (cs : List Asked) (d : Drive) (v : List ℕ) (ss : List Seen) (w : List ℕ) → Ran g cs d v ss w → IsStep g cs d v ss w
+
+-- so such a run that begins with log-in on a volume that passes inspection has all that demand 3 says: ss and w are what the
+-- plain way shows and leaves, w passes inspection, and the files that no successful call touched are as they were
+abbrev pub TiedKept : Type 0
+TiedKept = OverRuns (λ g v cs. (d e : Drive) (ss : List Seen) (w : List ℕ) → Ran g cs d v ss w → Kept (step g) g v cs e ss w (touched (step g) cs d v))

@@ -6,7 +6,7 @@ use Prim.Native.Nat.{ℕ, _+_, _^_}
 use lib.Dec.{ltb, eqb}
 use lib.ListN.{replicate, set}
 use Rattle.disk_geometry.specs.declared.Geometry.{Geometry}
-use Rattle.disk_geometry.specs.Geometry.{lawful}
+use Rattle.disk_geometry.specs.Geometry.{geometryOf, lawful}
 use Rattle.disk_volume.specs.Name.{strip, nameAt, goodName}
 use Rattle.lists.specs.Bytes.{part, all}
 use Rattle.disk_held.specs.Held.{hold, release, wordsOf, noneHeld, lowestFree, freeCount}
@@ -15,23 +15,9 @@ use Rattle.call_search.specs.declared.SearchKind.{SearchKind}
 use Rattle.call_search.specs.declared.SearchKind.the-variants.{Nothing, Pattern, Everything}
 use Rattle.filecalls.specs.declared.Drive.{Drive}
 use Rattle.filecalls.specs.State.{isOpen}
-use Rattle.examples.specs.Script.{logIn, openFile, closeFile, searchFirst, searchNext, delete, readNext, writeNext, make, rename, protect, attributes, user, read, write, size, setRandom, writeZeroFill, done, free, refused, badSlot, Line, call, altered, slotsAre, heldAre, volumeAt, blockAt, blockIs, bufferIs, Script, script, seen, told}
-use Rattle.examples.specs.Samples.{sigla, lemmata, sized, entry, empty, control, fresh, recordOf, renaming, filled, old}
+use Rattle.examples.specs.Script.{logIn, openFile, closeFile, searchFirst, searchNext, delete, readNext, writeNext, make, rename, protect, attributes, user, read, write, size, setRandom, writeZeroFill, done, free, refused, badSlot, Line, call, altered, slotsAre, heldAre, volumeAt, fcbAt, fcbIs, bufferIs, Script, script, lentFcb, lentBuffer, seen, told}
+use Rattle.examples.specs.Samples.{sigla, lemmata, from, systemFrom, lemmataReadOnly, topped, anyName, small, disk, entry, empty, control, fresh, recordOf, extentOf, renaming, filled, old}
 use Rattle.examples.specs.Table.{block4in15, block1in12, volumeFull, geometryFull, extentsFrom}
-
--- SIGLA.TXT with another first byte
-abbrev pub from : ℕ → List ℕ
-from x = x ∷ 73 ∷ 71 ∷ 76 ∷ 65 ∷ 32 ∷ 32 ∷ 32 ∷ 84 ∷ 88 ∷ 84 ∷ []
-
-abbrev pub anyName : List ℕ
-anyName = replicate 11 0x3F
-
--- B 1,024, T 4, D 1: three blocks behind a directory of 32 slots
-abbrev pub small : Geometry
-small = sized 1024 4 1
-
-abbrev pub disk : List ℕ → List ℕ
-disk directory = directory ++ old 1024 3072
 
 -- Names and patterns
 abbrev pub onNames : List Line
@@ -41,7 +27,7 @@ onNames =
     ∷ call (make (fresh lemmata)) (done 1)
     -- "BFH in an open, search or delete pattern is the wildcard 3FH."
     ∷ call (openFile (fresh (from 0xBF))) (done 0)
-    ∷ blockIs (fresh sigla)
+    ∷ fcbIs (fresh sigla)
     ∷ call (searchFirst (fresh (from 0xBF)) (filled 0)) (done 0)
     -- "In every other call BFH is 39."
     ∷ call (make (fresh (from 0xBF))) (refused 39)
@@ -71,7 +57,7 @@ onNames =
     -- "name without top bits, all else 0. Control block 1..11 likewise, 12..31 become 0."
     ∷ call (make (set (control (from 0xD4) 0 3 9 (5 ∷ 6 ∷ []) 77 197121) 13 8)) (done 2)
     ∷ volumeAt 0 (entry 0 sigla 0 0 0 [] ++ entry 0 lemmata 0 0 0 [] ++ entry 0 (from 84) 0 0 0 [] ++ empty 29)
-    ∷ blockIs (control (from 84) 0 0 0 [] 77 197121)
+    ∷ fcbIs (control (from 84) 0 0 0 [] 77 197121)
     -- "Code is the slot modulo 4"
     ∷ call (make (fresh (from 86))) (done 3)
     ∷ call (make (fresh (from 87))) (done 0)
@@ -83,7 +69,7 @@ onNames =
     -- "Byte 16 and bytes 28..31 are not examined."
     ∷ call (rename (set (set (renaming (from 84) (from 0xD5)) 16 255) 28 255)) (done 0)
     ∷ volumeAt 64 (entry 0 (from 85) 0 0 0 [])
-    ∷ blockIs (set (set (renaming (from 84) (from 0xD5)) 16 255) 28 255)
+    ∷ fcbIs (set (set (renaming (from 84) (from 0xD5)) 16 255) 28 255)
     -- "byte 0 of all matching entries of the user (3FH allowed) becomes E5H"
     ∷ call (delete (fresh anyName)) (done 0)
     ∷ volumeAt 0 (entry 0xE5 sigla 0 0 0 [] ++ entry 0xE5 lemmata 0 0 0 [] ++ entry 0xE5 (from 85) 0 0 0 [])
@@ -96,10 +82,10 @@ onNames =
     ∷ call (openFile (fresh (from 0x3F))) (done 0)
     ∷ []
 
-abbrev pub names : List Script
-names = script (disk (empty 32)) onNames ∷ []
+abbrev pub namings : List Script
+namings = script (disk (empty 32)) onNames ∷ []
 
-names-hold : seen names ≡ told names
+names-hold : seen namings ≡ told namings
 unfolding seen told old
 names-hold = refl
 
@@ -114,10 +100,7 @@ record1 = entry 1 sigla 0 0 0 [] ++ empty 3
 abbrev pub record7 : List ℕ
 record7 = empty 3 ++ entry 0 sigla 31 0 0 []
 
--- a control block with ex, and one that asks for everything, with a name and an ex that no rule allows
-abbrev pub extentOf : List ℕ → ℕ → List ℕ
-extentOf name ex = control name ex 0 0 [] 0 0
-
+-- a control block that asks for everything, with a name and an ex that no rule allows
 abbrev pub everything : List ℕ
 everything = set (extentOf (replicate 11 0) 255) 0 0x3F
 
@@ -129,7 +112,7 @@ onSearches =
     ∷ bufferIs (filled 0)
     -- "First starts at slot 0 and keeps pattern and user; next .. goes on after the last hit"
     ∷ call (searchFirst (extentOf anyName 0) (filled 0)) (done 0)
-    ∷ blockIs (extentOf anyName 0)
+    ∷ fcbIs (extentOf anyName 0)
     ∷ bufferIs record0
     ∷ call (searchNext (filled 0)) (done 1)
     ∷ bufferIs record0
@@ -162,7 +145,7 @@ onSearches =
     ∷ call (searchNext (filled 0)) (done 2)
     -- "whichever other calls came between"
     ∷ call (size (fresh sigla)) (done 0)
-    ∷ blockAt 33 (128 ∷ 15 ∷ 0 ∷ [])
+    ∷ fcbAt 33 (128 ∷ 15 ∷ 0 ∷ [])
     ∷ call (delete (fresh lemmata)) (done 0)
     ∷ call (searchNext (filled 0)) (done 3)
     ∷ call (searchNext (filled 0)) (done 0)
@@ -197,20 +180,20 @@ onPositions =
     -- "Cr after a sequential call is (n mod 128) + 1, up to 128; ex and s2 are those of n's own extent."
     ∷ call (writeNext (positionOf 0 0 127) (filled 7)) (done 0)
     ∷ volumeAt 0 (entry 0 sigla 0 0 128 block1in15 ++ empty 31 ++ old 1024 896 ++ filled 7 ++ old 2048 2048)
-    ∷ blockIs (control sigla 0 0 128 block1in15 128 0)
+    ∷ fcbIs (control sigla 0 0 128 block1in15 128 0)
     -- "cr 128 is taken, 129 is 40." "A position with cr 128 lies in the next extent."
     ∷ call (readNext (positionOf 0 0 127) (filled 0)) (done 0)
-    ∷ blockIs (control sigla 0 0 128 block1in15 128 0)
+    ∷ fcbIs (control sigla 0 0 128 block1in15 128 0)
     ∷ call (readNext (positionOf 0 0 128) (filled 0)) (refused 1)
     ∷ call (writeNext (positionOf 0 0 128) (filled 8)) (done 0)
     ∷ volumeAt 0 (entry 0 sigla 0 0 128 block1in15 ++ entry 0 sigla 1 0 1 (2 ∷ []) ++ empty 30)
     ∷ volumeAt 1920 (filled 7 ++ filled 8 ++ old 2176 1920)
-    ∷ blockIs (control sigla 1 0 1 (2 ∷ []) 1 0)
+    ∷ fcbIs (control sigla 1 0 1 (2 ∷ []) 1 0)
     ∷ call (readNext (positionOf 0 0 128) (filled 0)) (done 0)
-    ∷ blockIs (control sigla 1 0 1 (2 ∷ []) 1 0)
+    ∷ fcbIs (control sigla 1 0 1 (2 ∷ []) 1 0)
     ∷ bufferIs (filled 8)
     ∷ call (setRandom (positionOf 0 0 128)) (done 0)
-    ∷ blockIs (control sigla 0 0 0 [] 128 128)
+    ∷ fcbIs (control sigla 0 0 0 [] 128 128)
     ∷ call (readNext (positionOf 0 0 129) (filled 0)) (refused 40)
     ∷ call (writeNext (positionOf 0 0 129) (filled 0)) (refused 40)
     ∷ call (setRandom (positionOf 0 0 129)) (refused 40)
@@ -228,35 +211,35 @@ onPositions =
     ∷ call (writeZeroFill (recordOf sigla 65536) (filled 0)) (refused 6)
     -- "36 examines no name"
     ∷ call (setRandom (control (replicate 11 0) 31 15 0 [] 128 7)) (done 0)
-    ∷ blockAt 33 (0 ∷ 0 ∷ 1 ∷ [])
+    ∷ fcbAt 33 (0 ∷ 0 ∷ 1 ∷ [])
     ∷ call (setRandom (positionOf 31 15 127)) (done 0)
-    ∷ blockAt 33 (255 ∷ 255 ∷ 0 ∷ [])
+    ∷ fcbAt 33 (255 ∷ 255 ∷ 0 ∷ [])
     ∷ call (writeNext (positionOf 31 15 127) (filled 9)) (done 0)
     ∷ volumeAt 64 (entry 0 sigla 31 15 128 block3in15 ++ empty 29)
-    ∷ blockIs (control sigla 31 15 128 block3in15 128 0)
+    ∷ fcbIs (control sigla 31 15 128 block3in15 128 0)
     -- "the group of (s2, ex) has an entry. Changes nothing."
     ∷ call (closeFile (control sigla 31 15 9 (5 ∷ []) 200 7)) (done 2)
-    ∷ blockIs (control sigla 31 15 9 (5 ∷ []) 200 7)
+    ∷ fcbIs (control sigla 31 15 9 (5 ∷ []) 200 7)
     ∷ call (closeFile (positionOf 30 15 0)) (refused 255)
     ∷ call (closeFile (positionOf 0 16 0)) (refused 40)
     ∷ call (closeFile (positionOf 32 0 0)) (refused 40)
     -- "in the group of ex, with s2 taken as 0"
     ∷ call (openFile (positionOf 31 15 0)) (refused 255)
     ∷ call (openFile (set (control sigla 1 200 9 (5 ∷ []) 200 7) 13 6)) (done 1)
-    ∷ blockIs (control sigla 1 0 1 (2 ∷ []) 200 7)
+    ∷ fcbIs (control sigla 1 0 1 (2 ∷ []) 200 7)
     ∷ call (openFile (positionOf 32 0 0)) (refused 40)
     -- random calls use none of ex, s2 and cr
     ∷ call (read (control sigla 255 255 9 (5 ∷ []) 255 128) (filled 0)) (done 0)
-    ∷ blockIs (control sigla 1 0 1 (2 ∷ []) 0 128)
+    ∷ fcbIs (control sigla 1 0 1 (2 ∷ []) 0 128)
     ∷ []
 
 -- "T 2, D 1: the second block asked for: 2."
 abbrev pub onOneBlock : List Line
 onOneBlock =
-    call (logIn (sized 1024 2 1)) (free 1)
+    call (logIn (geometryOf 1024 2 1)) (free 1)
     ∷ call (make (fresh sigla)) (done 0)
     ∷ call (size (recordOf sigla 9)) (done 0)
-    ∷ blockIs (recordOf sigla 0)
+    ∷ fcbIs (recordOf sigla 0)
     ∷ call (write (recordOf sigla 0) (filled 7)) (done 0)
     ∷ heldAre (2 ∷ 0 ∷ 0 ∷ 0 ∷ [])
     ∷ call (write (recordOf sigla 8) (filled 8)) (refused 2)
@@ -265,7 +248,7 @@ onOneBlock =
     -- "the random write, but a block given for the first time is first filled with zeros": this one was given before
     ∷ call (writeZeroFill (recordOf sigla 3) (filled 5)) (done 0)
     ∷ volumeAt 0 (entry 0 sigla 0 0 4 (1 ∷ []) ++ empty 31 ++ filled 7 ++ old 1152 256 ++ filled 5 ++ old 1536 512)
-    ∷ blockIs (control sigla 0 0 4 (1 ∷ []) 3 3)
+    ∷ fcbIs (control sigla 0 0 4 (1 ∷ []) 3 3)
     ∷ bufferIs (filled 5)
     ∷ call (read (recordOf sigla 3) (filled 1)) (done 0)
     ∷ bufferIs (filled 5)
@@ -281,9 +264,9 @@ onOneBlock =
     ∷ call (writeZeroFill (recordOf lemmata 4106) (filled 6)) (done 0)
     ∷ volumeAt 0 (entry 0 lemmata 0 0 0 [] ++ entry 0 lemmata 0 1 11 (0 ∷ 1 ∷ []) ++ empty 30)
     ∷ volumeAt 1024 (replicate 256 0 ++ filled 6 ++ replicate 640 0)
-    ∷ blockIs (control lemmata 0 1 11 (0 ∷ 1 ∷ []) 10 4106)
+    ∷ fcbIs (control lemmata 0 1 11 (0 ∷ 1 ∷ []) 10 4106)
     ∷ call (read (recordOf lemmata 4105) (filled 1)) (done 0)
-    ∷ blockIs (control lemmata 0 1 11 (0 ∷ 1 ∷ []) 9 4105)
+    ∷ fcbIs (control lemmata 0 1 11 (0 ∷ 1 ∷ []) 9 4105)
     ∷ bufferIs (filled 0)
     ∷ []
 
@@ -297,29 +280,29 @@ blocks3and1 = replicate 7 0 ++ (3 ∷ 0 ∷ 0 ∷ 0 ∷ 0 ∷ 1 ∷ [])
 
 abbrev pub onTwoExtents : List Line
 onTwoExtents =
-    call (logIn (sized 2048 4 1)) (free 1)
+    call (logIn (geometryOf 2048 4 1)) (free 1)
     ∷ heldAre (6 ∷ 0 ∷ 0 ∷ 0 ∷ [])
     -- "An entry counts 128 records for each extent of its group below its own E, min(rc, 128) for E, 0 above."
     ∷ call (openFile (extentOf lemmata 0)) (done 0)
-    ∷ blockIs (control lemmata 0 0 128 block1in12 0 0)
+    ∷ fcbIs (control lemmata 0 0 128 block1in12 0 0)
     ∷ call (openFile (extentOf lemmata 1)) (done 0)
-    ∷ blockIs (control lemmata 1 0 73 block1in12 0 0)
+    ∷ fcbIs (control lemmata 1 0 73 block1in12 0 0)
     ∷ call (openFile (extentOf lemmata 2)) (refused 255)
     ∷ call (openFile (extentOf sigla 1)) (done 1)
-    ∷ blockIs (control sigla 1 0 0 block2in8 0 0)
+    ∷ fcbIs (control sigla 1 0 0 block2in8 0 0)
     ∷ call (read (recordOf sigla 128) (filled 0)) (refused 1)
     ∷ call (searchFirst (extentOf lemmata 1) (filled 0)) (done 0)
     -- "if below, it stays"
     ∷ call (write (recordOf lemmata 127) (filled 8)) (done 0)
     ∷ volumeAt 0 (entry 0 lemmata 1 0 73 blocks3and1)
     ∷ volumeAt 8064 (filled 8)
-    ∷ blockIs (control lemmata 0 0 128 blocks3and1 127 127)
+    ∷ fcbIs (control lemmata 0 0 128 blocks3and1 127 127)
     -- "Testing rc without the map place: gaps read as records."
     ∷ call (read (recordOf lemmata 100) (filled 0)) (refused 1)
     ∷ call (read (recordOf lemmata 201) (filled 0)) (refused 1)
     ∷ call (read (recordOf lemmata 256) (filled 0)) (refused 4)
     ∷ call (size (fresh lemmata)) (done 0)
-    ∷ blockAt 33 (201 ∷ 0 ∷ 0 ∷ [])
+    ∷ fcbAt 33 (201 ∷ 0 ∷ 0 ∷ [])
     ∷ []
 
 abbrev pub directoryTwoExtents : List ℕ
@@ -337,16 +320,6 @@ unfolding seen told old
 positions-hold = refl
 
 -- Delete, rename, attributes, protection: names with top bits in the type
-abbrev pub systemFrom : ℕ → List ℕ
-systemFrom x = x ∷ 73 ∷ 71 ∷ 76 ∷ 65 ∷ 32 ∷ 32 ∷ 32 ∷ 84 ∷ 0xD8 ∷ 84 ∷ []
-
-abbrev pub lemmataReadOnly : List ℕ
-lemmataReadOnly = 76 ∷ 69 ∷ 77 ∷ 77 ∷ 65 ∷ 84 ∷ 65 ∷ 32 ∷ 0xD4 ∷ 88 ∷ 84 ∷ []
-
--- UIGLA.TXT with every top bit
-abbrev pub topped : List ℕ
-topped = 0xD5 ∷ 0xC9 ∷ 0xC7 ∷ 0xCC ∷ 0xC1 ∷ 0xA0 ∷ 0xA0 ∷ 0xA0 ∷ 0xD4 ∷ 0xD8 ∷ 0xD4 ∷ []
-
 abbrev pub directoryChanges : List ℕ
 directoryChanges = entry 0 sigla 0 0 1 (1 ∷ []) ++ entry 0 lemmataReadOnly 0 0 0 [] ++ entry 0 sigla 1 0 1 (2 ∷ []) ++ empty 29
 
@@ -365,19 +338,19 @@ onChanges =
     ∷ call (attributes (fresh lemmata)) (done 0)
     ∷ call (attributes (fresh (systemFrom 0xD3))) (done 0)
     ∷ volumeAt 0 (entry 0 (systemFrom 83) 0 0 1 (1 ∷ []) ++ entry 0 lemmata 0 0 0 [] ++ entry 0 (systemFrom 83) 1 0 1 (2 ∷ []) ++ empty 29)
-    ∷ blockIs (fresh (systemFrom 0xD3))
+    ∷ fcbIs (fresh (systemFrom 0xD3))
     ∷ call (attributes (fresh (from 85))) (refused 255)
     -- "the (new) name exists"; "no match"
     ∷ call (rename (renaming sigla lemmata)) (refused 43)
     ∷ call (rename (renaming (from 85) (from 86))) (refused 255)
     -- "all entries of the file take the new one without top bits and keep their attribute bits"
-    ∷ call (rename (renaming sigla topped)) (done 0)
+    ∷ call (rename (renaming sigla (topped 85))) (done 0)
     ∷ volumeAt 0 (entry 0 (systemFrom 85) 0 0 1 (1 ∷ []) ++ entry 0 lemmata 0 0 0 [] ++ entry 0 (systemFrom 85) 1 0 1 (2 ∷ []) ++ empty 29)
     -- "A new group's entry copies bytes 0..11 of the file's lowest entry literally."
     ∷ call (write (recordOf (from 85) 257) (filled 7)) (done 0)
     ∷ volumeAt 96 (entry 0 (systemFrom 85) 2 0 2 (3 ∷ []) ++ empty 28)
     ∷ volumeAt 3200 (filled 7)
-    ∷ blockIs (control (from 85) 2 0 2 (3 ∷ []) 1 257)
+    ∷ fcbIs (control (from 85) 2 0 2 (3 ∷ []) 1 257)
     ∷ call (write (recordOf (from 85) 384) (filled 7)) (refused 2)
     ∷ call (delete (fresh (from 0xBF))) (done 0)
     ∷ volumeAt 0 (entry 0xE5 (systemFrom 85) 0 0 1 (1 ∷ []) ++ entry 0 lemmata 0 0 0 [] ++ entry 0xE5 (systemFrom 85) 1 0 1 (2 ∷ []))
@@ -475,15 +448,15 @@ onAltered =
     -- "Rc shown in the control block is the extent's count"
     ∷ call (read (recordOf sigla 1) (filled 0)) (done 0)
     ∷ bufferIs (old 1152 128)
-    ∷ blockIs (control sigla 0 0 128 alteredMap 1 1)
+    ∷ fcbIs (control sigla 0 0 128 alteredMap 1 1)
     ∷ call (openFile (fresh sigla)) (done 0)
-    ∷ blockIs (control sigla 0 0 128 alteredMap 0 0)
+    ∷ fcbIs (control sigla 0 0 128 alteredMap 0 0)
     ∷ call (size (fresh sigla)) (done 0)
-    ∷ blockAt 33 (128 ∷ 0 ∷ 0 ∷ [])
+    ∷ fcbAt 33 (128 ∷ 0 ∷ 0 ∷ [])
     -- "200 stays 200"; a write "stores there and leaves the held blocks alone": block 1 is still free
     ∷ call (write (recordOf sigla 1) (filled 7)) (done 0)
     ∷ volumeAt 0 (entry 0 sigla 0 0 200 alteredMap ++ empty 31 ++ old 1024 128 ++ filled 7)
-    ∷ blockIs (control sigla 0 0 128 alteredMap 1 1)
+    ∷ fcbIs (control sigla 0 0 128 alteredMap 1 1)
     ∷ call (write (recordOf sigla 16) (filled 8)) (done 0)
     ∷ volumeAt 0 (entry 0 sigla 0 0 200 (1 ∷ 4 ∷ 1 ∷ []) ++ empty 31 ++ filled 8 ++ filled 7)
     -- "1 before 41 in reads; in writes 41 whatever the count."
@@ -513,7 +486,7 @@ onAltered =
 -- "below D", of B 1,024, T 3, D 2
 abbrev pub onBelow : List Line
 onBelow =
-    call (logIn (sized 1024 3 2)) (free 1)
+    call (logIn (geometryOf 1024 3 2)) (free 1)
     ∷ slotsAre 64
     ∷ altered (entry 0 sigla 0 0 8 (1 ∷ []) ++ empty 63 ++ old 2048 1024)
     ∷ call (read (recordOf sigla 0) (filled 0)) (refused 41)
@@ -563,7 +536,7 @@ inspections =
     -- "each block number is 0 or from D to T-1"
     ∷ second (entry 0 sigla 0 0 0 (0 ∷ 3 ∷ 2 ∷ [])) (free 0)
     ∷ second (entry 0 sigla 0 0 0 (4 ∷ [])) (badSlot 1)
-    ∷ script (entry 0 sigla 0 0 0 (1 ∷ []) ++ empty 63 ++ old 2048 1024) (call (logIn (sized 1024 3 2)) (badSlot 0) ∷ [])
+    ∷ script (entry 0 sigla 0 0 0 (1 ∷ []) ++ empty 63 ++ old 2048 1024) (call (logIn (geometryOf 1024 3 2)) (badSlot 0) ∷ [])
     ∷ second (entry 0 sigla 0 0 0 block3in15) (free 1)
     ∷ second (entry 0 sigla 0 0 0 block4in15) (badSlot 1)
     -- "none but 0 occurs twice in it or in a lower slot that is not empty"
@@ -576,8 +549,8 @@ inspections =
     ∷ second (entry 1 lemmata 0 0 1 []) (free 2)
     ∷ second (entry 0 lemmata 1 0 1 []) (free 2)
     ∷ second (entry 0 lemmata 0 1 1 []) (free 2)
-    ∷ script (entry 0 lemmata 0 0 1 [] ++ entry 0 lemmata 1 0 1 [] ++ empty 62 ++ old 2048 2048) (call (logIn (sized 2048 2 1)) (badSlot 1) ∷ [])
-    ∷ script (entry 0 lemmata 1 0 1 [] ++ entry 0 lemmata 2 0 1 [] ++ empty 62 ++ old 2048 2048) (call (logIn (sized 2048 2 1)) (free 1) ∷ [])
+    ∷ script (entry 0 lemmata 0 0 1 [] ++ entry 0 lemmata 1 0 1 [] ++ empty 62 ++ old 2048 2048) (call (logIn (geometryOf 2048 2 1)) (badSlot 1) ∷ [])
+    ∷ script (entry 0 lemmata 1 0 1 [] ++ entry 0 lemmata 2 0 1 [] ++ empty 62 ++ old 2048 2048) (call (logIn (geometryOf 2048 2 1)) (free 1) ∷ [])
     -- "good if empty", whatever else stands there
     ∷ second (set (entry 0xE5 (replicate 11 0) 99 99 99 (1 ∷ 1 ∷ 255 ∷ [])) 13 7) (free 2)
     -- "the lowest bad slot"
@@ -603,7 +576,7 @@ abbrev pub states : List Bool
 states =
     isOpen (state small 15 Nothing 99 99 [])
     ∷ isOpen (state small 16 Nothing 0 0 [])
-    ∷ isOpen (state (sized 1024 1 1) 0 Nothing 0 0 [])
+    ∷ isOpen (state (geometryOf 1024 1 1) 0 Nothing 0 0 [])
     ∷ isOpen (state small 0 Pattern 15 31 (anyName ++ (31 ∷ [])))
     ∷ isOpen (state small 0 Pattern 15 31 (from 0xD3 ++ (63 ∷ [])))
     ∷ isOpen (state small 0 Pattern 16 31 (sigla ++ (0 ∷ [])))
@@ -619,44 +592,22 @@ states-hold : states ≡ true ∷ false ∷ false ∷ true ∷ true ∷ false �
 unfolding isOpen lawful goodName nameAt strip part all
 states-hold = refl
 
--- What is lent: the first tests of every call, in order. Calls with a volume and a control block f, then those with a
--- transfer buffer b too; each refused by the same number.
-abbrev pub lentBlock : List ℕ → ℕ → List Line
-lentBlock fcb number =
-    call (openFile fcb) (refused number)
-    ∷ call (closeFile fcb) (refused number)
-    ∷ call (delete fcb) (refused number)
-    ∷ call (make fcb) (refused number)
-    ∷ call (rename fcb) (refused number)
-    ∷ call (attributes fcb) (refused number)
-    ∷ call (size fcb) (refused number)
-    ∷ []
-
-abbrev pub lentBuffer : List ℕ → List ℕ → ℕ → List Line
-lentBuffer fcb b number =
-    call (searchFirst fcb b) (refused number)
-    ∷ call (readNext fcb b) (refused number)
-    ∷ call (writeNext fcb b) (refused number)
-    ∷ call (read fcb b) (refused number)
-    ∷ call (write fcb b) (refused number)
-    ∷ call (writeZeroFill fcb b) (refused number)
-    ∷ []
-
+-- What is lent: the first tests of every call, in order
 abbrev pub onLent : List Line
 onLent =
     -- "(not log-in) closed state"
-    lentBlock [] 32 ++ lentBuffer [] [] 32
+    lentFcb [] 32 ++ lentBuffer [] [] 32
     ++ (call (searchNext []) (refused 32)
     ∷ call (setRandom []) (refused 32)
     ∷ call (user 16) (refused 32)
     ∷ call protect (refused 32)
     -- "geometry outside the rules"; "length of volume"
-    ∷ call (logIn (sized 512 4 1)) (refused 32)
-    ∷ call (logIn (sized 1024 5 1)) (refused 33)
+    ∷ call (logIn (geometryOf 512 4 1)) (refused 32)
+    ∷ call (logIn (geometryOf 1024 5 1)) (refused 33)
     ∷ call (logIn small) (free 3)
     ∷ altered []
     ∷ [])
-    ++ lentBlock [] 33 ++ lentBuffer [] [] 33
+    ++ lentFcb [] 33 ++ lentBuffer [] [] 33
     ++ (call (searchNext []) (refused 33)
     -- "User, 28 and 36 are lent no volume"
     ∷ call (setRandom []) (refused 34)
@@ -665,12 +616,12 @@ onLent =
     ∷ altered (disk (empty 32))
     ∷ [])
     -- "control block not 36; transfer buffer not 128 (as far as lent)"; "dr not 0 or 1 (search: 63 also)"
-    ++ lentBlock [] 34 ++ lentBuffer [] [] 34
-    ++ lentBlock (replicate 36 2) 42 ++ lentBuffer (replicate 36 2) [] 35 ++ lentBuffer (replicate 36 2) (filled 0) 42
+    ++ lentFcb [] 34 ++ lentBuffer [] [] 34
+    ++ lentFcb (replicate 36 2) 42 ++ lentBuffer (replicate 36 2) [] 35 ++ lentBuffer (replicate 36 2) (filled 0) 42
     ++ (call (searchNext []) (refused 35)
     ∷ call (setRandom (replicate 36 2)) (refused 42)
     -- the closed state behind a refused log-in
-    ∷ call (logIn (sized 1024 5 1)) (refused 33)
+    ∷ call (logIn (geometryOf 1024 5 1)) (refused 33)
     ∷ call protect (refused 32)
     ∷ [])
 
@@ -684,20 +635,22 @@ lendings-hold = refl
 -- "B is 1,024, 2,048 or 4,096; T is 2 to 256; the first D blocks are directory, D from 1 to 16 and below T."
 abbrev pub geometries : List Bool
 geometries =
-    lawful (sized 1024 2 1)
-    ∷ lawful (sized 2048 17 16)
-    ∷ lawful (sized 4096 256 16)
-    ∷ lawful (sized 4095 256 16)
-    ∷ lawful (sized 4097 256 16)
-    ∷ lawful (sized 512 4 1)
-    ∷ lawful (sized 1024 1 0)
-    ∷ lawful (sized 1024 257 1)
-    ∷ lawful (sized 1024 4 0)
-    ∷ lawful (sized 1024 18 17)
-    ∷ lawful (sized 1024 4 4)
+    lawful (geometryOf 1024 2 1)
+    ∷ lawful (geometryOf 2048 17 16)
+    ∷ lawful (geometryOf 4096 256 16)
+    ∷ lawful (geometryOf 4095 256 16)
+    ∷ lawful (geometryOf 4097 256 16)
+    ∷ lawful (geometryOf 512 4 1)
+    ∷ lawful (geometryOf 3072 4 1)
+    ∷ lawful (geometryOf 8192 4 1)
+    ∷ lawful (geometryOf 1024 1 0)
+    ∷ lawful (geometryOf 1024 257 1)
+    ∷ lawful (geometryOf 1024 4 0)
+    ∷ lawful (geometryOf 1024 18 17)
+    ∷ lawful (geometryOf 1024 4 4)
     ∷ []
 
-geometries-hold : geometries ≡ true ∷ true ∷ true ∷ false ∷ false ∷ false ∷ false ∷ false ∷ false ∷ false ∷ false ∷ []
+geometries-hold : geometries ≡ true ∷ true ∷ true ∷ false ∷ false ∷ false ∷ false ∷ false ∷ false ∷ false ∷ false ∷ false ∷ false ∷ []
 unfolding lawful
 geometries-hold = refl
 

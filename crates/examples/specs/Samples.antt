@@ -2,8 +2,8 @@
 use mathlib.Core.List.{List, [], _∷_, _++_}
 use Prim.Native.Nat.{ℕ, zero, suc, _+_, _*_, _/_, _%_}
 use lib.ListN.{replicate, take}
-use Rattle.disk_geometry.specs.Geometry.{geometryOf}
 use Rattle.disk_geometry.specs.declared.Geometry.{Geometry}
+use Rattle.disk_geometry.specs.Geometry.{geometryOf}
 
 -- the names SIGLA.TXT and LEMMATA.TXT
 abbrev pub sigla : List ℕ
@@ -12,13 +12,33 @@ sigla = 83 ∷ 73 ∷ 71 ∷ 76 ∷ 65 ∷ 32 ∷ 32 ∷ 32 ∷ 84 ∷ 88 ∷ 84
 abbrev pub lemmata : List ℕ
 lemmata = 76 ∷ 69 ∷ 77 ∷ 77 ∷ 65 ∷ 84 ∷ 65 ∷ 32 ∷ 84 ∷ 88 ∷ 84 ∷ []
 
--- a geometry: B, T, D
-abbrev pub sized : ℕ → ℕ → ℕ → Geometry
-sized b t d = geometryOf b t d
+-- SIGLA.TXT with another first byte; so too as a system file, and with every top bit
+abbrev pub from : ℕ → List ℕ
+from x = x ∷ 73 ∷ 71 ∷ 76 ∷ 65 ∷ 32 ∷ 32 ∷ 32 ∷ 84 ∷ 88 ∷ 84 ∷ []
+
+abbrev pub systemFrom : ℕ → List ℕ
+systemFrom x = x ∷ 73 ∷ 71 ∷ 76 ∷ 65 ∷ 32 ∷ 32 ∷ 32 ∷ 84 ∷ 0xD8 ∷ 84 ∷ []
+
+abbrev pub topped : ℕ → List ℕ
+topped x = (128 + x) ∷ 0xC9 ∷ 0xC7 ∷ 0xCC ∷ 0xC1 ∷ 0xA0 ∷ 0xA0 ∷ 0xA0 ∷ 0xD4 ∷ 0xD8 ∷ 0xD4 ∷ []
+
+-- both files with the top bit of byte 9: read-only
+abbrev pub siglaReadOnly : List ℕ
+siglaReadOnly = 83 ∷ 73 ∷ 71 ∷ 76 ∷ 65 ∷ 32 ∷ 32 ∷ 32 ∷ 0xD4 ∷ 88 ∷ 84 ∷ []
+
+abbrev pub lemmataReadOnly : List ℕ
+lemmataReadOnly = 76 ∷ 69 ∷ 77 ∷ 77 ∷ 65 ∷ 84 ∷ 65 ∷ 32 ∷ 0xD4 ∷ 88 ∷ 84 ∷ []
+
+abbrev pub anyName : List ℕ
+anyName = replicate 11 0x3F
 
 -- a map, by its first places: the others are 0
 abbrev pub sixteen : List ℕ → List ℕ
 sixteen blocks = take 16 (blocks ++ replicate 16 0)
+
+-- places up to place p, which has block b: the lower ones are 0
+abbrev pub inPlace : ℕ → ℕ → List ℕ
+inPlace p b = replicate p 0 ++ (b ∷ [])
 
 -- an entry: user, name and type, ex, s2, rc, map
 abbrev pub entry : ℕ → List ℕ → ℕ → ℕ → ℕ → List ℕ → List ℕ
@@ -40,6 +60,10 @@ fresh name = control name 0 0 0 [] 0 0
 abbrev pub recordOf : List ℕ → ℕ → List ℕ
 recordOf name n = control name 0 0 0 [] 0 n
 
+-- the one that means its extent ex
+abbrev pub extentOf : List ℕ → ℕ → List ℕ
+extentOf name ex = control name ex 0 0 [] 0 0
+
 -- the control block of a rename: "old name in 1..11, new in 17..27"
 abbrev pub renaming : List ℕ → List ℕ → List ℕ
 renaming name new = (0 ∷ name) ++ (replicate 5 0 ++ (new ++ replicate 8 0))
@@ -52,3 +76,10 @@ filled x = replicate 128 x
 unfoldable pub old : ℕ → ℕ → List ℕ
 old a zero = []
 old a (suc n) = a % 251 ∷ old (suc a) n
+
+-- B 1,024, T 4, D 1: three blocks behind a directory of 32 slots
+abbrev pub small : Geometry
+small = geometryOf 1024 4 1
+
+abbrev pub disk : List ℕ → List ℕ
+disk directory = directory ++ old 1024 3072

@@ -125,8 +125,8 @@ pub data Line : Type 0 where
   slotsAre : ℕ → Line
   heldAre : List ℕ → Line
   volumeAt : ℕ → List ℕ → Line
-  blockAt : ℕ → List ℕ → Line
-  blockIs : List ℕ → Line
+  fcbAt : ℕ → List ℕ → Line
+  fcbIs : List ℕ → Line
   bufferIs : List ℕ → Line
 
 -- what the lines show by the definitions, after a last call that left o
@@ -140,8 +140,8 @@ seenAfter o (altered v ∷ ls) =
 seenAfter o (slotsAre n ∷ ls) = (slots (o .drive .geometry) ∷ []) ∷ seenAfter o ls
 seenAfter o (heldAre l ∷ ls) = o .drive .held ∷ seenAfter o ls
 seenAfter o (volumeAt a l ∷ ls) = part (o .volume) a (length l) ∷ seenAfter o ls
-seenAfter o (blockAt a l ∷ ls) = part (o .fcb) a (length l) ∷ seenAfter o ls
-seenAfter o (blockIs l ∷ ls) = o .fcb ∷ seenAfter o ls
+seenAfter o (fcbAt a l ∷ ls) = part (o .fcb) a (length l) ∷ seenAfter o ls
+seenAfter o (fcbIs l ∷ ls) = o .fcb ∷ seenAfter o ls
 seenAfter o (bufferIs l ∷ ls) = o .buffer ∷ seenAfter o ls
 
 -- what the lines say
@@ -152,8 +152,8 @@ toldBy (altered v ∷ ls) = toldBy ls
 toldBy (slotsAre n ∷ ls) = (n ∷ []) ∷ toldBy ls
 toldBy (heldAre l ∷ ls) = l ∷ toldBy ls
 toldBy (volumeAt a l ∷ ls) = l ∷ toldBy ls
-toldBy (blockAt a l ∷ ls) = l ∷ toldBy ls
-toldBy (blockIs l ∷ ls) = l ∷ toldBy ls
+toldBy (fcbAt a l ∷ ls) = l ∷ toldBy ls
+toldBy (fcbIs l ∷ ls) = l ∷ toldBy ls
 toldBy (bufferIs l ∷ ls) = l ∷ toldBy ls
 
 -- A script: a volume, and lines that begin with it and with the closed state.
@@ -163,6 +163,29 @@ pub record Script : Type 0 where
 
 abbrev pub script : List ℕ → List Line → Script
 script volume lines = record { volume = volume; lines = lines }
+
+-- Every call that is lent a volume and a control block, and every call that is lent a transfer buffer too: each refused by
+-- the same number.
+abbrev pub lentFcb : List ℕ → ℕ → List Line
+lentFcb fcb number =
+    call (openFile fcb) (refused number)
+    ∷ call (closeFile fcb) (refused number)
+    ∷ call (delete fcb) (refused number)
+    ∷ call (make fcb) (refused number)
+    ∷ call (rename fcb) (refused number)
+    ∷ call (attributes fcb) (refused number)
+    ∷ call (size fcb) (refused number)
+    ∷ []
+
+abbrev pub lentBuffer : List ℕ → List ℕ → ℕ → List Line
+lentBuffer fcb b number =
+    call (searchFirst fcb b) (refused number)
+    ∷ call (readNext fcb b) (refused number)
+    ∷ call (writeNext fcb b) (refused number)
+    ∷ call (read fcb b) (refused number)
+    ∷ call (write fcb b) (refused number)
+    ∷ call (writeZeroFill fcb b) (refused number)
+    ∷ []
 
 abbrev pub before : List ℕ → Outcome
 before v = record { answer = Refused Closed; drive = closed; volume = v; fcb = []; buffer = [] }

@@ -7,12 +7,13 @@ use mathlib.Core.List.{List, [], _∷_, _++_}
 use Prim.Native.Nat.{ℕ}
 use lib.ListN.{replicate}
 use Rattle.disk_geometry.specs.declared.Geometry.{Geometry}
-use Rattle.examples.specs.Script.{logIn, delete, write, writeNext, writeZeroFill, done, free, refused, Line, call, altered, heldAre, volumeAt, blockIs, Script, script, seen, told}
-use Rattle.examples.specs.Samples.{sigla, lemmata, sized, entry, empty, control, fresh, recordOf, filled, old}
+use Rattle.disk_geometry.specs.Geometry.{geometryOf}
+use Rattle.examples.specs.Script.{logIn, delete, write, writeNext, writeZeroFill, done, free, refused, Line, call, altered, heldAre, volumeAt, fcbIs, Script, script, seen, told}
+use Rattle.examples.specs.Samples.{sigla, lemmata, entry, empty, control, fresh, recordOf, filled, old}
 
 -- B 1,024, T 8, D 1: seven blocks behind a directory of 32 slots
 abbrev pub seven : Geometry
-seven = sized 1024 8 1
+seven = geometryOf 1024 8 1
 
 abbrev pub shelf : List ℕ → ℕ → List ℕ
 shelf entries others = entries ++ empty others ++ old 1024 7168
@@ -29,7 +30,7 @@ onTwoFiles =
     ∷ call (write (recordOf sigla 24) (filled 7)) (done 0)
     ∷ volumeAt 0 (entry 0 sigla 0 0 25 (3 ∷ 0 ∷ 0 ∷ 5 ∷ []) ++ entry 0 lemmata 0 0 8 (4 ∷ []) ++ empty 30)
     ∷ volumeAt 1024 (old 1024 4096 ++ filled 7 ++ old 5248 2944)
-    ∷ blockIs (control sigla 0 0 25 (3 ∷ 0 ∷ 0 ∷ 5 ∷ []) 24 24)
+    ∷ fcbIs (control sigla 0 0 25 (3 ∷ 0 ∷ 0 ∷ 5 ∷ []) 24 24)
     ∷ heldAre (56 ∷ 0 ∷ 0 ∷ 0 ∷ [])
     -- places used out of order: place 1 is above block 3 of place 0, place 2 above block 6 of place 1; block 5 of place 3
     -- plays no part
@@ -98,7 +99,7 @@ onAltered =
 -- "below D": B 1,024, T 4, D 2; the free blocks from D on are all above
 abbrev pub onBelowD : List Line
 onBelowD =
-    call (logIn (sized 1024 4 2)) (free 2)
+    call (logIn (geometryOf 1024 4 2)) (free 2)
     ∷ altered (entry 0 sigla 0 0 8 (1 ∷ []) ++ empty 63 ++ old 2048 2048)
     ∷ call (write (recordOf sigla 8) (filled 7)) (done 0)
     ∷ volumeAt 0 (entry 0 sigla 0 0 9 (1 ∷ 2 ∷ []) ++ empty 63 ++ filled 7 ++ old 2176 1920)

@@ -7,10 +7,9 @@ use Prim.Native.Nat.{ℕ, zero, suc}
 use lib.ListN.{replicate, take, set}
 use Rattle.lists.specs.Bytes.{part, all}
 use Rattle.call_typing.specs.Typing.{typeableByte, blankBefore, typeable}
-use Rattle.examples.specs.Script.{logIn, openFile, closeFile, searchFirst, delete, make, rename, protect, attributes, user, read, write, size, done, free, refused, Line, call, heldAre, volumeAt, blockAt, blockIs, bufferIs, Script, script, seen, told}
-use Rattle.examples.specs.Samples.{sigla, lemmata, entry, empty, control, fresh, recordOf, renaming, filled, old}
+use Rattle.examples.specs.Script.{logIn, openFile, closeFile, searchFirst, delete, make, rename, protect, attributes, user, read, write, size, done, free, refused, Line, call, heldAre, volumeAt, fcbAt, fcbIs, bufferIs, Script, script, seen, told}
+use Rattle.examples.specs.Samples.{sigla, lemmata, from, small, disk, entry, empty, control, fresh, recordOf, renaming, filled, old}
 use Rattle.examples.specs.Table.{geometryV}
-use Rattle.examples.specs.More.{from, small, disk}
 
 -- ---- the rule
 -- of n bytes from x on, those that SIGLA.TXT can't have at a place
@@ -84,7 +83,7 @@ onTyping =
     ∷ call (rename (renaming sigla typeLater)) (refused 45)
     -- a refusal changes nothing
     ∷ volumeAt 0 (entry 0 sigla 0 0 0 [] ++ empty 31)
-    ∷ blockIs (renaming sigla typeLater)
+    ∷ fcbIs (renaming sigla typeLater)
     -- top bits are ignored: E1H is 61H, BDH is 3DH, A0H is 20H
     ∷ call (make (fresh (from 0xE1))) (refused 45)
     ∷ call (make (fresh (from 0xBD))) (refused 45)
@@ -124,10 +123,10 @@ onOld =
     ∷ heldAre (6 ∷ 0 ∷ 0 ∷ 0 ∷ [])
     -- "so such old files can still be read": opened, found, measured, closed, read
     ∷ call (openFile (fresh aEqualsB)) (done 0)
-    ∷ blockIs (control aEqualsB 0 0 1 (1 ∷ []) 0 0)
+    ∷ fcbIs (control aEqualsB 0 0 1 (1 ∷ []) 0 0)
     ∷ call (searchFirst (fresh aEqualsB) (filled 0)) (done 0)
     ∷ call (size (fresh aEqualsB)) (done 0)
-    ∷ blockAt 33 (1 ∷ 0 ∷ 0 ∷ [])
+    ∷ fcbAt 33 (1 ∷ 0 ∷ 0 ∷ [])
     ∷ call (closeFile (fresh aEqualsB)) (done 0)
     ∷ call (read (recordOf aEqualsB 0) (filled 0)) (done 0)
     ∷ bufferIs (old 1024 128)

@@ -4,7 +4,7 @@ use mathlib.Core.Path.{_≡_, refl}
 use mathlib.Core.List.{List, [], _∷_, _++_}
 use Prim.Native.Nat.{ℕ}
 use lib.ListN.{replicate}
-use Rattle.examples.specs.Script.{logIn, delete, make, read, write, writeZeroFill, done, free, refused, Line, call, heldAre, volumeAt, blockIs, bufferIs, Script, script, seen, told}
+use Rattle.examples.specs.Script.{logIn, delete, make, read, write, writeZeroFill, done, free, refused, Line, call, heldAre, volumeAt, fcbIs, bufferIs, Script, script, seen, told}
 use Rattle.examples.specs.Samples.{sigla, lemmata, entry, empty, control, fresh, recordOf, filled, old}
 use Rattle.examples.specs.Table.{geometryV, volumeV, geometry2048, volume2048, block1in12, geometryFull, volumeFull, extentsFrom}
 
@@ -26,7 +26,7 @@ onUsed =
     ∷ volumeAt 0 (entry 0 lemmata 0 0 6 (1 ∷ []) ++ empty 31)
     ∷ volumeAt 1024 (zeros 640 ++ filled 8 ++ zeros 256 ++ old 2048 1024)
     ∷ heldAre (2 ∷ 0 ∷ 0 ∷ 0 ∷ [])
-    ∷ blockIs (control lemmata 0 0 6 (1 ∷ []) 5 5)
+    ∷ fcbIs (control lemmata 0 0 6 (1 ∷ []) 5 5)
     ∷ bufferIs (filled 8)
     -- "where they count as present": record 4 does, record 6 does not
     ∷ call (read (recordOf lemmata 4) (filled 1)) (done 0)
@@ -54,7 +54,7 @@ onSixteen =
     ∷ call (writeZeroFill (recordOf lemmata 200) (filled 7)) (done 0)
     ∷ volumeAt 0 (entry 0 lemmata 1 0 73 block1in12 ++ empty 63)
     ∷ volumeAt 2048 (zeros 1024 ++ filled 7 ++ zeros 896 ++ old 4096 2048)
-    ∷ blockIs (control lemmata 1 0 73 block1in12 72 200)
+    ∷ fcbIs (control lemmata 1 0 73 block1in12 72 200)
     ∷ []
 
 -- a refusal fills nothing
