@@ -1,0 +1,2 @@
+-- A number that is not served, evaluated.
+pub mod Examples

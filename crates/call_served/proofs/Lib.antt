@@ -1,0 +1,2 @@
+-- The numbers of the calls, evaluated.
+pub mod Examples
