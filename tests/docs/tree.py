@@ -1,4 +1,5 @@
-"""What the tree has: crates, files, definitions and theorems, functions and types of the code, edits that must be refused."""
+"""What the tree has: crates, files, definitions and theorems, functions and types of the code and the names of the header, edits that
+must be refused."""
 import re
 from pathlib import Path
 
@@ -24,6 +25,8 @@ class Tree:
         self.definitions = set().union(*self.defined.values())
         text = "\n".join(self.sources.values())
         self.code = {name for pattern in (FUNCTION, DECLARED, VARIANT, FIELD) for name in pattern.findall(text)}
+        header = (ROOT / "include/churawel.h").read_text()
+        self.code |= set(re.findall(r"\b(?:churawel|CHURAWEL)_\w+", header))
         self.modules = {file.stem for file in (*self.defined, *self.sources)}
 
     def path(self, word):
