@@ -17,9 +17,6 @@ use Rattle.call_delete.proofs.delete_why.Tie as tie
 slots-requires : tie.Need-slots-requires
 slots-requires c κs = search needs
 
-find-requires : tie.Need-find-requires
-find-requires c κs = search needs
-
 find-from-requires : tie.Need-find-from-requires
 find-from-requires c κs = search needs
 
@@ -45,7 +42,6 @@ delete-why-spec =
     tie.close
     (tie.spec
     slots-requires
-    find-requires
     find-from-requires
     refuse-requires
     refuse-requires-2
