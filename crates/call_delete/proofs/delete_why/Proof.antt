@@ -32,10 +32,11 @@ first-of-requires c κs = search needs
 returns : tie.Need-returns
 unfolding deleteTests
 returns c =
-    let a = c .before .before .before .before .before .before .before .before .args in
+    let s = c .before .before .before .before .before .before .before in
+    let a = s .args in
     let v = now (a .volume) in
     let p = strip (now (a .pattern)) in
-    rw (← ladder-two NoMatch ReadOnly (leb (slots (a .g)) (findSlot (a .g) v (a .user) p Match)) (ltb (findSlot (a .g) v (a .user) p ReadOnlyMatch) (slots (a .g))) refl, read-only-match-from (a .g) v (a .user) p, ← c .before .before .before .before .find .ensures .0, ← c .before .before .before .find-from .ensures .0, ← c .before .before .before .before .before .slots .ensures .0, ← c .before .before .refuse .ensures, ← c .before .refuse2 .ensures) (c .first-of .ensures)
+    rw (← ladder-two NoMatch ReadOnly (leb (slots (a .g)) (findSlot (a .g) v (a .user) p Match)) (ltb (findSlot (a .g) v (a .user) p ReadOnlyMatch) (slots (a .g))) refl, read-only-match-from (a .g) v (a .user) p, ← s .pre .1 .0, ← c .before .before .before .find-from .ensures .0, ← c .before .before .before .before .slots .ensures .0, ← c .before .before .refuse .ensures, ← c .before .refuse2 .ensures) (c .first-of .ensures)
 
 pub delete-why-spec : {M : Type 1} → statement M
 delete-why-spec =
