@@ -44,12 +44,15 @@ pub fn like_name(name: &[u8], pattern: &[u8]) -> bool
     true
 }
 
-// Is the name within the byte rule? 3FH passes in a pattern. No byte is a reason to stop, so that several are looked at at
-// once.
+// Is the name within the byte rule? 3FH passes in a pattern. After the first no byte is a reason to stop, so that several are
+// looked at at once.
 pub fn good_name(pattern: bool, name: &[u8]) -> bool
     requires { ⌜ IsName (now name) ⌝ }
     ensures { λ r. ⌜ r ≡ goodName pattern (strip (now (name .entry))) ⌝ }
 {
+    if name[0] % TOP_BIT == BLANK {
+        return false;
+    }
     let mut printable = true;
     let mut plain = true;
     let mut k = 0;
@@ -59,5 +62,5 @@ pub fn good_name(pattern: bool, name: &[u8]) -> bool
         plain = plain & (x != WILDCARD);
         k += 1;
     }
-    printable & (pattern | plain) & (name[0] % TOP_BIT != BLANK)
+    printable & (pattern | plain)
 }

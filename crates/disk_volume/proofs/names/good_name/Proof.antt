@@ -1,4 +1,8 @@
--- What was gathered of the bytes passed so far, with what is left, decides; and then the first byte.
+-- The first byte may decide; else what was gathered of the bytes passed so far, with what is left.
+use Prim.Native.Nat.{_%_}
+use Rattle.lists.specs.Bytes.{byte}
+use borrow.Author.Tests.{eq-eqb, ne-eqb}
+use mathlib.Core.Bool.{and-true, and-false}
 use mathlib.Core.Path.{sym, _∙_}
 use Prim.Native.Nat.{_≤_, _-_}
 use denote.Ref.{now}
@@ -12,6 +16,14 @@ Inv-loop pattern name printable₀ plain₀ k₀ printable plain k = (k ≤ 11) 
 
 abbrev μ-loop : tie.MeasureT-loop
 μ-loop pattern name printable₀ plain₀ k₀ printable plain k = 11 - k
+
+shared-slice-read-if1 : tie.Need-shared-slice-read-if1 Inv-loop μ-loop
+shared-slice-read-if1 c = search needs
+
+returns : tie.Need-returns Inv-loop μ-loop
+returns c =
+    let a = c .before .before .args in
+    sym (good-places 11 (a .pattern) (now (a .name)) (search needs) ∙ rw (eq-eqb (byte (now (a .name)) 0 % 128) 32 (c .if1 .taken), and-false))
 
 loop-holds : tie.Need-loop-holds Inv-loop μ-loop
 loop-holds c = (search needs, (gathered-start, gathered-start))
@@ -28,14 +40,12 @@ loop-less c = search needs
 loop-again : tie.Need-loop-again Inv-loop μ-loop
 loop-again c = (search needs, (gathered-next (c .before .before .loop .inv .1 .0) (search needs), gathered-next (c .before .before .loop .inv .1 .1) (search needs)))
 
-shared-slice-read-result : tie.Need-shared-slice-read-result Inv-loop μ-loop
-shared-slice-read-result c = search needs
-
-returns : tie.Need-returns Inv-loop μ-loop
-returns c =
-    let l = c .before .before in
-    sym (good-places 11 (l .before .args .pattern) (now (l .before .args .name)) (search needs)
-    ∙ rw (gathered-end (l .loop .inv .1 .0) (search needs), gathered-end (l .loop .inv .1 .1) (search needs)))
+returns-2 : tie.Need-returns-2 Inv-loop μ-loop
+returns-2 c =
+    let l = c .before in
+    let a = l .before .before .before .args in
+    sym (good-places 11 (a .pattern) (now (a .name)) (search needs)
+    ∙ rw (gathered-end (l .loop .inv .1 .0) (search needs), gathered-end (l .loop .inv .1 .1) (search needs), ne-eqb (byte (now (a .name)) 0 % 128) 32 (l .before .if1 .left)) (and-true _))
 
 pub good-name-spec : {M : Type 1} → statement M
 good-name-spec =
@@ -43,10 +53,11 @@ good-name-spec =
     (tie.spec
     Inv-loop
     μ-loop
+    shared-slice-read-if1
+    returns
     loop-holds
     shared-slice-read-x
     add-k
     loop-less
     loop-again
-    shared-slice-read-result
-    returns)
+    returns-2)
