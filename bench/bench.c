@@ -1,7 +1,9 @@
 // The benchmark: the proved calls through churawel.h beside the same work in plain C (plain.c), in tables for people.
-// Times are the processor's, the median of several rounds in which both sides take turns. `bench ratios` prints ratios only.
+// Times are the processor's, the median of several rounds in which both sides take turns. `bench bytes` takes no
+// time, and only compares what both sides leave.
 #define _POSIX_C_SOURCE 200809L
 #include "churawel.h"
+#include "jobs.h"
 #include "pass.h"
 #include "plain.h"
 #include "shelf.h"
@@ -15,9 +17,6 @@ enum { ROUNDS = 11, OURS = 0, PLAIN = 1 };
 
 static const struct side sides[2] = {{churawel_log_in, churawel_call}, {plain_log_in, plain_call}};
 
-static struct shelf full, work;
-static struct desk desk;
-static int ratios_only;
 static int differing;
 
 static double seconds(void)
@@ -60,9 +59,6 @@ struct measured {
     double ours, plain, ratio;
 };
 
-// One piece of work, timed: it is given the side and how often to do it, and the time counts for one.
-typedef void job(const struct side *, unsigned);
-
 // Two pieces of work, each on its side, in turns.
 static struct measured in_turns(const struct side *const side[2], void (*before)(const struct side *), job *const jobs[2],
                                 unsigned times)
@@ -89,151 +85,6 @@ static struct measured measure(void (*before)(const struct side *), job *same, u
     return in_turns(both, before, jobs, times);
 }
 
-// ---- the jobs
-
-static void log_in_work(const struct side *side)
-{
-    memset(&desk, 0, sizeof desk);
-    uint32_t answer =
-        side->log_in(work.block, work.total, work.directory, work.volume, work.bytes, desk.drive, sizeof desk.drive);
-    if ((answer & 0xFFFF) != 0) {
-        puts("the volume is refused");
-        exit(1);
-    }
-}
-
-static void start_anew(const struct side *side)
-{
-    work = full;
-    log_in_work(side);
-}
-
-static volatile uint64_t sink;
-
-static void pass_job(const struct side *side, unsigned times)
-{
-    while (times-- > 0)
-        sink += replacement_pass(side, &work, &desk, 0);
-}
-
-static void log_in_job(const struct side *side, unsigned times)
-{
-    while (times-- > 0)
-        sink += side->log_in(work.block, work.total, work.directory, work.volume, work.bytes, desk.drive, sizeof desk.drive);
-}
-
-static uint8_t job_function;
-
-static void call_job(const struct side *side, unsigned times)
-{
-    while (times-- > 0)
-        sink += side->call(job_function, 0, desk.drive, sizeof desk.drive, work.volume, work.bytes, desk.fcb, sizeof desk.fcb,
-                           desk.buffer, sizeof desk.buffer);
-}
-
-static uint8_t *last_entry(void)
-{
-    return work.volume + (size_t)(work.slots - 1) * ENTRY;
-}
-
-// The control block of a call on record n of the last file, whose entry is in the last slot.
-static void at_record(uint32_t n)
-{
-    memcpy(desk.fcb + 1, last_entry() + 1, NAME);
-    desk.fcb[33] = (uint8_t)n;
-    desk.fcb[34] = (uint8_t)(n >> 8);
-}
-
-static uint32_t last_extent(void)
-{
-    return 32u * last_entry()[14] + last_entry()[12];
-}
-
-// On the last record of the last file.
-static void start_at_end(const struct side *side)
-{
-    start_anew(side);
-    at_record(128 * last_extent() + last_entry()[15] - 1);
-}
-
-// The sequential position of the sixteenth record from the end of the last file.
-static void start_at_sixteen(const struct side *side)
-{
-    start_at_end(side);
-    uint32_t n = desk.fcb[33] + 256u * desk.fcb[34] - (SEVERAL - 1);
-    desk.fcb[12] = n / 128 % 32;
-    desk.fcb[14] = (uint8_t)(n / 128 / 32);
-    desk.fcb[32] = n % 128;
-}
-
-// Sixteen records by one call, and by sixteen calls; the position is put back each time.
-static void sixteen_job(const struct side *side, unsigned times)
-{
-    uint8_t fcb[sizeof desk.fcb];
-    memcpy(fcb, desk.fcb, sizeof fcb);
-    while (times-- > 0) {
-        memcpy(desk.fcb, fcb, sizeof fcb);
-        sink += side->call(job_function == 20 ? 220 : 221, SEVERAL, desk.drive, sizeof desk.drive, work.volume, work.bytes, desk.fcb,
-                           sizeof desk.fcb, desk.pieces, sizeof desk.pieces);
-    }
-}
-
-static void singles_job(const struct side *side, unsigned times)
-{
-    uint8_t fcb[sizeof desk.fcb];
-    memcpy(fcb, desk.fcb, sizeof fcb);
-    while (times-- > 0) {
-        memcpy(desk.fcb, fcb, sizeof fcb);
-        for (size_t i = 0; i < SEVERAL; i++)
-            sink += side->call(job_function, 0, desk.drive, sizeof desk.drive, work.volume, work.bytes, desk.fcb, sizeof desk.fcb,
-                               desk.pieces + i * RECORD, RECORD);
-    }
-}
-
-// The control block of a call on a file that isn't there.
-static void start_at_nothing(const struct side *side)
-{
-    start_anew(side);
-    memcpy(desk.fcb + 1, "BAND9999TXT", NAME);
-}
-
-// A write that takes a block: for this place of the last entry, whose map has nothing else but, in a lower place (none where it
-// is the same), the block that it began with or the highest of the disk, which has no free one above it; on the nearly full
-// disk, or where no other entry has a block.
-struct taking {
-    uint32_t place, lower;
-    int highest, alone;
-};
-
-static const struct taking *taking;
-static uint8_t drive_before[64], entry_before[ENTRY];
-
-static void start_taking(const struct side *side)
-{
-    work = full;
-    uint8_t *map = last_entry() + MAP, first = map[0];
-    memset(map, 0, PLACES);
-    for (uint32_t slot = 0; taking->alone && slot < work.slots; slot++)
-        memset(work.volume + (size_t)slot * ENTRY + MAP, 0, PLACES);
-    if (taking->lower < taking->place)
-        map[taking->lower] = taking->highest ? (uint8_t)(work.total - 1) : first;
-    log_in_work(side);
-    at_record((last_extent() / (work.block / 1024) * PLACES + taking->place) * (work.block / RECORD));
-    memcpy(drive_before, desk.drive, sizeof desk.drive);
-    memcpy(entry_before, last_entry(), ENTRY);
-}
-
-// Drive and entry are put back each time, so that every write takes a block.
-static void taking_job(const struct side *side, unsigned times)
-{
-    while (times-- > 0) {
-        memcpy(desk.drive, drive_before, sizeof desk.drive);
-        memcpy(last_entry(), entry_before, ENTRY);
-        sink += side->call(34, 0, desk.drive, sizeof desk.drive, work.volume, work.bytes, desk.fcb, sizeof desk.fcb,
-                           desk.buffer, sizeof desk.buffer);
-    }
-}
-
 // ---- the tables
 
 static int check_pass(void)
@@ -248,25 +99,20 @@ static int check_pass(void)
     return sum[OURS] == sum[PLAIN];
 }
 
-static double worst_ratio, least_calls = 1e18;
+static double least_calls = 1e18;
 
 static void pass_table(void)
 {
     puts("Replacement pass: 40,000 calls on a nearly full volume of 1 MiB (256 blocks of 4,096 bytes)\n");
-    puts(ratios_only ? "  slots   ratio   answers and bytes"
-                     : "  slots   proved, calls/s   plain C, calls/s   ratio   answers and bytes");
+    puts("  slots   proved, calls/s   plain C, calls/s   ratio   answers and bytes");
     for (uint32_t directory = 2; directory <= 16; directory *= 2) {
         fill_shelf(&full, 4096, directory);
         int same = check_pass();
         struct measured m = measure(start_anew, pass_job, 1);
         print_number(full.slots, 7);
-        if (!ratios_only) {
-            print_number(PASS_CALLS / m.ours, 18);
-            print_number(PASS_CALLS / m.plain, 19);
-        }
+        print_number(PASS_CALLS / m.ours, 18);
+        print_number(PASS_CALLS / m.plain, 19);
         printf("   %5.2f   %s\n", m.ratio, same ? "equal" : "DIFFERENT");
-        if (m.ratio > worst_ratio)
-            worst_ratio = m.ratio;
         if (PASS_CALLS / m.ours < least_calls)
             least_calls = PASS_CALLS / m.ours;
     }
@@ -275,14 +121,13 @@ static void pass_table(void)
 static void log_in_table(void)
 {
     puts("\nLog-in of a full directory\n");
-    puts(ratios_only ? "  slots   ratio" : "  slots   proved, us   plain C, us   ratio");
+    puts("  slots   proved, us   plain C, us   ratio");
     for (uint32_t directory = 2; directory <= 16; directory *= 2) {
         fill_shelf(&full, 4096, directory);
         fill_directory(&full);
         struct measured m = measure(start_anew, log_in_job, 65536 / full.slots);
         print_number(full.slots, 7);
-        if (!ratios_only)
-            printf("   %10.1f   %11.1f", m.ours * 1e6, m.plain * 1e6);
+        printf("   %10.1f   %11.1f", m.ours * 1e6, m.plain * 1e6);
         printf("   %5.2f\n", m.ratio);
     }
 }
@@ -291,9 +136,8 @@ static void log_in_table(void)
 static void cell(void (*before)(const struct side *), void (*job)(const struct side *, unsigned))
 {
     struct measured m = measure(before, job, 2000000 / (full.slots + 100));
-    if (!ratios_only)
-        print_number(m.ours * 1e9, 9);
-    printf(ratios_only ? "%10.2f" : "%6.2f", m.ratio);
+    print_number(m.ours * 1e9, 9);
+    printf("%6.2f", m.ratio);
 }
 
 static void call_cell(void (*before)(const struct side *), uint8_t function)
@@ -308,13 +152,11 @@ static const uint32_t shapes[][2] = {{1024, 1}, {2048, 1}, {4096, 1}, {4096, 2},
 static void growth_table(void)
 {
     puts("\nOne call as the directory grows: on a record whose entry is in the last slot; open of a file that isn't there\n");
-    puts(ratios_only ? "  slots      read   rewrite      size      open   (ratios)"
-                     : "  slots    read, ns ratio   rewrite ratio      size ratio      open ratio");
+    puts("  slots    read, ns ratio   rewrite ratio      size ratio      open ratio");
     for (size_t i = 0; i < sizeof shapes / sizeof *shapes; i++) {
         fill_shelf(&full, shapes[i][0], shapes[i][1]);
         print_number(full.slots, 7);
-        if (!ratios_only)
-            printf("  ");
+        printf("  ");
         call_cell(start_at_end, 33);
         call_cell(start_at_end, 34);
         call_cell(start_at_end, 35);
@@ -340,21 +182,23 @@ static int check_taking(void)
     return same;
 }
 
+// For the first place; for the next; fifteen places above the used one, with a free block above, and with free ones only below;
+// on the nearly full disk, and where no other file has a block.
+static const struct taking takings[] = {{0, 0, 0, 0}, {1, 0, 0, 0}, {15, 0, 0, 0}, {15, 0, 1, 0},
+                                        {0, 0, 0, 1}, {1, 0, 0, 1}, {15, 0, 0, 1}, {15, 0, 1, 1}};
+
 static void taking_table(const char *where, int alone)
 {
-    const struct taking takings[] = {{0, 0, 0, alone}, {1, 0, 0, alone}, {15, 0, 0, alone}, {15, 0, 1, alone}};
     printf("\nA write that takes a block, %s: for the first place; for the next;\n"
            "fifteen places above the used one, with a free block above; the same with free blocks only below\n\n", where);
-    puts(ratios_only ? "  slots     first      next       gap     below   (ratios)   bytes"
-                     : "  slots   first, ns ratio      next ratio       gap ratio     below ratio   bytes");
+    puts("  slots   first, ns ratio      next ratio       gap ratio     below ratio   bytes");
     for (size_t i = 0; i < sizeof shapes / sizeof *shapes; i++) {
         int same = 1;
         fill_shelf(&full, shapes[i][0], shapes[i][1]);
         print_number(full.slots, 7);
-        if (!ratios_only)
-            printf("  ");
-        for (size_t k = 0; k < sizeof takings / sizeof *takings; k++) {
-            taking = &takings[k];
+        printf("  ");
+        for (size_t k = 0; k < 4; k++) {
+            taking = &takings[4 * alone + k];
             same &= check_taking();
             cell(start_taking, taking_job);
         }
@@ -388,8 +232,7 @@ static void sixteen_table(void)
     static const struct side *const ours[2] = {&sides[OURS], &sides[OURS]};
     static job *const jobs[2] = {sixteen_job, singles_job};
     puts("\nSixteen records: one call of sixteen beside sixteen single calls (ratio: where the single calls are 1)\n");
-    puts(ratios_only ? "  slots      read     write   what is left"
-                     : "  slots   read, one us   single us   ratio   write, one us   single us   ratio   what is left");
+    puts("  slots   read, one us   single us   ratio   write, one us   single us   ratio   what is left");
     for (uint32_t directory = 2; directory <= 16; directory *= 2) {
         fill_shelf(&full, 4096, directory);
         print_number(full.slots, 7);
@@ -398,34 +241,53 @@ static void sixteen_table(void)
             job_function = function;
             same &= check_sixteen();
             struct measured m = in_turns(ours, start_at_sixteen, jobs, 200000 / (full.slots + 100));
-            if (!ratios_only)
-                printf("   %12.1f   %9.1f", m.ours * 1e6, m.plain * 1e6);
-            printf(ratios_only ? "%10.2f" : "   %5.2f", m.ratio);
+            printf("   %12.1f   %9.1f   %5.2f", m.ours * 1e6, m.plain * 1e6, m.ratio);
         }
         printf("   %s\n", same ? "equal" : "DIFFERENT");
     }
 }
 
-int main(int count, char **words)
+// What both sides leave, without times.
+static void compare_bytes(void)
 {
-    ratios_only = count > 1 && strcmp(words[1], "ratios") == 0;
-    printf("Ratio: the time of the proved calls, where that of plain C (gcc -O2) is 1. Median of %d rounds, in turns.\n", ROUNDS);
-    if (ratios_only)
-        puts("This processor runs x86-64 programs under an emulator: a time would say nothing, so only ratios are printed.");
-    putchar('\n');
+    for (size_t i = 0; i < sizeof shapes / sizeof *shapes; i++) {
+        fill_shelf(&full, shapes[i][0], shapes[i][1]);
+        int same = check_pass();
+        for (size_t k = 0; k < sizeof takings / sizeof *takings; k++) {
+            taking = &takings[k];
+            same &= check_taking();
+        }
+        for (uint8_t function = 20; function <= 21; function++) {
+            job_function = function;
+            same &= check_sixteen();
+        }
+        printf("%5u slots: a pass of 40,000 calls, writes that take a block and sixteen records leave %s\n", full.slots,
+               same ? "the same" : "DIFFERENT BYTES");
+    }
+}
+
+static void all_tables(void)
+{
+    printf("Ratio: the time of the proved calls, where that of plain C (gcc -O2) is 1. Median of %d rounds, in turns.\n\n", ROUNDS);
     pass_table();
     log_in_table();
     growth_table();
     taking_table("on the nearly full disk", 0);
     taking_table("where no other file has a block", 1);
     sixteen_table();
-    printf("\nAim in the pass: a ratio of at most 1.30 (%.2f at worst: %s)", worst_ratio, worst_ratio <= 1.3 ? "met" : "MISSED");
-    if (!ratios_only) {
-        printf(", at least 90,000 calls a second (");
-        print_number(least_calls, 0);
-        printf(" at worst: %s)", least_calls >= 90000 ? "met" : "MISSED");
+    printf("\nAt least 90,000 calls a second in the pass: ");
+    print_number(least_calls, 0);
+    printf(" at worst, %s.\n", least_calls >= 90000 ? "met" : "MISSED");
+}
+
+int main(int count, char **words)
+{
+    if (count > 1 && strcmp(words[1], "bytes") == 0) {
+        puts("This processor runs x86-64 programs under an emulator: a time would say nothing, so none is taken.");
+        compare_bytes();
+    } else {
+        all_tables();
     }
-    puts(".");
     if (differing > 0)
         puts("FAILED: two ways differ in answers or bytes.");
     return differing > 0;

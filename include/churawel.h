@@ -33,27 +33,27 @@ extern "C" {
 
 /* The functions that are served; any other number is refused by 31. */
 enum {
-    CHURAWEL_RESET = 13,            /* log-in with the drive's own geometry */
-    CHURAWEL_OPEN = 15,
-    CHURAWEL_CLOSE = 16,
-    CHURAWEL_SEARCH_FIRST = 17,
-    CHURAWEL_SEARCH_NEXT = 18,
-    CHURAWEL_DELETE = 19,
-    CHURAWEL_READ_SEQUENTIAL = 20,
-    CHURAWEL_WRITE_SEQUENTIAL = 21,
-    CHURAWEL_MAKE = 22,
-    CHURAWEL_RENAME = 23,
-    CHURAWEL_WRITE_PROTECT = 28,
-    CHURAWEL_ATTRIBUTES = 30,
-    CHURAWEL_USER = 32,             /* the parameter is the code, 255 to ask for it */
-    CHURAWEL_READ_RANDOM = 33,
-    CHURAWEL_WRITE_RANDOM = 34,
-    CHURAWEL_SIZE = 35,
-    CHURAWEL_SET_RANDOM = 36,
-    CHURAWEL_RESET_DRIVE = 37,      /* as 13 */
-    CHURAWEL_WRITE_ZERO_FILL = 40,  /* as 34, but a block given for the first time is first filled with zeros */
-    CHURAWEL_READ_SEVERAL = 220,    /* as 20 for k records, 1..16: the parameter is k, the buffer k times 128 bytes */
-    CHURAWEL_WRITE_SEVERAL = 221    /* as 21, likewise */
+    CHURAWEL_FN_RESET = 13,                 /* log-in with the drive's own geometry */
+    CHURAWEL_FN_OPEN = 15,
+    CHURAWEL_FN_CLOSE = 16,
+    CHURAWEL_FN_SEARCH_FIRST = 17,
+    CHURAWEL_FN_SEARCH_NEXT = 18,
+    CHURAWEL_FN_DELETE = 19,
+    CHURAWEL_FN_READ_SEQUENTIAL = 20,
+    CHURAWEL_FN_WRITE_SEQUENTIAL = 21,
+    CHURAWEL_FN_MAKE = 22,
+    CHURAWEL_FN_RENAME = 23,
+    CHURAWEL_FN_WRITE_PROTECT = 28,
+    CHURAWEL_FN_ATTRIBUTES = 30,
+    CHURAWEL_FN_USER = 32,                  /* the parameter is the code, 255 to ask for it */
+    CHURAWEL_FN_READ_RANDOM = 33,
+    CHURAWEL_FN_WRITE_RANDOM = 34,
+    CHURAWEL_FN_SIZE = 35,
+    CHURAWEL_FN_SET_RANDOM = 36,
+    CHURAWEL_FN_RESET_DRIVE = 37,           /* as 13 */
+    CHURAWEL_FN_WRITE_ZERO_FILL = 40,       /* as 34, but a block given for the first time is first filled with zeros */
+    CHURAWEL_FN_READ_SEVERAL = 220,         /* as 20 for k records, 1..16: the parameter is k, the buffer k times 128 bytes */
+    CHURAWEL_FN_WRITE_SEVERAL = 221         /* as 21, likewise */
 };
 
 /*
@@ -62,29 +62,29 @@ enum {
  * has the number that stopped it, and what was done before the stop stays done; it is a refusal where the value is 0.
  */
 enum {
-    CHURAWEL_NOT_SERVED = 31,       /* a function that is not served */
-    CHURAWEL_CLOSED = 32,           /* geometry outside the rules, or (not log-in) closed state */
-    CHURAWEL_VOLUME_LENGTH = 33,    /* length of volume */
-    CHURAWEL_FCB_LENGTH = 34,       /* control block not 36 */
-    CHURAWEL_COUNT = 46,            /* several records: not 1..16 of them */
-    CHURAWEL_BUFFER_LENGTH = 35,    /* transfer buffer not 128 (several records: not 128 for each) */
-    CHURAWEL_DRIVE_CODE = 42,       /* dr not 0 or 1 (search: 63 also) */
-    CHURAWEL_USER_CODE = 44,        /* user 16..254 */
-    CHURAWEL_NAME = 39,             /* a name outside the byte rule */
-    CHURAWEL_UNTYPEABLE = 45,       /* make, rename: a (new) name that can't be typed */
-    CHURAWEL_POSITION = 40,         /* ex, s2 or cr too large where used */
-    CHURAWEL_BEYOND = 6,            /* random: r2 not 0; sequential reads and writes: position 65,536 */
-    CHURAWEL_BAD_SLOT = 36,         /* log-in only: a slot is bad; the lowest such slot is the value */
-    CHURAWEL_PROTECTED = 37,        /* protected: delete, make, rename, attributes, writes */
-    CHURAWEL_NO_MATCH = 255,        /* no match, no search open, or (make) no slot is empty */
-    CHURAWEL_NO_FILE = 3,           /* reads, writes: the user has no entry of that name */
-    CHURAWEL_READ_ONLY = 38,        /* writes, rename, delete: an entry is read-only */
-    CHURAWEL_EXISTS = 43,           /* make, rename: the (new) name exists */
-    CHURAWEL_NO_GROUP = 4,          /* random read: the group has no entry */
-    CHURAWEL_ABSENT = 1,            /* reads: record not present */
-    CHURAWEL_OUTSIDE = 41,          /* reads, writes: the map names a block outside the data blocks */
-    CHURAWEL_NO_SLOT = 5,           /* writes: a group is missing and no slot is empty */
-    CHURAWEL_NO_BLOCK = 2           /* writes: a block is needed and none is free */
+    CHURAWEL_REFUSED_NOT_SERVED = 31,       /* a function that is not served */
+    CHURAWEL_REFUSED_CLOSED = 32,           /* geometry outside the rules, or (not log-in) closed state */
+    CHURAWEL_REFUSED_VOLUME_LENGTH = 33,    /* length of volume */
+    CHURAWEL_REFUSED_FCB_LENGTH = 34,       /* control block not 36 */
+    CHURAWEL_REFUSED_COUNT = 46,            /* several records: not 1..16 of them */
+    CHURAWEL_REFUSED_BUFFER_LENGTH = 35,    /* transfer buffer not 128 (several records: not 128 for each) */
+    CHURAWEL_REFUSED_DRIVE_CODE = 42,       /* dr not 0 or 1 (search: 63 also) */
+    CHURAWEL_REFUSED_USER_CODE = 44,        /* user 16..254 */
+    CHURAWEL_REFUSED_NAME = 39,             /* a name outside the byte rule */
+    CHURAWEL_REFUSED_UNTYPEABLE = 45,       /* make, rename: a (new) name that can't be typed */
+    CHURAWEL_REFUSED_POSITION = 40,         /* ex, s2 or cr too large where used */
+    CHURAWEL_REFUSED_BEYOND = 6,            /* random: r2 not 0; sequential reads and writes: position 65,536 */
+    CHURAWEL_REFUSED_BAD_SLOT = 36,         /* log-in only: a slot is bad; the lowest such slot is the value */
+    CHURAWEL_REFUSED_PROTECTED = 37,        /* protected: delete, make, rename, attributes, writes */
+    CHURAWEL_REFUSED_NO_MATCH = 255,        /* no match, no search open, or (make) no slot is empty */
+    CHURAWEL_REFUSED_NO_FILE = 3,           /* reads, writes: the user has no entry of that name */
+    CHURAWEL_REFUSED_READ_ONLY = 38,        /* writes, rename, delete: an entry is read-only */
+    CHURAWEL_REFUSED_EXISTS = 43,           /* make, rename: the (new) name exists */
+    CHURAWEL_REFUSED_NO_GROUP = 4,          /* random read: the group has no entry */
+    CHURAWEL_REFUSED_ABSENT = 1,            /* reads: record not present */
+    CHURAWEL_REFUSED_OUTSIDE = 41,          /* reads, writes: the map names a block outside the data blocks */
+    CHURAWEL_REFUSED_NO_SLOT = 5,           /* writes: a group is missing and no slot is empty */
+    CHURAWEL_REFUSED_NO_BLOCK = 2           /* writes: a block is needed and none is free */
 };
 
 /*
@@ -108,6 +108,46 @@ uint32_t churawel_call(
     uint8_t *volume, size_t volume_bytes,
     uint8_t *fcb, size_t fcb_bytes,
     uint8_t *buffer, size_t buffer_bytes);
+
+/* Did the call of this function succeed? A number alone does not say so: 2 is a directory code of 15 and a refusal of 34. */
+static inline int churawel_succeeded(uint8_t function, uint32_t answer)
+{
+    switch (function) {
+    case CHURAWEL_FN_OPEN:
+    case CHURAWEL_FN_CLOSE:
+    case CHURAWEL_FN_SEARCH_FIRST:
+    case CHURAWEL_FN_SEARCH_NEXT:
+    case CHURAWEL_FN_MAKE:
+        return CHURAWEL_NUMBER(answer) <= 3;
+    case CHURAWEL_FN_USER:
+        return CHURAWEL_NUMBER(answer) <= 15;
+    case CHURAWEL_FN_READ_SEVERAL:
+    case CHURAWEL_FN_WRITE_SEVERAL:
+        return CHURAWEL_VALUE(answer) > 0;
+    default:
+        return CHURAWEL_NUMBER(answer) == 0;
+    }
+}
+
+/*
+ * What a program of CP/M-86 finds in AL: of reads and writes the number itself, where anything but 0 is a failure; of every
+ * other call its code where it succeeded, and 255 where it was refused, since that is what programs compare with.
+ */
+static inline uint8_t churawel_al(uint8_t function, uint32_t answer)
+{
+    switch (function) {
+    case CHURAWEL_FN_READ_SEQUENTIAL:
+    case CHURAWEL_FN_WRITE_SEQUENTIAL:
+    case CHURAWEL_FN_READ_RANDOM:
+    case CHURAWEL_FN_WRITE_RANDOM:
+    case CHURAWEL_FN_WRITE_ZERO_FILL:
+    case CHURAWEL_FN_READ_SEVERAL:
+    case CHURAWEL_FN_WRITE_SEVERAL:
+        return (uint8_t)CHURAWEL_NUMBER(answer);
+    default:
+        return churawel_succeeded(function, answer) ? (uint8_t)CHURAWEL_NUMBER(answer) : 255;
+    }
+}
 
 #ifdef __cplusplus
 }

@@ -49,3 +49,16 @@ compile() {
     shift
     $CC $FLAGS "$@" "$ARCHIVE" -o "$program"
 }
+
+# compile_cpp PROGRAM SOURCE: the same source as C++; linked as C is, since it uses nothing of C++'s library.
+compile_cpp() {
+    local cxx=g++
+    if [ "$EMULATED" = yes ]; then
+        cxx=x86_64-linux-gnu-g++
+        need $cxx g++-x86-64-linux-gnu
+    else
+        need $cxx g++
+    fi
+    $cxx -std=c++17 -O2 -Wall -Wextra -pedantic -Iinclude -x c++ -c "$2" -o "$1.o"
+    $CC "$1.o" "$ARCHIVE" -o "$1"
+}

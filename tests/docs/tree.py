@@ -1,4 +1,5 @@
-"""What the tree has: crates, files, definitions and theorems, functions and types of the code, edits that must be refused."""
+"""What the tree has: crates, files, definitions and theorems, functions and types of the code and the names of the header, edits that
+must be refused."""
 import re
 from pathlib import Path
 
@@ -24,14 +25,18 @@ class Tree:
         self.definitions = set().union(*self.defined.values())
         text = "\n".join(self.sources.values())
         self.code = {name for pattern in (FUNCTION, DECLARED, VARIANT, FIELD) for name in pattern.findall(text)}
+        header = (ROOT / "include/churawel.h").read_text()
+        self.code |= set(re.findall(r"\b(?:churawel|CHURAWEL)_\w+", header))
         self.modules = {file.stem for file in (*self.defined, *self.sources)}
 
     def path(self, word):
-        """the file or folder that a word with a stroke names, if there is one; the folder crates and an ending may be left out"""
-        for folder in (ROOT, CRATES):
+        """the file or folder that a word with a stroke names, if there is one; the folder crates and an ending may be left out,
+        and ROOM/FILE is a file of definitions"""
+        room, _, rest = word.partition("/")
+        for folder, inside in ((ROOT, word), (CRATES, word), (CRATES / room / "specs", rest)):
             for ending in ("", ".antt", ".rt"):
-                if (folder / (word + ending)).exists():
-                    return folder / (word + ending)
+                if inside and (folder / (inside + ending)).exists():
+                    return folder / (inside + ending)
         return None
 
     def has_function(self, word):

@@ -131,5 +131,6 @@ void several_records(void);
 void lent_and_log_in(void);
 void malformed_drives(void);
 void typing(void);
+void stack_used(void);
 
 #endif

@@ -111,8 +111,9 @@ def halves_in(source):
 
 
 def bare(header):
-    """without comments, and without what is for C++ alone"""
+    """without comments, without functions that the header itself has, and without what is for C++ alone"""
     header = re.sub(r"/\*.*?\*/", "", header, flags=re.S)
+    header = re.sub(r"(?ms)^static inline .*?^}$", "", header)
     return re.sub(r"#ifdef __cplusplus\n.*?#endif\n", "", header, flags=re.S)
 
 
@@ -141,7 +142,7 @@ def lengths_of(header):
 def constants_of(header):
     """the enumerations, each as a list of NAME = NUMBER"""
     lists = re.findall(r"enum { (.*?) }", "\n".join(statements(header)))
-    return [body.replace("CHURAWEL_", "").split(" , ") for body in lists]
+    return [re.sub(r"CHURAWEL_(FN|REFUSED)_", "", body).split(" , ") for body in lists]
 
 
 def halves_of(header):
@@ -196,8 +197,8 @@ WRONG = [
     ("two numbers in the other order", r"(uint32_t block_bytes), (uint32_t blocks)", r"\2, \1", LOG_IN),
     ("two slices in the other order", r"(uint8_t \*fcb.*),(\s*)(uint8_t \*buffer, \w+ \w+)", r"\3,\2\1", CALL),
     ("a length before its pointer", r"(uint8_t \*buffer), (size_t buffer_bytes)", r"\2, \1", CALL),
-    ("a parameter that is missing", r"uint8_t function, ", "", CALL),
-    ("a parameter too many", r"uint8_t function, ", "uint8_t function, uint8_t drive_code, ", CALL),
+    ("a parameter that is missing", r"uint8_t function, (?=uint8_t)", "", CALL),
+    ("a parameter too many", r"uint8_t function, (?=uint8_t)", "uint8_t function, uint8_t drive_code, ", CALL),
     ("a function that is missing", r"(?s)uint32_t churawel_call\(.*?\);", "", FUNCTIONS),
     ("a function too many", r"(uint32_t churawel_call\()", r"void churawel_close(uint8_t *drive);\n\1", FUNCTIONS),
     ("a function of another name", r"churawel_log_in\(", "churawel_login(", FUNCTIONS),
@@ -211,10 +212,10 @@ WRONG = [
     ("another number of a function", r"SIZE = 35", "SIZE = 38", CALLS_AGREE),
     ("two functions' numbers exchanged", r"(OPEN = )15(.*\s*.*CLOSE = )16", r"\g<1>16\g<2>15", CALLS_AGREE),
     ("13 and 37 exchanged", r"(?s)(RESET = )13(.*RESET_DRIVE = )37", r"\g<1>37\g<2>13", CALLS_AGREE),
-    ("a function's number that is missing", r"CHURAWEL_MAKE = 22,", "", CALLS_AGREE),
-    ("a function's number too many", r"(CHURAWEL_OPEN = )", r"CHURAWEL_SELECT = 14, \1", CALLS_AGREE),
-    ("another number of a refusal", r"CHURAWEL_OUTSIDE = 41", "CHURAWEL_OUTSIDE = 31", REFUSALS_AGREE),
-    ("a refusal that is missing", r"CHURAWEL_UNTYPEABLE = 45,", "", REFUSALS_AGREE),
+    ("a function's number that is missing", r"CHURAWEL_FN_MAKE = 22,", "", CALLS_AGREE),
+    ("a function's number too many", r"(CHURAWEL_FN_OPEN = )", r"CHURAWEL_FN_SELECT = 14, \1", CALLS_AGREE),
+    ("another number of a refusal", r"CHURAWEL_REFUSED_OUTSIDE = 41", "CHURAWEL_REFUSED_OUTSIDE = 31", REFUSALS_AGREE),
+    ("a refusal that is missing", r"CHURAWEL_REFUSED_UNTYPEABLE = 45,", "", REFUSALS_AGREE),
     ("two refusals in the other order", r"(\w+_COUNT = 46,)(.*\s*)(\w+_BUFFER_LENGTH = 35,)", r"\3\2\1", REFUSALS_AGREE),
     ("a mask of eight bits", r"& 0xFFFFu", "& 0xFFu", HALVES_AGREE),
     ("a shift by eight bits", r">> 16", ">> 8", HALVES_AGREE),

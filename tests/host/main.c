@@ -14,5 +14,6 @@ int main(void)
     lent_and_log_in();
     malformed_drives();
     typing();
+    stack_used();
     return summary() == 0 ? 0 : 1;
 }

@@ -2,10 +2,11 @@
 ghost use mathlib.Core.Path.{_≡_};
 ghost use mathlib.Core.Bool.{cond};
 ghost use mathlib.Core.List.{[]};
-ghost use Prim.Native.Nat.{_<_};
+ghost use Prim.Native.Nat.{_<_, _≤_};
+ghost use Rattle.disk_volume.specs.declared.Wanted.the-variants.{Match};
 ghost use Rattle.disk_geometry.specs.Geometry.{slots, places};
 ghost use Rattle.disk_volume.specs.Name.{strip};
-ghost use Rattle.disk_volume.specs.Directory.{mapSlots};
+ghost use Rattle.disk_volume.specs.Directory.{findSlot, mapSlots};
 ghost use Rattle.disk_volume.specs.CodeLent.{IsVolume, VolumeAnd, IsName, IsEntry};
 ghost use Rattle.call_answers.specs.Refusal.{isNone, first, firstMet};
 ghost use Rattle.call_sweep.specs.declared.Edit.the-variants.{Erase};
@@ -25,12 +26,12 @@ pub struct Deleted {
 }
 
 // Why the entries that match can't be deleted. A read-only match is sought from the first match on.
-fn delete_why(g: Geometry, volume: &[u8], user: u8, pattern: &[u8]) -> Refusal
+fn delete_why(g: Geometry, volume: &[u8], first: usize, user: u8, pattern: &[u8]) -> Refusal
     requires { ⌜ VolumeAnd g (now volume) (IsName (now pattern)) ⌝ }
+    requires { ⌜ (first ≡ findSlot g (now volume) user (strip (now pattern)) Match) × (first ≤ slots g) ⌝ }
     ensures { λ r. ⌜ r ≡ firstMet (deleteTests g (now (volume .entry)) user (strip (now (pattern .entry)))) ⌝ }
 {
     let slots = g.slots();
-    let first = directory::find(g, volume, user, pattern, Wanted::Match);
     let read_only_slot = directory::find_from(
         g,
         volume,
@@ -98,14 +99,22 @@ fn free_slot(
     free_entry(g, &volume[at..at + Geometry::ENTRY_BYTES], held)
 }
 
-// The held blocks without those of the entries that match.
-fn free_matches(g: Geometry, volume: &[u8], user: u8, pattern: &[u8], held: [u64; 4]) -> [u64; 4]
+// The held blocks without those of the entries that match, from the first match on.
+fn free_matches(
+    g: Geometry,
+    volume: &[u8],
+    first: usize,
+    user: u8,
+    pattern: &[u8],
+    held: [u64; 4],
+) -> [u64; 4]
     requires { ⌜ VolumeAnd g (now volume) (IsName (now pattern)) ⌝ }
+    requires { ⌜ (first ≡ findSlot g (now volume) user (strip (now pattern)) Match) × (first ≤ slots g) ⌝ }
     ensures { λ r. ⌜ r ≡ freeMatches g (now (volume .entry)) user (strip (now (pattern .entry))) held ⌝ }
 {
     let slots = g.slots();
     let mut rest = held;
-    let mut i = 0;
+    let mut i = first;
     while i < slots {
         let next = free_slot(g, volume, user, pattern, rest, i);
         rest = next;
@@ -141,11 +150,12 @@ pub fn delete_matches(
         (now (volume .entry))
         ⌝ }
 {
-    let why = call_answers::first_of(before, delete_why(g, volume, user, pattern));
+    let first = directory::find(g, volume, user, pattern, Wanted::Match);
+    let why = call_answers::first_of(before, delete_why(g, volume, first, user, pattern));
     if !call_answers::is_none(why) {
         return Deleted { why, held };
     }
-    let rest = free_matches(g, volume, user, pattern, held);
-    call_sweep::change_all(g, volume, user, pattern, pattern, Edit::Erase);
+    let rest = free_matches(g, volume, first, user, pattern, held);
+    call_sweep::change_all(g, volume, first, user, pattern, pattern, Edit::Erase);
     Deleted { why, held: rest }
 }

@@ -1,8 +1,11 @@
 // Rename and attributes: the tests of the new name and of the directory, and the changes in the file's entries.
 ghost use mathlib.Core.Path.{_≡_};
 ghost use mathlib.Core.Bool.{cond};
+ghost use Prim.Native.Nat.{_≤_};
+ghost use Rattle.disk_geometry.specs.Geometry.{slots};
+ghost use Rattle.disk_volume.specs.declared.Wanted.the-variants.{File};
 ghost use Rattle.disk_volume.specs.Name.{strip};
-ghost use Rattle.disk_volume.specs.Directory.{mapSlots};
+ghost use Rattle.disk_volume.specs.Directory.{findSlot, mapSlots};
 ghost use Rattle.disk_volume.specs.CodeLent.{IsVolume, VolumeAnd, IsName, IsFcb};
 ghost use Rattle.call_answers.specs.Refusal.{isNone, first, firstMet};
 ghost use Rattle.call_sweep.specs.declared.Edit.the-variants.{Rename, Attributes};
@@ -32,17 +35,24 @@ pub fn new_name_why(fcb: &[u8]) -> Refusal
     call_answers::first_of(bad, untypeable)
 }
 
-// Why the file can't be renamed. A read-only entry is sought from the file's first on.
-fn rename_why(g: Geometry, volume: &[u8], user: u8, name: &[u8], new: &[u8]) -> Refusal
+// Why the file, whose first entry is given, can't be renamed. A read-only entry is sought from there on.
+fn rename_why(
+    g: Geometry,
+    volume: &[u8],
+    first: usize,
+    user: u8,
+    name: &[u8],
+    new: &[u8],
+) -> Refusal
     requires { ⌜ IsVolume g (now volume) ⌝ }
     requires { ⌜ IsName (now name) × IsName (now new) ⌝ }
+    requires { ⌜ (first ≡ findSlot g (now volume) user (strip (now name)) File) × (first ≤ slots g) ⌝ }
     ensures { λ r. ⌜
         r
         ≡ firstMet (renameTests g (now (volume .entry)) user (strip (now (name .entry))) (strip (now (new .entry))))
         ⌝ }
 {
     let slots = g.slots();
-    let first = directory::find(g, volume, user, name, Wanted::File);
     let read_only_slot = directory::find_from(g, volume, first, user, name, Wanted::ReadOnlyFile);
     let taken = directory::find(g, volume, user, new, Wanted::File);
     let no_match = call_answers::refuse(Refusal::NoMatch, slots <= first);
@@ -74,9 +84,10 @@ pub fn rename_file(
         (now (volume .entry))
         ⌝ }
 {
-    let why = call_answers::first_of(before, rename_why(g, volume, user, name, new));
+    let first = directory::find(g, volume, user, name, Wanted::File);
+    let why = call_answers::first_of(before, rename_why(g, volume, first, user, name, new));
     if call_answers::is_none(why) {
-        call_sweep::change_all(g, volume, user, name, new, Edit::Rename);
+        call_sweep::change_all(g, volume, first, user, name, new, Edit::Rename);
     }
     why
 }
@@ -102,11 +113,11 @@ pub fn attribute_file(
         (now (volume .entry))
         ⌝ }
 {
-    let slot = directory::find(g, volume, user, name, Wanted::File);
-    let no_match = call_answers::refuse(Refusal::NoMatch, g.slots() <= slot);
+    let first = directory::find(g, volume, user, name, Wanted::File);
+    let no_match = call_answers::refuse(Refusal::NoMatch, g.slots() <= first);
     let why = call_answers::first_of(before, no_match);
     if call_answers::is_none(why) {
-        call_sweep::change_all(g, volume, user, name, name, Edit::Attributes);
+        call_sweep::change_all(g, volume, first, user, name, name, Edit::Attributes);
     }
     why
 }

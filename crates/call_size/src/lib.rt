@@ -4,6 +4,8 @@ ghost use Prim.Native.Nat.{_<_};
 ghost use Rattle.disk_geometry.specs.Geometry.{slots};
 ghost use Rattle.disk_volume.specs.CodeLent.{VolumeAnd, IsEntry, IsFcb, IsName};
 ghost use Rattle.disk_volume.specs.Name.{strip};
+ghost use Rattle.disk_volume.specs.declared.Wanted.the-variants.{File};
+ghost use Rattle.disk_volume.specs.Directory.{findSlot};
 ghost use Rattle.call_answers.specs.Refusal.{unlessRefused};
 ghost use Rattle.call_size.specs.Size.{entryEnd, larger, sizeOf};
 ghost use Rattle.call_size.specs.CodeMeasure.{endBound, measureWhy, measured};
@@ -42,19 +44,29 @@ fn larger_at(g: Geometry, volume: &[u8], user: u8, name: &[u8], m: usize, i: usi
     if m < end { end } else { m }
 }
 
-// Answers the file's size in records.
-pub fn size_of(g: Geometry, volume: &[u8], user: u8, name: &[u8]) -> usize
+// The file's size in records, by its entries from the first on.
+fn size_from(g: Geometry, volume: &[u8], user: u8, name: &[u8], first: usize) -> usize
     requires { ⌜ VolumeAnd g (now volume) (IsName (now name)) ⌝ }
+    requires { ⌜ first ≡ findSlot g (now volume) user (strip (now name)) File ⌝ }
     ensures { λ r. ⌜ (r ≡ sizeOf g (now (volume .entry)) user (strip (now (name .entry)))) × (r < endBound) ⌝ }
 {
     let n = g.slots();
     let mut m = 0;
-    let mut i = 0;
+    let mut i = first;
     while i < n {
         m = larger_at(g, volume, user, name, m, i);
         i += 1;
     }
     m
+}
+
+// Answers the file's size in records.
+pub fn size_of(g: Geometry, volume: &[u8], user: u8, name: &[u8]) -> usize
+    requires { ⌜ VolumeAnd g (now volume) (IsName (now name)) ⌝ }
+    ensures { λ r. ⌜ (r ≡ sizeOf g (now (volume .entry)) user (strip (now (name .entry)))) × (r < endBound) ⌝ }
+{
+    let first = disk_volume::directory::find(g, volume, user, name, Wanted::File);
+    size_from(g, volume, user, name, first)
 }
 
 // Lays the file's size into the control block, or refuses. Answers why, None where it is laid.
@@ -66,10 +78,10 @@ pub fn measure(g: Geometry, volume: &[u8], fcb: &mut [u8], user: u8) -> Refusal
         ≡ unlessRefused r (measured g (now (volume .entry)) user (now (fcb .entry))) (now (fcb .entry))
         ⌝ }
 {
-    let slot = disk_volume::directory::find(g, volume, user, &fcb[NAME..NAME_END], Wanted::File);
-    let why = call_answers::refuse(Refusal::NoMatch, g.slots() <= slot);
+    let first = disk_volume::directory::find(g, volume, user, &fcb[NAME..NAME_END], Wanted::File);
+    let why = call_answers::refuse(Refusal::NoMatch, g.slots() <= first);
     if call_answers::is_none(why) {
-        let size = size_of(g, volume, user, &fcb[NAME..NAME_END]);
+        let size = size_from(g, volume, user, &fcb[NAME..NAME_END], first);
         call_fcb::set_random(fcb, size);
     }
     why

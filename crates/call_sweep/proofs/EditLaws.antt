@@ -76,6 +76,10 @@ changed-is g Erase u name new e = refl
 changed-is g Rename u name new e = refl
 changed-is g Attributes u name new e = refl
 
+pub changed-same : (g : Geometry) (edit : Edit) (u : ℕ) (name new : List ℕ) (e : Entry) → fits g u name (meant edit) e ≡ false
+    → changed edit u name new e ≡ e
+changed-same g edit u name new e h = rw (changed-is g edit u name new e, h)
+
 -- ---- lengths
 renamed-length : (e : Entry) (new : List ℕ) → length e ≡ 32 → length new ≡ 11 → length (renamed e new) ≡ 32
 unfolding renamed
@@ -106,10 +110,6 @@ pub lent-piece : (f : Entry → Entry) (l x : List ℕ) (k : ℕ) → x ≡ f (t
     → take (k * 32) l ++ (x ++ drop (k * 32 + 32 - k * 32) (drop (k * 32) l)) ≡ mapPiece f l k
 unfolding mapPiece part put
 lent-piece f l x k e = let z : k * 32 + 32 - k * 32 ≡ 32 = omega arith in rw (e, z)
-
--- what came back as it was
-pub lent-same : (l x : List ℕ) (a n : ℕ) → x ≡ take n (drop a l) → take a l ++ (x ++ drop n (drop a l)) ≡ l
-lent-same l x a n e = rw (e, take-append-drop n (drop a l), take-append-drop a l)
 
 pub or-false : (a b : Bool) → (a || b) ≡ false → (a ≡ false) × (b ≡ false)
 or-false false b e = (refl, e)

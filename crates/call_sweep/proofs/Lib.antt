@@ -2,3 +2,4 @@
 pub mod SweepLaws
 pub mod EditLaws
 pub mod ReadOnlyLaws
+pub mod HopLaws

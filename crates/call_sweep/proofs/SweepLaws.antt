@@ -19,7 +19,8 @@ use Rattle.disk_volume.specs.Directory.{slotAt, putSlot, mapSlot, mapSlots}
 use Rattle.disk_volume.specs.Record.{recordAt}
 use Rattle.call_sweep.specs.CodeRecords.{mapPiece, mapPieces, mapRecord}
 use Rattle.disk_geometry.proofs.GeometryLaws.{bounds, start-in}
-use Rattle.disk_volume.proofs.DirectoryLaws.{slot-length, putSlot-length, slot-putSlot, slot-putSlot-other, record-putSlot}
+use Rattle.disk_volume.proofs.FindLaws.{fold-from}
+use Rattle.disk_volume.proofs.DirectoryLaws.{slot-length, putSlot-same, putSlot-length, slot-putSlot, slot-putSlot-other, record-putSlot}
 
 -- ---- slot by slot
 module _ (g : Geometry) (good : lawful g ≡ true) (f : Entry → Entry) (keeps : (e : Entry) → length e ≡ 32 → length (f e) ≡ 32) where
@@ -105,11 +106,6 @@ module _ (g : Geometry) (good : lawful g ≡ true) (f : Entry → Entry) (keeps 
       let i : k * 32 + 32 ≤ length l = omega arith in
       length-put l (k * 32) 32 i (f (part l (k * 32) 32)) (keeps (part l (k * 32) 32) (length-part l (k * 32) 32 i)) ∙ e
 
-  -- a piece that f leaves as it is
-  pub mapPiece-same : (l : List ℕ) (k : ℕ) → length l ≡ 128 → k < 4 → f (part l (k * 32) 32) ≡ part l (k * 32) 32 → mapPiece f l k ≡ l
-  unfolding mapPiece
-  mapPiece-same l k e h same = ap (put l (k * 32) 32) same ∙ put-part l (k * 32) 32 (omega arith)
-
   -- slot 4 r + k is piece k of record r
   slot-of-record : (r k : ℕ) → k < 4 → slotStart g (4 * r + k) ≡ start g r + k * 32
   unfolding slotStart
@@ -157,11 +153,6 @@ module _ (g : Geometry) (good : lawful g ≡ true) (f : Entry → Entry) (keeps 
         let z : 4 * r + 0 ≡ 4 * r = omega arith in
         pieces-stored 4 0 (part v (start g r) 128) (length-part v (start g r) 128 in-v) (omega arith) ∙ rw (put-part v (start g r) 128 in-v, z)
 
-    -- a copy in which nothing changed need not be stored
-    pub record-same : (s : List ℕ) → s ≡ part v (start g r) 128 → mapPieces f s ≡ s → v ≡ mapRecord g f v r
-    unfolding mapRecord
-    record-same s e q = rw (← e, q, e, put-part v (start g r) 128 in-v)
-
 -- ---- a loop over the directory's records: what is still to be changed from record r on gives the whole
 pub record Swept (g : Geometry) (f : Entry → Entry) (v₀ v : List ℕ) (r : ℕ) : Type 0 where
   pub rest : mapSlots g f v₀ ≡ fold (mapSlot g f) v (4 * r) (slots g - 4 * r)
@@ -176,6 +167,15 @@ module _ {g : Geometry} {f : Entry → Entry} {v₀ : List ℕ} where
       let z : slots g - 4 * r ≡ 4 + (slots g - 4 * (r + 1)) = omega arith in
       let y : 4 * r + 4 ≡ 4 * (r + 1) = omega arith in
       record { rest = s .rest ∙ rw (z, fold-add (mapSlot g f) v (4 * r) 4 (slots g - 4 * (r + 1)), y, ← record-is g good f keeps v size r h, ← e) }
+
+  -- records whose entries stay as they are need no store
+  pub swept-skip : {v : List ℕ} {r m : ℕ} → lawful g ≡ true → length v ≡ bytes g → Swept g f v₀ v r → r ≤ m → 4 * m ≤ slots g
+      → ((i : ℕ) → 4 * r ≤ i → i < 4 * m → f (slotAt g v i) ≡ slotAt g v i) → Swept g f v₀ v m
+  unfolding mapSlot
+  swept-skip {v} {r} {m} good size s low high same =
+      record {
+        rest = s .rest ∙ fold-from (mapSlot g f) v (slots g) (4 * r) (4 * m) (omega arith) high (λ i l b. ap (putSlot g v i) (same i l b) ∙ putSlot-same g good v size i (omega arith));
+      }
 
   pub swept-end : {v : List ℕ} {r : ℕ} → Swept g f v₀ v r → g .«directory_blocks» * records g ≤ r → mapSlots g f v₀ ≡ v
   unfolding fold

@@ -1,17 +1,19 @@
-// The sweep over the directory: entries changed in a copy of their record, which is stored whole if one of them was meant.
+// The sweep over the directory, from one entry that is meant to the next: entries are changed in a copy of their record, which
+// is stored whole. A record that holds no such entry is not touched.
 ghost use mathlib.Core.Path.{_≡_};
-ghost use mathlib.Core.Bool.{true, false};
+ghost use mathlib.Core.Bool.{true};
 ghost use Prim.Native.Nat.{_*_, _<_};
 ghost use lib.ListN.{length};
 ghost use Rattle.disk_geometry.specs.Geometry.{lawful, records, directoryBlocks};
 ghost use Rattle.disk_volume.specs.Name.{strip};
-ghost use Rattle.disk_volume.specs.Directory.{mapSlots};
+ghost use Rattle.disk_volume.specs.Directory.{findSlot, mapSlots};
 ghost use Rattle.disk_volume.specs.CodeLent.{IsVolume, VolumeAnd, IsName, IsEntry, IsRecord};
 ghost use Rattle.call_sweep.specs.CodeRecords.{mapPieces, mapRecord};
 ghost use Rattle.call_sweep.specs.Sweep.{withTopBit, renamed, attributed};
 ghost use Rattle.call_sweep.specs.CodeEdit.{meant, edited, lentChange};
 use disk_geometry::Geometry;
 use disk_volume::Wanted;
+use disk_volume::directory;
 use disk_volume::entry;
 use disk_volume::fields;
 use disk_volume::names;
@@ -90,43 +92,31 @@ fn edit_entry(e: &mut [u8], new: &[u8], edit: Edit)
     }
 }
 
-// Changes the entry if the edit is meant for it; whether it is.
-fn change_one(g: Geometry, e: &mut [u8], user: u8, name: &[u8], new: &[u8], edit: Edit) -> bool
+// Changes the entry if the edit is meant for it.
+fn change_one(g: Geometry, e: &mut [u8], user: u8, name: &[u8], new: &[u8], edit: Edit)
     requires { ⌜ (lawful g ≡ true) × IsEntry (now e) ⌝ }
     requires { ⌜ IsName (now name) × IsName (now new) ⌝ }
     ensures { λ _. ⌜ now (e .exit) ≡ lentChange edit user (now (name .entry)) (now (new .entry)) (now (e .entry)) ⌝ }
-    ensures { λ r. ⌜ (r ≡ false → now (e .exit) ≡ now (e .entry)) ⌝ }
 {
     let wanted = meant(edit);
-    let hit = entry::has(g, e, user, name, wanted);
-    if hit {
+    if entry::has(g, e, user, name, wanted) {
         edit_entry(e, new, edit);
     }
-    hit
 }
 
-// Changes the four entries of a directory record; whether the edit is meant for one of them.
-fn change_four(
-    g: Geometry,
-    sector: &mut [u8],
-    user: u8,
-    name: &[u8],
-    new: &[u8],
-    edit: Edit,
-) -> bool
+// Changes the four entries of a directory record.
+fn change_four(g: Geometry, sector: &mut [u8], user: u8, name: &[u8], new: &[u8], edit: Edit)
     requires { ⌜ (lawful g ≡ true) × IsRecord (now sector) ⌝ }
     requires { ⌜ IsName (now name) × IsName (now new) ⌝ }
     ensures { λ _. ⌜
         now (sector .exit)
         ≡ mapPieces (lentChange edit user (now (name .entry)) (now (new .entry))) (now (sector .entry))
         ⌝ }
-    ensures { λ r. ⌜ (r ≡ false → now (sector .exit) ≡ now (sector .entry)) ⌝ }
 {
-    let mut any = false;
     let mut k = 0;
     while k < Geometry::RECORD_SLOTS {
         let at = k * Geometry::ENTRY_BYTES;
-        let hit = change_one(
+        change_one(
             g,
             &mut sector[at..at + Geometry::ENTRY_BYTES],
             user,
@@ -134,13 +124,11 @@ fn change_four(
             new,
             edit,
         );
-        any = any | hit;
         k += 1;
     }
-    any
 }
 
-// Changes the entries of directory record r, which is stored whole if the edit is meant for one of them.
+// Changes the entries of directory record r, which is stored whole.
 fn change_record(
     g: Geometry,
     volume: &mut [u8],
@@ -160,24 +148,41 @@ fn change_record(
     let at = g.start(r);
     let mut sector = [0u8; Geometry::RECORD_BYTES];
     lists::copy(&mut sector, &volume[at..at + Geometry::RECORD_BYTES]);
-    if change_four(g, &mut sector, user, name, new, edit) {
-        lists::copy(&mut volume[at..at + Geometry::RECORD_BYTES], &sector);
-    }
+    change_four(g, &mut sector, user, name, new, edit);
+    lists::copy(&mut volume[at..at + Geometry::RECORD_BYTES], &sector);
 }
 
-// Makes the edit in every entry of the directory that it is meant for.
-pub fn change_all(g: Geometry, volume: &mut [u8], user: u8, name: &[u8], new: &[u8], edit: Edit)
+// Makes the edit in every entry of the directory that it is meant for, from the first of them on.
+pub fn change_all(
+    g: Geometry,
+    volume: &mut [u8],
+    first: usize,
+    user: u8,
+    name: &[u8],
+    new: &[u8],
+    edit: Edit,
+)
     requires { ⌜ IsVolume g (now volume) ⌝ }
     requires { ⌜ IsName (now name) × IsName (now new) ⌝ }
+    requires { ⌜ first ≡ findSlot g (now volume) user (strip (now name)) (meant edit) ⌝ }
     ensures { λ _. ⌜
         now (volume .exit)
         ≡ mapSlots g (lentChange edit user (now (name .entry)) (now (new .entry))) (now (volume .entry))
         ⌝ }
 {
-    let count = g.slots() / Geometry::RECORD_SLOTS;
-    let mut r = 0;
-    while r < count {
+    let wanted = meant(edit);
+    let slots = g.slots();
+    let mut i = first;
+    while i < slots {
+        let r = i / Geometry::RECORD_SLOTS;
         change_record(g, volume, r, user, name, new, edit);
-        r += 1;
+        i = directory::find_from(
+            g,
+            volume,
+            Geometry::RECORD_SLOTS * (r + 1),
+            user,
+            name,
+            wanted,
+        );
     }
 }

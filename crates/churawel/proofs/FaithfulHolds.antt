@@ -237,7 +237,7 @@ module _ (g : Geometry) (p : ℕ) (d : Drive) (v f b : List ℕ) where
   call-refused (Moves WriteSeveral) n e = leaves-all writeSequentialLeaves write-refuses d v f b p e
   call-refused Unserved n e = outcome-refused d v f b _ e
 
-step-refused : (g : Geometry) (c : Asked) (d : Drive) (v : List ℕ) → (callOf (c .function) ≡ LogIn → ⊥) → succeeded (step g c d v .answer) ≡ false
+pub step-refused : (g : Geometry) (c : Asked) (d : Drive) (v : List ℕ) → (callOf (c .function) ≡ LogIn → ⊥) → succeeded (step g c d v .answer) ≡ false
     → step g c d v ≡ sameAll (step g c d v) d v (c .fcb) (c .buffer)
 unfolding step
 step-refused g c d v n e = call-refused g (c .parameter) d v (c .fcb) (c .buffer) (callOf (c .function)) n e

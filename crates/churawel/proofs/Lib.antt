@@ -1,5 +1,6 @@
--- What the seam rests on: answers that fit 16 bits, and states that 64 bytes carry.
+-- What the seam rests on: answers that fit 16 bits, closed states that every call refuses, and states that 64 bytes carry.
 pub mod ValueLaws
+pub mod ClosedLaws
 pub mod SeamLaws
 pub mod LastingLaws
 pub mod CallsLast

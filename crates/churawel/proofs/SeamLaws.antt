@@ -1,6 +1,6 @@
 -- What code learns on its way through the seam, as the definitions say it.
-use mathlib.Core.Path.{_≡_, sym, ap, _∙_}
-use mathlib.Core.Bool.{Bool, true, false, not}
+use mathlib.Core.Path.{_≡_, refl, sym, ap, _∙_}
+use mathlib.Core.Bool.{Bool, true, false, not, _||_, or-false, true≢false, false≢true}
 use mathlib.Core.List.{List, []}
 use Prim.Native.Nat.{ℕ, _<_}
 use lib.ListN.{length}
@@ -8,7 +8,11 @@ use borrow.Author.Tests.{not-true, not-false, eq-eqb, ne-eqb}
 use Rattle.disk_geometry.specs.declared.Geometry.{Geometry}
 use Rattle.call_answers.specs.declared.Refusal.the-variants.{Closed}
 use Rattle.call_answers.specs.declared.Answer.the-variants.{Refused}
-use Rattle.call_answers.specs.Answer.{valueOf}
+use Rattle.call_answers.specs.Answer.{valueOf, succeeded}
+use Rattle.call_served.specs.declared.Call.{Call}
+use Rattle.call_served.specs.declared.Call.the-variants.{LogIn}
+use Rattle.call_served.specs.Calls.{callOf}
+use Rattle.numbers.specs.Numbers.{Bytes}
 use Rattle.filecalls.specs.declared.Drive.{Drive}
 use Rattle.filecalls.specs.declared.Reply.{Reply}
 use Rattle.filecalls.specs.State.{isOpen}
@@ -18,35 +22,94 @@ use Rattle.bdos.specs.Step.{step}
 use Rattle.call_served.specs.Asked.{asked}
 use Rattle.drive_bytes.specs.Layout.{decoded, encoded, encodedIn}
 use Rattle.drive_bytes.proofs.LoadLaws.{drive-whole}
-use Rattle.drive_bytes.proofs.RoundTripHolds.{open-drive}
+use Rattle.drive_bytes.proofs.RoundTripHolds.{open-drive, encode-decode}
+use Rattle.filecalls.proofs.OutcomeLaws.{sameAll}
 use Rattle.churawel.specs.Seam.{answered, sealed, atSeam, logInAtSeam}
+use Rattle.churawel.specs.CodeSeam.{asksOpen, laidBack}
 use Rattle.churawel.proofs.ValueLaws.{step-value}
+use Rattle.churawel.proofs.ClosedLaws.{Shut, call-shut}
+use Rattle.churawel.proofs.FaithfulHolds.{step-refused}
 
 -- 64 bytes take the whole encoding
 pub encoded-whole : (d : Drive) (s : List ℕ) → length s ≡ 64 → encodedIn d s ≡ encoded d
 unfolding encodedIn
 encoded-whole d s e = rw (eq-eqb (length s) 64 e)
 
--- a call: what was decoded, and whether it is open
-module _ (n p : ℕ) (s v f b : List ℕ) {d : Drive} {t : Bool} (is : d ≡ decoded s) (asks : t ≡ isOpen d) where
+or-parts : (a b : Bool) → (a || b) ≡ false → (a ≡ false) × (b ≡ false)
+or-parts false b e = (refl, e)
+or-parts true b e = absurd (true≢false e)
+
+-- a call that asks whether the state is open does not log in
+asks-no-log-in : (call : Call) → asksOpen call ≡ true → call ≡ LogIn → ⊥
+asks-no-log-in call e q = false≢true (ap asksOpen (sym q) ∙ e)
+
+-- a call: what was decoded, and whether it may go through the door
+module _ (n p : ℕ) (s v f b : List ℕ) {d : Drive} {call : Call} {t : Bool} (is : d ≡ decoded s) (is-call : call ≡ callOf n) (asks : t ≡ (asksOpen call || isOpen d)) where
   pub call-refused : {r : ℕ} → not t ≡ true → r ≡ answered (Refused Closed) → sealed r s v f b ≡ atSeam n p s v f b
   unfolding atSeam
   call-refused h e =
-      let k : isOpen (decoded s) ≡ false = ap isOpen (sym is) ∙ sym asks ∙ not-true t h in
+      let k : isOpen (decoded s) ≡ false = ap isOpen (sym is) ∙ or-parts (asksOpen call) (isOpen d) (sym asks ∙ not-true t h) .1 in
       rw (k, e)
-
-  pub call-done : {r : ℕ} {o : Reply} {s′ v′ f′ b′ : List ℕ} → not t ≡ false
-      → left o v′ f′ b′ ≡ step (d .geometry) (asked n p f b) d v → s′ ≡ encodedIn (o .drive) s → r ≡ answered (o .answer)
-      → sealed r s′ v′ f′ b′ ≡ atSeam n p s v f b
-  unfolding atSeam
-  call-done {r} {o} {s′} {v′} {f′} {b′} h steps lays e =
-      let k : isOpen (decoded s) ≡ true = ap isOpen (sym is) ∙ sym asks ∙ not-false t h in
-      let l : s′ ≡ encoded (o .drive) = lays ∙ encoded-whole (o .drive) s (drive-whole s (open-drive s k)) in
-      let q : left o v′ f′ b′ ≡ step (decoded s .geometry) (asked n p f b) (decoded s) v = steps ∙ ap (λ (x : Drive). step (x .geometry) (asked n p f b) x v) is in
-      rw (k, ← q, e, l)
 
   pub call-value : {o : Reply} {v′ f′ b′ : List ℕ} → left o v′ f′ b′ ≡ step (d .geometry) (asked n p f b) d v → valueOf (o .answer) < 65536
   call-value steps = rw (ap (λ (o : Outcome). valueOf (o .answer)) steps) (step-value (d .geometry) (asked n p f b) d v)
+
+  module _ (h : not t ≡ false) {r : ℕ} {o : Reply} {v′ f′ b′ : List ℕ} (steps : left o v′ f′ b′ ≡ step (d .geometry) (asked n p f b) d v) (says : r ≡ answered (o .answer)) where
+    at-decoded : left o v′ f′ b′ ≡ step (decoded s .geometry) (asked n p f b) (decoded s) v
+    at-decoded = steps ∙ ap (λ (x : Drive). step (x .geometry) (asked n p f b) x v) is
+
+    -- the seam passed a closed state on: the call asks by itself
+    asks-itself : isOpen d ≡ false → asksOpen (callOf n) ≡ true
+    asks-itself shut =
+        let e : (asksOpen call || false) ≡ true = rw shut at (sym asks ∙ not-false t h) in
+        ap asksOpen (sym is-call) ∙ sym (or-false (asksOpen call)) ∙ e
+
+    -- and answers 32, without success
+    shut-answer : isOpen d ≡ false → Shut (o .answer)
+    unfolding step
+    shut-answer shut =
+        rw (ap (λ (x : Outcome). x .answer) steps) (call-shut d shut (d .geometry) p v f b (callOf n) (asks-itself shut))
+
+    -- the state is laid back
+    laid : {s′ : List ℕ} → (succeeded (o .answer) || not (asksOpen (callOf n))) ≡ true → s′ ≡ encodedIn (o .drive) s → sealed r s′ v′ f′ b′ ≡ atSeam n p s v f b
+    unfolding atSeam
+    laid {s′} lays e = go (isOpen d) refl
+      where
+        go : (x : Bool) → isOpen d ≡ x → sealed r s′ v′ f′ b′ ≡ atSeam n p s v f b
+        go true k₀ =
+            let k : isOpen (decoded s) ≡ true = ap isOpen (sym is) ∙ k₀ in
+            let l : s′ ≡ encoded (o .drive) = e ∙ encoded-whole (o .drive) s (drive-whole s (open-drive s k)) in
+            rw (k, ← at-decoded, says, l)
+        go false k₀ =
+            let no : (succeeded (o .answer) || not (asksOpen (callOf n))) ≡ false = rw (shut-answer k₀ .fails, asks-itself k₀) in
+            absurd (false≢true (sym no ∙ lays))
+
+    -- a call that asks was refused: nothing changed
+    kept : Bytes s → (succeeded (o .answer) || not (asksOpen (callOf n))) ≡ false → sealed r s v′ f′ b′ ≡ atSeam n p s v f b
+    unfolding atSeam
+    kept bytes keeps =
+        let parts = or-parts (succeeded (o .answer)) (not (asksOpen (callOf n))) keeps in
+        let fails : succeeded (step (d .geometry) (asked n p f b) d v .answer) ≡ false = ap (λ (x : Outcome). succeeded (x .answer)) (sym steps) ∙ parts .0 in
+        go (isOpen d) refl (steps ∙ step-refused (d .geometry) (asked n p f b) d v (asks-no-log-in (callOf n) (not-false (asksOpen (callOf n)) (parts .1))) fails)
+      where
+        go : (x : Bool) → isOpen d ≡ x → left o v′ f′ b′ ≡ sameAll (step (d .geometry) (asked n p f b) d v) d v f b → sealed r s v′ f′ b′ ≡ atSeam n p s v f b
+        go true k₀ same =
+            let k : isOpen (decoded s) ≡ true = ap isOpen (sym is) ∙ k₀ in
+            let back : encoded (o .drive) ≡ s = ap (λ (x : Outcome). encoded (x .drive)) same ∙ ap encoded is ∙ encode-decode s bytes k in
+            rw (k, ← at-decoded, says, back)
+        go false k₀ same =
+            let k : isOpen (decoded s) ≡ false = ap isOpen (sym is) ∙ k₀ in
+            let v-same : v′ ≡ v = ap (λ (x : Outcome). x .volume) same in
+            let f-same : f′ ≡ f = ap (λ (x : Outcome). x .fcb) same in
+            let b-same : b′ ≡ b = ap (λ (x : Outcome). x .buffer) same in
+            rw (k, says, shut-answer k₀ .number, v-same, f-same, b-same)
+
+    pub call-done : {s′ : List ℕ} → Bytes s → s′ ≡ laidBack call (o .answer) (o .drive) s → sealed r s′ v′ f′ b′ ≡ atSeam n p s v f b
+    call-done {s′} bytes e = go (succeeded (o .answer) || not (asksOpen (callOf n))) refl (e ∙ ap (λ (x : Call). laidBack x (o .answer) (o .drive) s) is-call)
+      where
+        go : (x : Bool) → (succeeded (o .answer) || not (asksOpen (callOf n))) ≡ x → s′ ≡ laidBack (callOf n) (o .answer) (o .drive) s → sealed r s′ v′ f′ b′ ≡ atSeam n p s v f b
+        go true q w = laid q (rw q at w)
+        go false q w = let z : s′ ≡ s = rw q at w in rw z (kept bytes q)
 
 -- a log-in
 module _ (g : Geometry) (v s : List ℕ) where

@@ -1,3 +1,4 @@
 -- The seam to an emulator: what an exported call leaves, and that the drive's bytes carry the state from call to call.
 pub mod Seam
 pub mod Faithful
+pub mod CodeSeam

@@ -1,12 +1,16 @@
 // The seam to an emulator: log-in and every other call, exported for C, over lent bytes alone.
 ghost use mathlib.Core.Path.{_≡_};
+ghost use mathlib.Core.Bool.{_||_};
 ghost use mathlib.Core.List.{[]};
 ghost use Prim.Native.Nat.{_<_};
 ghost use Rattle.call_answers.specs.Answer.{valueOf};
 ghost use Rattle.disk_geometry.specs.Geometry.{geometryOf};
+ghost use Rattle.filecalls.specs.State.{isOpen};
 ghost use Rattle.churawel.specs.Seam.{answered, sealed, atSeam, logInAtSeam};
+ghost use Rattle.churawel.specs.CodeSeam.{asksOpen, laidBack};
 use call_answers::Answer;
 use call_answers::Refusal;
+use call_served::Call;
 use disk_geometry::Geometry;
 use drive_bytes::DRIVE_BYTES;
 use filecalls::Drive;
@@ -33,6 +37,48 @@ fn seal(a: Answer) -> u32
     let number = wide(call_answers::number(a));
     let value = call_answers::value(a) as u32;
     number + 65536 * value
+}
+
+// Does the call ask by itself whether the state is open?
+fn asks_open(kind: Call) -> bool
+    ensures { λ r. ⌜ r ≡ asksOpen kind ⌝ }
+{
+    match kind {
+        Call::LogIn => false,
+        Call::Open => true,
+        Call::Close => true,
+        Call::SearchFirst => true,
+        Call::SearchNext => true,
+        Call::Delete => true,
+        Call::Make => true,
+        Call::Rename => true,
+        Call::Protect => true,
+        Call::Attributes => true,
+        Call::User => true,
+        Call::Size => true,
+        Call::SetRandom => true,
+        Call::Moves(_) => true,
+        Call::Unserved => false,
+    }
+}
+
+// May the call go through the door? The seam asks where the call does not.
+fn may_enter(kind: Call, d: Drive) -> bool
+    ensures { λ r. ⌜ r ≡ (asksOpen kind || isOpen d) ⌝ }
+{
+    if asks_open(kind) {
+        return true;
+    }
+    d.is_open()
+}
+
+// Lays the state back where a call may have changed it: one that succeeded, or that asks for no open state, as a log-in.
+fn lay_back(kind: Call, answer: Answer, next: Drive, drive: &mut [u8])
+    ensures { λ _. ⌜ now (drive .exit) ≡ laidBack kind answer next (now (drive .entry)) ⌝ }
+{
+    if call_answers::succeeded(answer) | !asks_open(kind) {
+        drive_bytes::encode(next, drive);
+    }
 }
 
 // Logs the volume in: the drive becomes the state that calls take, or 64 zero bytes where the log-in is refused.
@@ -64,7 +110,8 @@ pub extern "C" fn churawel_log_in(
     seal(answer)
 }
 
-// Does the call of this function's number over the drive's bytes; a drive that counts as closed is refused by 32.
+// Does the call of this function's number over the drive's bytes; a drive that counts as closed is refused by 32. Calls ask
+// that by themselves, and where one is refused the drive's bytes stay.
 #[no_mangle]
 pub extern "C" fn churawel_call(
     function: u8,
@@ -80,13 +127,14 @@ pub extern "C" fn churawel_call(
         ⌝ }
 {
     let d = drive_bytes::decode(drive);
-    if !d.is_open() {
+    let kind = call_served::call_of(function);
+    if !may_enter(kind, d) {
         return seal(Answer::Refused(Refusal::Closed));
     }
     let g = d.geometry;
     let reply = bdos::enter(g, function, parameter, d, volume, fcb, buffer);
     let next = reply.drive;
-    drive_bytes::encode(next, drive);
     let answer = reply.answer;
+    lay_back(kind, answer, next, drive);
     seal(answer)
 }

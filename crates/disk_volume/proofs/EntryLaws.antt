@@ -38,10 +38,10 @@ lent-slot g v i at e =
     rw (z, e)
 
 -- "and" in the order in which code asks: the user and the group first, then the name
-pub group-passes : (user group entry : Bool) → (user && group) ≡ true → entry ≡ (entry && group)
-group-passes true true entry e = sym (and-true entry)
-group-passes true false entry e = absurd (false≢true e)
-group-passes false group entry e = absurd (false≢true e)
+pub group-passes : (user name group : Bool) → (user && group) ≡ true → name ≡ ((user && name) && group)
+group-passes true name true e = sym (and-true name)
+group-passes true name false e = absurd (false≢true e)
+group-passes false name group e = absurd (false≢true e)
 
 pub group-fails : (user name group : Bool) → (user && group) ≡ false → false ≡ ((user && name) && group)
 group-fails true name true e = absurd (true≢false e)

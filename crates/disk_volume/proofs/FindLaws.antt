@@ -1,20 +1,22 @@
 -- What the lowest slot that has something tells: found, the entry in it has what is wanted and none below does; not found, none has.
+-- So a step for each slot that has something may begin at the lowest that has it.
 use mathlib.Core.Path.{_≡_, refl, sym, _∙_}
 use mathlib.Core.Bool.{Bool, true, false, true≢false}
 use mathlib.Core.List.{List}
-use Prim.Native.Nat.{ℕ, _≤_, _<_}
+use Prim.Native.Nat.{ℕ, zero, suc, _+_, _-_, _≤_, _<_}
 use native.Mathlib.Omega.{arith}
 use lib.Dec.{ltb, eqb}
 use borrow.Author.Tests.{ltb-true, ltb-false}
 use Rattle.lists.proofs.BoolLaws.{and-left}
-use Rattle.lists.specs.Bounded.{lowFrom}
+use Rattle.lists.specs.Bounded.{lowFrom, fold}
 use Rattle.lists.proofs.BoundedLaws.{Low, low-le, low-hit, low-miss, low-is}
+use Rattle.lists.proofs.FoldLaws.{Folded, fold-add}
 use Rattle.disk_geometry.specs.declared.Geometry.{Geometry}
 use Rattle.disk_volume.specs.declared.Wanted.{Wanted}
 use Rattle.disk_volume.specs.declared.Wanted.the-variants.{File, Group}
 use Rattle.disk_geometry.specs.Geometry.{slots, groupOf}
 use Rattle.disk_volume.specs.Entry.{Entry, extent, ofFile, ofGroup}
-use Rattle.disk_volume.specs.Directory.{fits, slotFits, slotAt, findSlot}
+use Rattle.disk_volume.specs.Directory.{fits, slotFits, slotAt, findFrom, findSlot}
 
 module _ (g : Geometry) (v : List ℕ) (u : ℕ) (name : List ℕ) where
   pub find-le : (w : Wanted) → findSlot g v u name w ≤ slots g
@@ -64,3 +66,44 @@ module _ (g : Geometry) (v : List ℕ) (u : ℕ) (name : List ℕ) where
   pub group-file : (k : ℕ) → findSlot g v u name (Group k) < slots g → findSlot g v u name File < slots g
   unfolding ofGroup
   group-file k = found-other (Group k) File (λ e h. and-left (ofFile u name e) (eqb (groupOf g (extent e)) k) h)
+
+  -- a search from slot i on: it ends at i or above, and none that it passed has what is wanted
+  pub from-low : (w : Wanted) (i : ℕ) → i ≤ slots g → i ≤ findFrom g v u name w i
+  from-low w i h = go (ltb (findFrom g v u name w i) (i + (slots g - i))) refl
+    where
+      go : (t : Bool) → ltb (findFrom g v u name w i) (i + (slots g - i)) ≡ t → i ≤ findFrom g v u name w i
+      go true e = low-hit (slotFits g v u name w) i (slots g - i) (findFrom g v u name w i) refl (ltb-true _ _ e) .from
+      go false e = omega (arith, ltb-false (findFrom g v u name w i) (i + (slots g - i)) e)
+
+  pub from-first : (w : Wanted) (i m : ℕ) → i ≤ m → m < findFrom g v u name w i → slotFits g v u name w m ≡ false
+  from-first w i m low high = go (ltb (findFrom g v u name w i) (i + (slots g - i))) refl
+    where
+      go : (t : Bool) → ltb (findFrom g v u name w i) (i + (slots g - i)) ≡ t → slotFits g v u name w m ≡ false
+      go true e = low-hit (slotFits g v u name w) i (slots g - i) (findFrom g v u name w i) refl (ltb-true _ _ e) .first m low high
+      go false e =
+          let all = low-le (slotFits g v u name w) i (slots g - i) in
+          low-miss (slotFits g v u name w) i (slots g - i) (ltb-false _ _ e) m low (omega arith)
+
+-- ---- steps that change nothing are passed over
+fold-over : {A : Type 0} (step : A → ℕ → A) (a : A) (i k : ℕ) → ((m : ℕ) → i ≤ m → m < i + k → step a m ≡ a) → fold step a i k ≡ a
+unfolding fold
+fold-over step a i zero h = refl
+fold-over step a i (suc k) h =
+    rw (h i (omega arith) (omega arith)) (fold-over step a (suc i) k (λ m low high. h m (omega arith) (omega arith)))
+
+pub fold-from : {A : Type 0} (step : A → ℕ → A) (a : A) (n i j : ℕ) → i ≤ j → j ≤ n → ((m : ℕ) → i ≤ m → m < j → step a m ≡ a)
+    → fold step a i (n - i) ≡ fold step a j (n - j)
+fold-from step a n i j low high h =
+    let z : n - i ≡ (j - i) + (n - j) = omega arith in
+    let y : i + (j - i) ≡ j = omega arith in
+    rw (z, fold-add step a i (j - i) (n - j), fold-over step a i (j - i) (λ m l b. h m l (omega arith)), y)
+
+-- a loop over the slots that begins at the lowest that has what is wanted
+module _ (g : Geometry) (v : List ℕ) (u : ℕ) (name : List ℕ) (w : Wanted) where
+  pub folded-from-found : {A : Type 0} (step : A → ℕ → A) (a : A) → ((i : ℕ) → slotFits g v u name w i ≡ false → step a i ≡ a)
+      → Folded step a (slots g) a (findSlot g v u name w)
+  folded-from-found step a h =
+      let z : slots g - 0 ≡ slots g = omega arith in
+      record {
+        rest = rw z at (fold-from step a (slots g) 0 (findSlot g v u name w) (omega arith) (find-le g v u name w) (λ m low high. h m (found-first g v u name w m high)));
+      }

@@ -1,9 +1,10 @@
 -- Laws of names: what a stripped name is; a test that goes through names byte by byte is a test of each place, so that
 -- the loops of names have the law of every other loop; what "same" and "like" tell.
-use mathlib.Core.Path.{_≡_, refl, ap}
-use mathlib.Core.Bool.{Bool, true, false, not, cond, _&&_, _||_, false≢true}
+use mathlib.Core.Path.{_≡_, refl, sym, ap, _∙_}
+use mathlib.Core.Bool.{Bool, true, false, not, cond, _&&_, _||_, and-true, and-false, false≢true}
 use mathlib.Core.List.{List, [], _∷_}
-use Prim.Native.Nat.{ℕ, zero, suc, _%_}
+use Prim.Native.Nat.{ℕ, zero, suc, _+_, _-_, _%_, _≤_, _<_}
+use native.Mathlib.Numerals.{add-one}
 use native.Mathlib.Omega.{arith}
 use lib.Dec.{leb, eqb}
 use lib.ListN.{length}
@@ -57,8 +58,11 @@ sameAt a b k = eqb (byte a k % 128) (byte b k % 128)
 abbrev pub likeAt : List ℕ → List ℕ → ℕ → Bool
 likeAt a p k = eqb (byte p k % 128) 63 || eqb (byte a k % 128) (byte p k % 128)
 
-abbrev pub goodAt : Bool → List ℕ → ℕ → Bool
-goodAt pattern l k = nameByte pattern (byte l k % 128)
+abbrev pub printableAt : List ℕ → ℕ → Bool
+printableAt l k = leb 32 (byte l k % 128) && leb (byte l k % 128) 126
+
+abbrev pub plainAt : List ℕ → ℕ → Bool
+plainAt l k = not (eqb (byte l k % 128) 63)
 
 pub same-places : (n : ℕ) (a b : List ℕ) → length a ≡ n → length b ≡ n → same (strip a) (strip b) ≡ every n (sameAt a b)
 unfolding same strip
@@ -72,9 +76,48 @@ pub all-places : (q : ℕ → Bool) (n : ℕ) (l : List ℕ) → length l ≡ n 
 unfolding all strip
 all-places q n l d = by-places (λ a b. all q (strip a)) (λ x y. q (x % 128)) refl (λ x y xs ys. refl) n l l d d
 
-pub good-places : (n : ℕ) (pattern : Bool) (l : List ℕ) → length l ≡ n → goodName pattern (strip l) ≡ every n (goodAt pattern l) && not (eqb (byte l 0 % 128) 32)
+-- two tests of each place, the second waived by t
+waived : (t a b r s : Bool) → cond (a && (t || b)) (r && (t || s)) false ≡ (cond a r false && (t || cond b s false))
+waived t false b r s = refl
+waived true true b r s = refl
+waived false true true r s = refl
+waived false true false r s = sym (and-false r)
+
+every-waived : (t : Bool) (a b : ℕ → Bool) (i n : ℕ) → everyFrom (λ k. a k && (t || b k)) i n ≡ (everyFrom a i n && (t || everyFrom b i n))
+unfolding everyFrom
+every-waived true a b i zero = refl
+every-waived false a b i zero = refl
+every-waived t a b i (suc n) =
+    rw (every-waived t a b (suc i) n) (waived t (a i) (b i) (everyFrom a (suc i) n) (everyFrom b (suc i) n))
+
+pub good-places : (n : ℕ) (pattern : Bool) (l : List ℕ) → length l ≡ n
+    → goodName pattern (strip l) ≡ (every n (printableAt l) && (pattern || every n (plainAt l)) && not (eqb (byte l 0 % 128) 32))
 unfolding goodName
-good-places n pattern l d = rw (all-places (nameByte pattern) n l d, byte-strip l 0)
+good-places n pattern l d =
+    rw (all-places (nameByte pattern) n l d, byte-strip l 0, every-waived pattern (printableAt l) (plainAt l) 0 n)
+
+-- ---- a loop that looks at every place, whatever it finds: what it gathered so far, and what is still to be looked at
+pub record Gathered (p : ℕ → Bool) (n : ℕ) (all : Bool) (i : ℕ) : Type 0 where
+  pub rest : every n p ≡ (all && everyFrom p i (n - i))
+
+gather : (all t rest : Bool) → (all && cond t rest false) ≡ ((all && t) && rest)
+gather true true rest = refl
+gather true false rest = refl
+gather false t rest = refl
+
+module _ {p : ℕ → Bool} {n : ℕ} where
+  pub gathered-start : Gathered p n true 0
+  gathered-start = record { rest = let z : n - 0 ≡ n = omega arith in rw z }
+
+  pub gathered-next : {all : Bool} {i : ℕ} → Gathered p n all i → i < n → Gathered p n (all && p i) (i + 1)
+  unfolding everyFrom
+  gathered-next {all} {i} s h =
+      let z : n - i ≡ suc (n - (i + 1)) = omega arith in
+      record { rest = s .rest ∙ rw (z, add-one) (gather all (p i) (everyFrom p (suc i) (n - suc i))) }
+
+  pub gathered-end : {all : Bool} {i : ℕ} → Gathered p n all i → n ≤ i → every n p ≡ all
+  unfolding everyFrom
+  gathered-end {all} {i} s h = let z : n - i ≡ 0 = omega arith in s .rest ∙ rw z (and-true all)
 
 -- ---- the two sides of "and"
 -- ---- what "same" and "like" tell

@@ -103,7 +103,7 @@ pub fn has(g: Geometry, e: &[u8], user: u8, name: &[u8], wanted: Wanted) -> bool
             false
         },
         Wanted::Group(k) => if in_group(g, e, user, k) {
-            of_file(e, user, name)
+            names::same_name(&e[fields::NAME..fields::NAME_END], name)
         } else {
             false
         },
@@ -114,7 +114,7 @@ pub fn has(g: Geometry, e: &[u8], user: u8, name: &[u8], wanted: Wanted) -> bool
             false
         },
         Wanted::MatchGroup(k) => if in_group(g, e, user, k) {
-            is_match(e, user, name)
+            names::like_name(&e[fields::NAME..fields::NAME_END], name)
         } else {
             false
         },

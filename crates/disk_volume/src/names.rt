@@ -44,18 +44,23 @@ pub fn like_name(name: &[u8], pattern: &[u8]) -> bool
     true
 }
 
-// Is the name within the byte rule? 3FH passes in a pattern.
+// Is the name within the byte rule? 3FH passes in a pattern. After the first no byte is a reason to stop, so that several are
+// looked at at once.
 pub fn good_name(pattern: bool, name: &[u8]) -> bool
     requires { ⌜ IsName (now name) ⌝ }
     ensures { λ r. ⌜ r ≡ goodName pattern (strip (now (name .entry))) ⌝ }
 {
+    if name[0] % TOP_BIT == BLANK {
+        return false;
+    }
+    let mut printable = true;
+    let mut plain = true;
     let mut k = 0;
     while k < fields::NAME_BYTES {
         let x = name[k] % TOP_BIT;
-        if !((BLANK <= x) & (x <= 0x7E) & (pattern | (x != WILDCARD))) {
-            return false;
-        }
+        printable = printable & ((BLANK <= x) & (x <= 0x7E));
+        plain = plain & (x != WILDCARD);
         k += 1;
     }
-    name[0] % TOP_BIT != BLANK
+    printable & (pattern | plain)
 }

@@ -87,20 +87,6 @@ impl Drive {
         d.ended(i, Refusal::None)
     }
 
-    // Function 220: reads k records at the sequential position, and moves it on.
-    pub fn read_several(self, volume: &[u8], fcb: &mut [u8], buffer: &mut [u8], k: u8) -> Reply
-        ensures { λ r. ⌜
-            left r (now (volume .entry)) (now (fcb .exit)) (now (buffer .exit))
-            ≡ several readSequentialLeaves self (now (volume .entry)) (now (fcb .entry)) (now (buffer .entry)) k
-            ⌝ }
-    {
-        let why = self.several_why(volume, fcb, buffer, k);
-        if !call_answers::is_none(why) {
-            return self.ended(0, why);
-        }
-        self.read_pieces(volume, fcb, buffer, lists::wide(k))
-    }
-
     // The single write of piece i.
     fn write_piece(self, volume: &mut [u8], fcb: &mut [u8], buffer: &[u8], i: usize) -> Reply
         requires { ⌜ recordBytes * i + recordBytes ≤ length (now buffer) ⌝ }
@@ -134,6 +120,20 @@ impl Drive {
             i += 1;
         }
         d.ended(i, Refusal::None)
+    }
+
+    // Function 220: reads k records at the sequential position, and moves it on.
+    pub fn read_several(self, volume: &[u8], fcb: &mut [u8], buffer: &mut [u8], k: u8) -> Reply
+        ensures { λ r. ⌜
+            left r (now (volume .entry)) (now (fcb .exit)) (now (buffer .exit))
+            ≡ several readSequentialLeaves self (now (volume .entry)) (now (fcb .entry)) (now (buffer .entry)) k
+            ⌝ }
+    {
+        let why = self.several_why(volume, fcb, buffer, k);
+        if !call_answers::is_none(why) {
+            return self.ended(0, why);
+        }
+        self.read_pieces(volume, fcb, buffer, lists::wide(k))
     }
 
     // Function 221: writes k records at the sequential position, and moves it on.

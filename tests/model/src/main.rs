@@ -22,6 +22,8 @@ use doors::script::Script;
 
 const USAGE: &str = "usage:
   model run SEED SCRIPTS FOLDER   scripts and chains on replay and at the seam; failing ones go to FOLDER
+  model some SEED SCRIPTS FOLDER  the same, where pairs of call and answer may be missing
+  model long SEED CALLS FOLDER    one run of so many calls at the seam
   model again FILE                a kept script or chain once more
   model keep SEED NUMBER FOLDER   writes the script and the chain of this number to FOLDER
   model expected                  a script on standard input: what replay must print
@@ -40,11 +42,24 @@ fn under_test() -> Result<(Program, Archive), String> {
     Ok((program("REPLAY")?, Archive::new(program("SEAM")?)))
 }
 
-fn run_all(seed: u64, scripts: u64, folder: &Path) -> Result<bool, String> {
+fn run_all(seed: u64, scripts: u64, folder: &Path, every_pair: bool) -> Result<bool, String> {
     let (replay, seam) = under_test()?;
     std::fs::create_dir_all(folder).map_err(|error| error.to_string())?;
-    let (passed, failed) = run(&Plan { seed, scripts, replay: &replay, seam: &seam, folder });
+    let (passed, failed) = run(&Plan { seed, scripts, replay: &replay, seam: &seam, folder, every_pair });
     println!("compared: {} passed, {} failed", passed, failed);
+    Ok(failed == 0)
+}
+
+fn run_long(seed: u64, calls: usize, folder: &Path) -> Result<bool, String> {
+    let (_, seam) = under_test()?;
+    std::fs::create_dir_all(folder).map_err(|error| error.to_string())?;
+    let fault = check::run::run_long(seed, calls, &seam, folder).err();
+    match &fault {
+        None => println!("one run of {} calls at the seam passed", calls),
+        Some(what) => println!("FAILED the run of {} calls of seed {} at the seam: {}", calls, seed, what),
+    }
+    let failed = u8::from(fault.is_some());
+    println!("compared: {} passed, {} failed", 1 - failed, failed);
     Ok(failed == 0)
 }
 
@@ -75,7 +90,13 @@ fn answer(text_of: fn(&[u8]) -> String) -> Result<bool, String> {
 fn obey(words: &[&str]) -> Option<Result<bool, String>> {
     Some(match words {
         ["run", seed, scripts, folder] => {
-            run_all(seed.parse().ok()?, scripts.parse().ok()?, Path::new(folder))
+            run_all(seed.parse().ok()?, scripts.parse().ok()?, Path::new(folder), true)
+        }
+        ["some", seed, scripts, folder] => {
+            run_all(seed.parse().ok()?, scripts.parse().ok()?, Path::new(folder), false)
+        }
+        ["long", seed, calls, folder] => {
+            run_long(seed.parse().ok()?, calls.parse().ok()?, Path::new(folder))
         }
         ["again", file] => again(file),
         ["keep", seed, number, folder] => keep(seed.parse().ok()?, number.parse().ok()?, Path::new(folder)),

@@ -9,6 +9,9 @@ use borrow.Author.Needs.{needs}
 use Rattle.call_delete.proofs.delete_matches.Statement.{statement}
 use Rattle.call_delete.proofs.delete_matches.Tie as tie
 
+find-requires : tie.Need-find-requires
+find-requires c κs = search needs
+
 delete-why-requires : tie.Need-delete-why-requires
 delete-why-requires c κs = search needs
 
@@ -24,7 +27,7 @@ same-length c = search needs
 returns : tie.Need-returns
 returns c =
     let n = sym (c .before .is-none .ensures) ∙ not-true _ (c .if1 .taken) in
-    (c .before .before .first-of .ensures ∙ ap (first (c .before .before .before .before .before .before .before .args .before)) (c .before .before .before .delete-why .ensures), (rw n, rw n))
+    (c .before .before .first-of .ensures ∙ ap (first (c .before .before .before .before .before .before .before .before .before .args .before)) (c .before .before .before .delete-why .ensures), (rw n, rw n))
 
 free-matches-requires : tie.Need-free-matches-requires
 free-matches-requires c κs = search needs
@@ -37,7 +40,7 @@ same-length-2 c = search needs
 
 returns-2 : tie.Need-returns-2
 returns-2 c =
-    let a = c .before .before .before .before .before .before .before .before .before .before .before .before .before .args in
+    let a = c .before .before .before .before .before .before .before .before .before .before .before .before .before .before .before .args in
     let n = sym (c .before .before .before .before .before .before .before .is-none .ensures) ∙ not-false _ (c .before .before .before .before .before .before .if1 .left) in
     (c .before .before .before .before .before .before .before .before .first-of .ensures ∙ ap (first (a .before)) (c .before .before .before .before .before .before .before .before .before .delete-why .ensures), (rw n (c .before .before .before .before .free-matches .ensures), rw (n, ← erases (a .user) (strip (now (a .pattern))) (now (a .pattern))) (c .before .before .change-all .ensures)))
 
@@ -45,6 +48,7 @@ pub delete-matches-spec : {M : Type 1} → statement M
 delete-matches-spec =
     tie.close
     (tie.spec
+    find-requires
     delete-why-requires
     first-of-requires
     is-none-requires

@@ -17,9 +17,6 @@ use Rattle.call_delete.proofs.delete_why.Tie as tie
 slots-requires : tie.Need-slots-requires
 slots-requires c κs = search needs
 
-find-requires : tie.Need-find-requires
-find-requires c κs = search needs
-
 find-from-requires : tie.Need-find-from-requires
 find-from-requires c κs = search needs
 
@@ -35,17 +32,17 @@ first-of-requires c κs = search needs
 returns : tie.Need-returns
 unfolding deleteTests
 returns c =
-    let a = c .before .before .before .before .before .before .before .before .args in
+    let s = c .before .before .before .before .before .before .before in
+    let a = s .args in
     let v = now (a .volume) in
     let p = strip (now (a .pattern)) in
-    rw (← ladder-two NoMatch ReadOnly (leb (slots (a .g)) (findSlot (a .g) v (a .user) p Match)) (ltb (findSlot (a .g) v (a .user) p ReadOnlyMatch) (slots (a .g))) refl, read-only-match-from (a .g) v (a .user) p, ← c .before .before .before .before .find .ensures .0, ← c .before .before .before .find-from .ensures .0, ← c .before .before .before .before .before .slots .ensures .0, ← c .before .before .refuse .ensures, ← c .before .refuse2 .ensures) (c .first-of .ensures)
+    rw (← ladder-two NoMatch ReadOnly (leb (slots (a .g)) (findSlot (a .g) v (a .user) p Match)) (ltb (findSlot (a .g) v (a .user) p ReadOnlyMatch) (slots (a .g))) refl, read-only-match-from (a .g) v (a .user) p, ← s .pre .1 .0, ← c .before .before .before .find-from .ensures .0, ← c .before .before .before .before .slots .ensures .0, ← c .before .before .refuse .ensures, ← c .before .refuse2 .ensures) (c .first-of .ensures)
 
 pub delete-why-spec : {M : Type 1} → statement M
 delete-why-spec =
     tie.close
     (tie.spec
     slots-requires
-    find-requires
     find-from-requires
     refuse-requires
     refuse-requires-2

@@ -1,8 +1,11 @@
--- The slots passed are freed, so what is still to be freed gives the whole.
+-- No slot below the first match is one; the slots passed from there on are freed, so what is still to be freed gives the whole.
+use Rattle.disk_volume.proofs.FindLaws.{folded-from-found}
+use Rattle.disk_volume.specs.declared.Wanted.the-variants.{Match}
+use Rattle.lists.proofs.FoldLaws.{Folded, folded-next, folded-end}
+use denote.Ref.{now}
 use mathlib.Core.Path.{sym}
 use Prim.Native.Nat.{_-_, _≤_}
 use borrow.Author.Needs.{needs}
-use Rattle.lists.proofs.FoldLaws.{Folded, folded-start, folded-next, folded-end}
 use Rattle.disk_volume.specs.Name.{strip}
 use Rattle.disk_geometry.specs.Geometry.{slots}
 use Rattle.call_delete.specs.Delete.{freeSlot, freeMatches}
@@ -10,16 +13,22 @@ use Rattle.call_delete.proofs.free_matches.Statement.{statement}
 use Rattle.call_delete.proofs.free_matches.Tie as tie
 
 abbrev Inv-loop : tie.InvT-loop
-Inv-loop g volume user pattern n rest₀ i₀ rest i = (i ≤ slots g) × Folded (freeSlot g volume user (strip pattern)) rest₀ (slots g) rest i
+Inv-loop g volume first user pattern n rest₀ i₀ rest i = (i ≤ slots g) × Folded (freeSlot g volume user (strip pattern)) rest₀ (slots g) rest i
 
 abbrev μ-loop : tie.MeasureT-loop
-μ-loop g volume user pattern n rest₀ i₀ rest i = n - i
+μ-loop g volume first user pattern n rest₀ i₀ rest i = n - i
 
 slots-requires : tie.Need-slots-requires Inv-loop μ-loop
 slots-requires c κs = search needs
 
 loop-holds : tie.Need-loop-holds Inv-loop μ-loop
-loop-holds c = (search needs, folded-start)
+unfolding freeSlot
+loop-holds c =
+    let s = c .before .before .before in
+    let a = s .args in
+    let v = now (a .volume) in
+    let p = strip (now (a .pattern)) in
+    (search needs, rw (s .pre .1 .0) (folded-from-found (a .g) v (a .user) p Match (freeSlot (a .g) v (a .user) p) (a .held) (λ i h. rw h)))
 
 free-slot-requires : tie.Need-free-slot-requires Inv-loop μ-loop
 free-slot-requires c κs = search needs

@@ -42,17 +42,17 @@ refuse-requires c κs = search needs
 is-none-requires : tie.Need-is-none-requires
 is-none-requires c κs = search needs
 
-sub-size-of : tie.Need-sub-size-of
-sub-size-of c = search needs
+sub-size-from : tie.Need-sub-size-from
+sub-size-from c = search needs
 
-part-size-of-start : tie.Need-part-size-of-start
-part-size-of-start c = search needs
+part-size-from-start : tie.Need-part-size-from-start
+part-size-from-start c = search needs
 
-part-size-of-end : tie.Need-part-size-of-end
-part-size-of-end c = search needs
+part-size-from-end : tie.Need-part-size-from-end
+part-size-from-end c = search needs
 
-size-of-requires : tie.Need-size-of-requires
-size-of-requires c κs = search needs
+size-from-requires : tie.Need-size-from-requires
+size-from-requires c κs = search needs
 
 set-random-requires : tie.Need-set-random-requires
 set-random-requires c κs = search needs
@@ -64,7 +64,7 @@ returns : tie.Need-returns
 unfolding nameAt part
 returns c =
     let n = sym (c .before .before .before .before .before .before .before .before .is-none .ensures) ∙ c .before .before .before .before .before .before .before .if1 .taken in
-    (why (c .before .before .before .before .before .before .before .before .before), rw (n, ← c .before .before .before .before .size-of .ensures .0) (c .before .before .set-random .ensures))
+    (why (c .before .before .before .before .before .before .before .before .before), rw (n, ← c .before .before .before .before .size-from .ensures .0) (c .before .before .set-random .ensures))
 
 same-length-2 : tie.Need-same-length-2
 same-length-2 c = search needs
@@ -85,10 +85,10 @@ measure-spec =
     slots-requires
     refuse-requires
     is-none-requires
-    sub-size-of
-    part-size-of-start
-    part-size-of-end
-    size-of-requires
+    sub-size-from
+    part-size-from-start
+    part-size-from-end
+    size-from-requires
     set-random-requires
     same-length
     returns

@@ -1,7 +1,7 @@
--- Each piece passed is changed; where no edit was meant, the record is as it was.
-use mathlib.Core.Bool.{false}
-use mathlib.Core.Path.{_≡_, refl, sym, ap, _∙_}
-use Prim.Native.Nat.{_*_, _+_, _-_, _≤_}
+-- Each piece passed is changed, so what is still to be changed gives the whole.
+use Prim.Native.Nat.{_-_, _≤_}
+use mathlib.Core.Path.{_≡_, sym, ap, _∙_}
+use Rattle.call_sweep.proofs.EditLaws.{changed-keeps, lent-piece}
 use native.Mathlib.Omega.{arith}
 use lib.ListN.{length-take, length-drop, length}
 use borrow.Author.Needs.{needs}
@@ -10,18 +10,17 @@ use Rattle.call_sweep.proofs.SweepLaws.{mapPiece-length}
 use Rattle.call_sweep.specs.CodeRecords.{mapPiece}
 use Rattle.disk_volume.specs.Name.{strip}
 use Rattle.call_sweep.specs.Sweep.{changed}
-use Rattle.call_sweep.proofs.EditLaws.{changed-keeps, lent-piece, lent-same, or-false}
 use Rattle.call_sweep.proofs.change_four.Statement.{statement}
 use Rattle.call_sweep.proofs.change_four.Tie as tie
 
 abbrev Inv-loop : tie.InvT-loop
-Inv-loop g sector₀ user name new edit any₀ k₀ sector any k = (k ≤ 4) × ((length sector ≡ 128) × (Folded (mapPiece (changed edit user (strip name) new)) sector₀ 4 sector k × (any ≡ false → sector ≡ sector₀)))
+Inv-loop g sector₀ user name new edit k₀ sector k = (k ≤ 4) × ((length sector ≡ 128) × Folded (mapPiece (changed edit user (strip name) new)) sector₀ 4 sector k)
 
 abbrev μ-loop : tie.MeasureT-loop
-μ-loop g sector₀ user name new edit any₀ k₀ sector any k = 4 - k
+μ-loop g sector₀ user name new edit k₀ sector k = 4 - k
 
 loop-holds : tie.Need-loop-holds Inv-loop μ-loop
-loop-holds c = (search needs, (search needs, (folded-start, λ q. refl)))
+loop-holds c = (search needs, (search needs, folded-start))
 
 mul-at : tie.Need-mul-at Inv-loop μ-loop
 mul-at c = search needs
@@ -53,14 +52,11 @@ loop-again c =
     let l = c .before .before .before .before .before .loop in
     let o = c .before .before .change-one in
     let f = changed (a .edit) (a .user) (strip (a .name .now)) (a .new .now) in
-    let e = lent-piece f (l .sector) (o .last .1 .0) (l .k) (o .ensures .0) in (
+    let e = lent-piece f (l .sector) (o .last .1 .0) (l .k) (o .ensures) in (
       search needs,
       (
         ap length e ∙ mapPiece-length (a .g) (search needs) f (changed-keeps (a .edit) (a .user) (strip (a .name .now)) (a .new .now) (search needs)) (l .sector) (l .k) (l .inv .1 .0) (search needs),
-        (
-          folded-next (l .inv .1 .1 .0) (search needs) e,
-          λ q. let s = or-false (l .any) (o .result) q in lent-same (l .sector) (o .last .1 .0) (l .k * 32) (l .k * 32 + 32 - l .k * 32) (o .ensures .1 (s .1)) ∙ l .inv .1 .1 .1 (s .0),
-        ),
+        folded-next (l .inv .1 .1) (search needs) e,
       ),
     )
 
@@ -68,7 +64,7 @@ same-length : tie.Need-same-length Inv-loop μ-loop
 same-length c = search needs
 
 returns : tie.Need-returns Inv-loop μ-loop
-returns c = let l = c .before .loop in (sym (folded-end (l .inv .1 .1 .0) (search needs)), l .inv .1 .1 .1)
+returns c = sym (folded-end (c .before .loop .inv .1 .1) (search needs))
 
 pub change-four-spec : {M : Type 1} → statement M
 change-four-spec =

@@ -1,6 +1,4 @@
 -- An edit is made where it is meant, and else nothing changes.
-use mathlib.Core.Bool.{true≢false}
-use mathlib.Core.Path.{refl, sym, _∙_}
 use denote.Ref.{now}
 use borrow.Author.Needs.{needs}
 use Rattle.disk_volume.specs.Name.{strip}
@@ -22,10 +20,8 @@ same-length c = search needs
 
 returns : tie.Need-returns
 returns c =
-    let a = c .before .before .before .before .before .before .before .before .before .before .before .args in (
-      rw (changed-is (a .g) (a .edit) (a .user) (strip (now (a .name))) (now (a .new)) (now (a .e)), ← c .before .before .before .before .before .before .before .meant .ensures, ← c .before .before .before .before .before .has .ensures, c .before .before .before .before .if1 .taken) (c .before .before .edit-entry .ensures),
-      λ q. absurd (true≢false (sym (c .before .before .before .before .if1 .taken) ∙ q)),
-    )
+    let a = c .before .before .before .before .before .before .before .before .before .before .before .args in
+    rw (changed-is (a .g) (a .edit) (a .user) (strip (now (a .name))) (now (a .new)) (now (a .e)), ← c .before .before .before .before .before .before .before .meant .ensures, ← c .before .before .before .before .before .has .ensures, c .before .before .before .before .if1 .taken) (c .before .before .edit-entry .ensures)
 
 same-length-2 : tie.Need-same-length-2
 same-length-2 c = search needs
@@ -33,7 +29,7 @@ same-length-2 c = search needs
 returns-2 : tie.Need-returns-2
 returns-2 c =
     let a = c .before .before .before .before .before .before .before .args in
-    (rw (changed-is (a .g) (a .edit) (a .user) (strip (now (a .name))) (now (a .new)) (now (a .e)), ← c .before .before .before .meant .ensures, ← c .before .has .ensures, c .if1 .left), λ q. refl)
+    rw (changed-is (a .g) (a .edit) (a .user) (strip (now (a .name))) (now (a .new)) (now (a .e)), ← c .before .before .before .meant .ensures, ← c .before .has .ensures, c .if1 .left)
 
 pub change-one-spec : {M : Type 1} → statement M
 change-one-spec =

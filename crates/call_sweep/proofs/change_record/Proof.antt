@@ -1,16 +1,11 @@
--- The record changed in a copy and stored; one in which nothing changed need not be.
-use mathlib.Core.Path.{_≡_, sym, _∙_}
+-- The record changed in a copy and stored.
+use mathlib.Core.Path.{_≡_}
 use Prim.Native.Nat.{_+_, _-_}
 use native.Mathlib.Omega.{arith}
-use denote.Ref.{now}
 use borrow.Author.Needs.{needs}
 use Rattle.lists.specs.Bytes.{part, put}
-use Rattle.call_sweep.proofs.SweepLaws.{record-same}
 use Rattle.disk_geometry.proofs.GeometryLaws.{bounds}
 use Rattle.call_sweep.specs.CodeRecords.{mapRecord}
-use Rattle.disk_volume.specs.Name.{strip}
-use Rattle.call_sweep.specs.Sweep.{changed}
-use Rattle.call_sweep.proofs.EditLaws.{changed-keeps}
 use Rattle.call_sweep.proofs.change_record.Statement.{statement}
 use Rattle.call_sweep.proofs.change_record.Tie as tie
 
@@ -65,23 +60,9 @@ same-length c = search needs
 returns : tie.Need-returns
 unfolding mapRecord part put
 returns c =
-    let at = c .before .before .before .before .before .before .before .before .before .before .before .before .before .before .start in
+    let at = c .before .before .before .before .before .before .before .before .before .before .before .before .before .start in
     let z : at .result + 128 - at .result ≡ 128 = omega arith in
-    rw (c .before .before .copy2 .ensures, c .before .before .before .before .before .before .before .change-four .ensures .0, c .before .before .before .before .before .before .before .before .before .before .copy .ensures, z, at .ensures .0)
-
-same-length-2 : tie.Need-same-length-2
-same-length-2 c = search needs
-
-returns-2 : tie.Need-returns-2
-unfolding part
-returns-2 c =
-    let s = c .before .before .before .before .before .before .before .before .before .before .before .before .before in
-    let a = s .args in
-    let at = c .before .before .before .before .before .before .before .before .before .start in
-    let z : at .result + 128 - at .result ≡ 128 = omega arith in
-    let f = changed (a .edit) (a .user) (strip (now (a .name))) (now (a .new)) in
-    record-same (a .g) (s .pre .0 .0) f (changed-keeps (a .edit) (a .user) (strip (now (a .name))) (now (a .new)) (s .pre .1 .1)) (now (a .volume)) (s .pre .0 .1 .0) (a .r) (s .pre .0 .1 .1)
-    (c .before .before .before .before .before .copy .last .0) (rw (z, at .ensures .0) at (c .before .before .before .before .before .copy .ensures)) (sym (c .before .before .change-four .ensures .0) ∙ c .before .before .change-four .ensures .1 (c .if1 .left))
+    rw (c .before .before .copy2 .ensures, c .before .before .before .before .before .before .change-four .ensures, c .before .before .before .before .before .before .before .before .before .copy .ensures, z, at .ensures .0)
 
 pub change-record-spec : {M : Type 1} → statement M
 change-record-spec =
@@ -103,6 +84,4 @@ change-record-spec =
     slice-aggregate-copy-2
     copy-requires-2
     same-length
-    returns
-    same-length-2
-    returns-2)
+    returns)

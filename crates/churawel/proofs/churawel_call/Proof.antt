@@ -1,5 +1,6 @@
--- A drive that counts as closed is refused; any other goes through the door and is laid back.
+-- A drive that counts as closed is refused; any other goes through the door, and is laid back where it may have changed.
 use Rattle.churawel.proofs.SeamLaws.{call-refused, call-done, call-value}
+use native.Mathlib.Omega.{arith}
 use borrow.Author.Needs.{needs}
 use Rattle.churawel.proofs.churawel_call.Statement.{statement}
 use Rattle.churawel.proofs.churawel_call.Tie as tie
@@ -7,8 +8,11 @@ use Rattle.churawel.proofs.churawel_call.Tie as tie
 decode-requires : tie.Need-decode-requires
 decode-requires c κs = search needs
 
-is-open-requires : tie.Need-is-open-requires
-is-open-requires c κs = search needs
+call-of-requires : tie.Need-call-of-requires
+call-of-requires c κs = search needs
+
+may-enter-requires : tie.Need-may-enter-requires
+may-enter-requires c κs = search needs
 
 seal-requires : tie.Need-seal-requires
 seal-requires c κs = search needs
@@ -18,19 +22,19 @@ same-length c = search needs
 
 returns : tie.Need-returns
 returns c =
-    let a = c .before .before .before .before .before .before .before .before .before .args in
-    call-refused (a .function) (a .parameter) (a .drive .now) (a .volume .now) (a .fcb .now) (a .buffer .now) (c .before .before .before .decode .ensures) (c .before .before .is-open .ensures) (c .before .if1 .taken) (c .seal .ensures)
+    let a = c .before .before .before .before .before .before .before .before .before .before .args in
+    call-refused (a .function) (a .parameter) (a .drive .now) (a .volume .now) (a .fcb .now) (a .buffer .now) (c .before .before .before .before .decode .ensures) (c .before .before .before .call-of .ensures) (c .before .before .may-enter .ensures) (c .before .if1 .taken) (c .seal .ensures)
 
 enter-requires : tie.Need-enter-requires
 enter-requires c κs = search needs
 
-encode-requires : tie.Need-encode-requires
-encode-requires c κs = search needs
+lay-back-requires : tie.Need-lay-back-requires
+lay-back-requires c κs = search needs
 
 seal-requires-2 : tie.Need-seal-requires-2
 seal-requires-2 c κs =
-    let a = c .before .before .before .before .before .before .before .before .before .before .before .before .before .before .before .before .before .before .before .before .before .before .before .before .args in
-    call-value _ _ (a .drive .now) (a .volume .now) (a .fcb .now) (a .buffer .now) (c .before .before .before .before .before .before .before .before .before .before .before .before .before .before .before .before .before .before .decode .ensures) (c .before .before .before .before .before .before .before .before .before .before .before .before .before .before .before .before .before .is-open .ensures) (c .before .before .before .before .before .before .before .before .before .before .before .enter .ensures)
+    let a = c .before .before .before .before .before .before .before .before .before .before .before .before .before .before .before .before .before .before .before .before .before .before .before .before .before .args in
+    call-value (a .function) (a .parameter) (a .drive .now) (a .volume .now) (a .fcb .now) (a .buffer .now) (c .before .before .before .before .before .before .before .before .before .before .before .before .before .before .before .before .before .before .before .decode .ensures) (c .before .before .before .before .before .before .before .before .before .before .before .before .before .before .before .before .before .before .call-of .ensures) (c .before .before .before .before .before .before .before .before .before .before .before .before .before .before .before .before .before .may-enter .ensures) (c .before .before .before .before .before .before .before .before .before .before .before .enter .ensures)
 
 same-length-2 : tie.Need-same-length-2
 same-length-2 c = search needs
@@ -46,20 +50,21 @@ same-length-5 c = search needs
 
 returns-2 : tie.Need-returns-2
 returns-2 c =
-    let a = c .before .before .before .before .before .before .before .before .before .before .before .before .before .before .before .before .before .before .before .before .before .before .before .before .before .args in
-    call-done (a .function) (a .parameter) (a .drive .now) (a .volume .now) (a .fcb .now) (a .buffer .now) (c .before .before .before .before .before .before .before .before .before .before .before .before .before .before .before .before .before .before .before .decode .ensures) (c .before .before .before .before .before .before .before .before .before .before .before .before .before .before .before .before .before .before .is-open .ensures) (c .before .before .before .before .before .before .before .before .before .before .before .before .before .before .before .before .before .if1 .left) (c .before .before .before .before .before .before .before .before .before .before .before .before .enter .ensures) (c .before .before .before .encode .ensures) (c .seal2 .ensures)
+    let a = c .before .before .before .before .before .before .before .before .before .before .before .before .before .before .before .before .before .before .before .before .before .before .before .before .before .before .args in
+    call-done (a .function) (a .parameter) (a .drive .now) (a .volume .now) (a .fcb .now) (a .buffer .now) (c .before .before .before .before .before .before .before .before .before .before .before .before .before .before .before .before .before .before .before .before .decode .ensures) (c .before .before .before .before .before .before .before .before .before .before .before .before .before .before .before .before .before .before .before .call-of .ensures) (c .before .before .before .before .before .before .before .before .before .before .before .before .before .before .before .before .before .before .may-enter .ensures) (c .before .before .before .before .before .before .before .before .before .before .before .before .before .before .before .before .before .if1 .left) (c .before .before .before .before .before .before .before .before .before .before .before .before .enter .ensures) (c .seal2 .ensures) (λ k. omega (arith, c .before .before .before .before .before .before .before .before .before .before .before .before .before .before .before .before .before .before .before .before .before .before .before .before .before .slice-known .given k)) (c .before .before .before .lay-back .ensures)
 
 pub churawel-call-spec : {M : Type 1} → statement M
 churawel-call-spec =
     tie.close
     (tie.spec
     decode-requires
-    is-open-requires
+    call-of-requires
+    may-enter-requires
     seal-requires
     same-length
     returns
     enter-requires
-    encode-requires
+    lay-back-requires
     seal-requires-2
     same-length-2
     same-length-3

@@ -11,7 +11,7 @@ use super::pairs::{Door, Row};
 use super::program::Program;
 use super::table::Tally;
 use super::{side_by_side, transcripts, ways};
-use crate::choose::chains::chain;
+use crate::choose::chains::{chain, long_chain};
 use crate::choose::scripts::script_bytes;
 use crate::doors::chain::Chain;
 use crate::doors::replay::{expected, Line};
@@ -32,6 +32,9 @@ pub struct Plan<'a> {
     pub seam: &'a dyn Seam,
     /// Where failing scripts and chains are kept.
     pub folder: &'a Path,
+    /// Whether a possible pair of call and answer that never occurred is a
+    /// failure; of few scripts it is not.
+    pub every_pair: bool,
 }
 
 /// What is compared for each number.
@@ -85,7 +88,7 @@ pub fn run(plan: &Plan) -> (u64, u64) {
     let mut failed = results.failures.len() as u64;
     for (door, tally) in [(Door::Replay, &results.replay), (Door::Seam, &results.seam)] {
         tally.print(door);
-        let (occurred, wrong, faults) = tally.judge(door);
+        let (occurred, wrong, faults) = tally.judge(door, plan.every_pair);
         println!("{} possible pairs occurred\n", occurred);
         for fault in &faults {
             println!("FAILED {:?}: {}", door, fault);
@@ -183,6 +186,17 @@ impl Results {
             self.replay.count(Row::Function(line.function), line.answer);
         }
     }
+}
+
+/// One long run of calls at the seam; what differs, if anything does.
+pub fn run_long(seed: u64, calls: usize, seam: &dyn Seam, folder: &Path) -> Result<(), String> {
+    let chain = long_chain(seed, calls);
+    let Some(fault) = seam_fault(&chain, seam, &mut Tally::default()) else {
+        return Ok(());
+    };
+    let path = folder.join(format!("{}-long.{}", seed, kept::CHAIN));
+    std::fs::write(&path, chain.encode()).map_err(|error| error.to_string())?;
+    Err(format!("{}\n       once more: tests/model/run again {}", fault, path.display()))
 }
 
 fn replay_fault(replay: &Program, bytes: &[u8], piece: usize, text: &str) -> Option<String> {

@@ -26,15 +26,19 @@ impl Tally {
     }
 
     /// How many possible pairs occurred, and what is wrong with the others, a
-    /// line for each call.
-    pub fn judge(&self, door: Door) -> (u64, u64, Vec<String>) {
+    /// line for each call; that one never occurred is wrong where every pair is
+    /// asked for.
+    pub fn judge(&self, door: Door, every_pair: bool) -> (u64, u64, Vec<String>) {
         let possible = possible(door);
         let occurred: BTreeSet<(Row, u32)> = self.counts.keys().copied().collect();
         let missing: BTreeSet<_> = possible.difference(&occurred).copied().collect();
         let impossible: BTreeSet<_> = occurred.difference(&possible).copied().collect();
-        let mut faults = by_row(&missing, "never answered");
-        faults.extend(by_row(&impossible, "can't answer, and did,"));
-        let failed = missing.len() + impossible.len();
+        let mut faults = by_row(&impossible, "can't answer, and did,");
+        let mut failed = impossible.len();
+        if every_pair {
+            faults.extend(by_row(&missing, "never answered"));
+            failed += missing.len();
+        }
         ((possible.len() - missing.len()) as u64, failed as u64, faults)
     }
 

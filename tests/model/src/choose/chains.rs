@@ -7,7 +7,7 @@ use super::alterations::alteration;
 use super::bad_scripts::number_not_served;
 use super::drives::wild_drive;
 use super::geometries::{geometry, wild_geometry};
-use super::images::{contents, make_length_wrong, valid_image};
+use super::images::{contents, make_length_wrong, valid_image, Contents};
 use super::random::Random;
 use super::runs::Chooser;
 use crate::check::pairs::Door;
@@ -41,6 +41,27 @@ pub fn chain(seed: u64, number: u64) -> Chain {
     Chain { volume, drive, steps: making.steps }
 }
 
+/// The number of the long run among the chains of a seed.
+const LONG: u64 = u64::MAX / 4;
+
+/// One long run of calls, as a collation makes it: on a volume of 64 slots and
+/// 58 data blocks, where nothing but the calls touches drive and volume.
+pub fn long_chain(seed: u64, calls: usize) -> Chain {
+    let mut r = Random::new(seed, LONG);
+    let geometry = Geometry::new(1024, 60, 2);
+    let volume = valid_image(&mut r, geometry, Contents::SomeFiles);
+    let mut making = Making::new(r, LONG);
+    making.geometry = geometry;
+    making.memory = Memory { volume, drive: CLOSED.to_vec(), ..Memory::default() };
+    making.steady = true;
+    let Memory { volume, drive, .. } = making.memory.clone();
+    making.log_in_with(geometry);
+    while making.calls < calls {
+        making.some_calls();
+    }
+    Chain { volume, drive, steps: making.steps }
+}
+
 /// A chain in the making, played on the model as it is chosen.
 struct Making {
     r: Random,
@@ -55,6 +76,8 @@ struct Making {
     wild: bool,
     /// Whether the volume is altered between calls.
     altered: bool,
+    /// Whether nothing but calls is in it.
+    steady: bool,
     /// The slot of the last alteration, for some calls after it.
     altered_slot: Option<usize>,
 }
@@ -73,6 +96,7 @@ impl Making {
             chooser: Chooser::new(Door::Seam, number),
             wild: r.percent(60),
             altered: r.percent(40),
+            steady: false,
             altered_slot: None,
             r,
         }
@@ -144,6 +168,10 @@ impl Making {
     /// One call or a few, with drive and volume changed before them now and
     /// then, and mostly put back after them.
     fn some_calls(&mut self) {
+        if self.steady {
+            let call = self.next_call(false);
+            return self.call(call);
+        }
         if self.altered && self.r.percent(12) {
             self.alter();
         } else if self.r.percent(12) {

@@ -5,6 +5,9 @@ use borrow.Author.Needs.{needs}
 use Rattle.call_rename.proofs.rename.rename_file.Statement.{statement}
 use Rattle.call_rename.proofs.rename.rename_file.Tie as tie
 
+find-requires : tie.Need-find-requires
+find-requires c κs = search needs
+
 rename-why-requires : tie.Need-rename-why-requires
 rename-why-requires c κs = search needs
 
@@ -23,7 +26,7 @@ same-length c = search needs
 returns : tie.Need-returns
 returns c =
     let n = sym (c .before .before .before .before .before .is-none .ensures) ∙ c .before .before .before .before .if1 .taken in
-    (c .before .before .before .before .before .before .first-of .ensures ∙ ap (first (c .before .before .before .before .before .before .before .before .before .before .before .before .args .before)) (c .before .before .before .before .before .before .before .rename-why .ensures), rw n (c .before .before .change-all .ensures))
+    (c .before .before .before .before .before .before .first-of .ensures ∙ ap (first (c .before .before .before .before .before .before .before .before .before .before .before .before .before .before .args .before)) (c .before .before .before .before .before .before .before .rename-why .ensures), rw n (c .before .before .change-all .ensures))
 
 same-length-2 : tie.Need-same-length-2
 same-length-2 c = search needs
@@ -31,12 +34,13 @@ same-length-2 c = search needs
 returns-2 : tie.Need-returns-2
 returns-2 c =
     let n = sym (c .before .is-none .ensures) ∙ c .if1 .left in
-    (c .before .before .first-of .ensures ∙ ap (first (c .before .before .before .before .before .before .before .before .args .before)) (c .before .before .before .rename-why .ensures), rw n)
+    (c .before .before .first-of .ensures ∙ ap (first (c .before .before .before .before .before .before .before .before .before .before .args .before)) (c .before .before .before .rename-why .ensures), rw n)
 
 pub rename-file-spec : {M : Type 1} → statement M
 rename-file-spec =
     tie.close
     (tie.spec
+    find-requires
     rename-why-requires
     first-of-requires
     is-none-requires

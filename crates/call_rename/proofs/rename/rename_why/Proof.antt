@@ -17,14 +17,11 @@ use Rattle.call_rename.proofs.rename.rename_why.Tie as tie
 slots-requires : tie.Need-slots-requires
 slots-requires c κs = search needs
 
-find-requires : tie.Need-find-requires
-find-requires c κs = search needs
-
 find-from-requires : tie.Need-find-from-requires
 find-from-requires c κs = search needs
 
-find-requires-2 : tie.Need-find-requires-2
-find-requires-2 c κs = search needs
+find-requires : tie.Need-find-requires
+find-requires c κs = search needs
 
 refuse-requires : tie.Need-refuse-requires
 refuse-requires c κs = search needs
@@ -44,20 +41,20 @@ first-of-requires-2 c κs = search needs
 returns : tie.Need-returns
 unfolding renameTests
 returns c =
-    let a = c .before .before .before .before .before .before .before .before .before .before .before .before .args in
+    let s = c .before .before .before .before .before .before .before .before .before .before .before in
+    let a = s .args in
     let v = now (a .volume) in
     let p = strip (now (a .name)) in
     let q = strip (now (a .new)) in
-    rw (← ladder-three NoMatch ReadOnly Exists (leb (slots (a .g)) (findSlot (a .g) v (a .user) p File)) (ltb (findSlot (a .g) v (a .user) p ReadOnlyFile) (slots (a .g))) (ltb (findSlot (a .g) v (a .user) q File) (slots (a .g))) refl, read-only-file-from (a .g) v (a .user) p, ← c .before .before .before .before .before .before .before .find .ensures .0, ← c .before .before .before .before .before .before .find-from .ensures .0, ← c .before .before .before .before .before .find2 .ensures .0, ← c .before .before .before .before .before .before .before .before .slots .ensures .0, ← c .before .before .before .before .refuse .ensures, ← c .before .before .before .refuse2 .ensures, ← c .before .before .refuse3 .ensures, ← c .before .first-of .ensures) (c .first-of2 .ensures)
+    rw (← ladder-three NoMatch ReadOnly Exists (leb (slots (a .g)) (findSlot (a .g) v (a .user) p File)) (ltb (findSlot (a .g) v (a .user) p ReadOnlyFile) (slots (a .g))) (ltb (findSlot (a .g) v (a .user) q File) (slots (a .g))) refl, read-only-file-from (a .g) v (a .user) p, ← s .pre .1 .1 .0, ← c .before .before .before .before .before .before .find-from .ensures .0, ← c .before .before .before .before .before .find .ensures .0, ← c .before .before .before .before .before .before .before .slots .ensures .0, ← c .before .before .before .before .refuse .ensures, ← c .before .before .before .refuse2 .ensures, ← c .before .before .refuse3 .ensures, ← c .before .first-of .ensures) (c .first-of2 .ensures)
 
 pub rename-why-spec : {M : Type 1} → statement M
 rename-why-spec =
     tie.close
     (tie.spec
     slots-requires
-    find-requires
     find-from-requires
-    find-requires-2
+    find-requires
     refuse-requires
     refuse-requires-2
     refuse-requires-3

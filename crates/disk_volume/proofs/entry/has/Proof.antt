@@ -4,9 +4,9 @@ use mathlib.Core.Bool.{and-true, and-false}
 use mathlib.Core.Path.{sym, _∙_}
 use denote.Ref.{now}
 use lib.Dec.{eqb}
-use Rattle.lists.specs.Bytes.{byte}
+use Rattle.lists.specs.Bytes.{byte, part}
 use Rattle.disk_geometry.specs.Geometry.{groupOf}
-use Rattle.disk_volume.specs.Name.{strip, nameOf, same, like}
+use Rattle.disk_volume.specs.Name.{strip, nameAt, nameOf, same, like}
 use Rattle.disk_volume.specs.Entry.{extent, ofFile, ofGroup, matches}
 use Rattle.disk_volume.proofs.EntryLaws.{group-passes, group-fails}
 use borrow.Author.Needs.{needs}
@@ -43,8 +43,17 @@ enum-known-wanted c = search needs
 in-group-requires : tie.Need-in-group-requires
 in-group-requires c κs = search needs
 
-of-file-requires-3 : tie.Need-of-file-requires-3
-of-file-requires-3 c κs = search needs
+sub-same-name : tie.Need-sub-same-name
+sub-same-name c = search needs
+
+part-same-name-start : tie.Need-part-same-name-start
+part-same-name-start c = search needs
+
+part-same-name-end : tie.Need-part-same-name-end
+part-same-name-end c = search needs
+
+same-name-requires : tie.Need-same-name-requires
+same-name-requires c κs = search needs
 
 enum-told-5 : tie.Need-enum-told-5
 enum-told-5 c = search needs
@@ -67,8 +76,17 @@ enum-known-wanted-2 c = search needs
 in-group-requires-2 : tie.Need-in-group-requires-2
 in-group-requires-2 c κs = search needs
 
-is-match-requires-3 : tie.Need-is-match-requires-3
-is-match-requires-3 c κs = search needs
+sub-like-name : tie.Need-sub-like-name
+sub-like-name c = search needs
+
+part-like-name-start : tie.Need-part-like-name-start
+part-like-name-start c = search needs
+
+part-like-name-end : tie.Need-part-like-name-end
+part-like-name-end c = search needs
+
+like-name-requires : tie.Need-like-name-requires
+like-name-requires c κs = search needs
 
 returns : tie.Need-returns
 returns c = search needs
@@ -88,10 +106,10 @@ returns-5 c =
     rw (c .before .before .enum-told4 .given .1, lt-leb _ _ (c .if1 .left)) (sym (and-false (ofFile (a .user) (strip (now (a .name))) (now (a .e)))))
 
 returns-6 : tie.Need-returns-6
-unfolding ofGroup
+unfolding ofGroup ofFile nameAt part
 returns-6 c =
-    let a = c .before .before .before .before .before .before .before .before .args in
-    rw (c .before .before .before .before .wanted .given .1) (c .of-file3 .ensures ∙ group-passes (eqb (byte (now (a .e)) 0) (a .user)) _ _ (sym (c .before .before .in-group .ensures) ∙ c .before .if2 .taken))
+    let a = c .before .before .before .before .before .before .before .before .before .args in
+    rw (c .before .before .before .before .before .wanted .given .1) (c .same-name .ensures ∙ group-passes (eqb (byte (now (a .e)) 0) (a .user)) _ _ (sym (c .before .before .before .in-group .ensures) ∙ c .before .before .if2 .taken))
 
 returns-7 : tie.Need-returns-7
 unfolding ofGroup ofFile
@@ -111,9 +129,10 @@ returns-10 c =
     rw (c .before .before .enum-told6 .given .1, lt-leb _ _ (c .if3 .left)) (sym (and-false (matches (a .user) (strip (now (a .name))) (now (a .e)))))
 
 returns-11 : tie.Need-returns-11
+unfolding matches nameAt part
 returns-11 c =
-    let a = c .before .before .before .before .before .before .before .before .args in
-    rw (c .before .before .before .before .wanted2 .given .1) (c .is-match3 .ensures ∙ group-passes (eqb (byte (now (a .e)) 0) (a .user)) _ _ (sym (c .before .before .in-group2 .ensures) ∙ c .before .if4 .taken))
+    let a = c .before .before .before .before .before .before .before .before .before .args in
+    rw (c .before .before .before .before .before .wanted2 .given .1) (c .like-name .ensures ∙ group-passes (eqb (byte (now (a .e)) 0) (a .user)) _ _ (sym (c .before .before .before .in-group2 .ensures) ∙ c .before .before .if4 .taken))
 
 returns-12 : tie.Need-returns-12
 unfolding matches
@@ -135,7 +154,10 @@ has-spec =
     of-file-requires-2
     enum-known-wanted
     in-group-requires
-    of-file-requires-3
+    sub-same-name
+    part-same-name-start
+    part-same-name-end
+    same-name-requires
     enum-told-5
     is-match-requires
     enum-told-6
@@ -143,7 +165,10 @@ has-spec =
     is-match-requires-2
     enum-known-wanted-2
     in-group-requires-2
-    is-match-requires-3
+    sub-like-name
+    part-like-name-start
+    part-like-name-end
+    like-name-requires
     returns
     returns-2
     returns-3

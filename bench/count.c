@@ -1,0 +1,76 @@
+// The same pieces of work as in bench.c, each done once on either side between two marks of the plugin instructions.c. A line
+// for each piece on standard output, `label work slots side`, names what the label's count means.
+#define _GNU_SOURCE
+#include "churawel.h"
+#include "jobs.h"
+#include "plain.h"
+
+#include <stdio.h>
+#include <sys/syscall.h>
+#include <unistd.h>
+
+enum { MARK = 77 };
+
+static const struct {
+    const char *name;
+    struct side side;
+} sides[] = {{"proved", {churawel_log_in, churawel_call}}, {"plain", {plain_log_in, plain_call}}};
+
+static const struct taking takings[] = {{0, 0, 0, 0}, {1, 0, 0, 0}, {15, 0, 0, 0}, {15, 0, 1, 0}};
+
+struct piece {
+    const char *work;
+    void (*before)(const struct side *);
+    job *job;
+    uint8_t function;
+    const struct taking *taking;
+};
+
+static const struct piece pieces[] = {
+    {"pass", start_anew, pass_job, 0, 0},
+    {"log-in", start_anew, log_in_job, 0, 0},
+    {"open", start_at_last_file, call_job, 15, 0},
+    {"open-missing", start_at_nothing, call_job, 15, 0},
+    {"close", start_at_last_file, call_job, 16, 0},
+    {"search-first", start_at_search, call_job, 17, 0},
+    {"search-next", start_in_search, call_job, 18, 0},
+    {"delete", start_at_last_file, call_job, 19, 0},
+    {"make", start_at_new_file, call_job, 22, 0},
+    {"rename", start_at_last_file, call_job, 23, 0},
+    {"attributes", start_at_last_file, call_job, 30, 0},
+    {"read", start_at_end, call_job, 33, 0},
+    {"write", start_at_end, call_job, 34, 0},
+    {"write-first-block", start_taking, taking_job, 34, &takings[0]},
+    {"write-next-block", start_taking, taking_job, 34, &takings[1]},
+    {"write-block-gap", start_taking, taking_job, 34, &takings[2]},
+    {"write-block-below", start_taking, taking_job, 34, &takings[3]},
+    {"size", start_at_last_file, call_job, 35, 0},
+};
+
+// Block size and directory blocks: 32, 128, 256 and 2,048 slots.
+static const uint32_t shapes[][2] = {{1024, 1}, {4096, 1}, {4096, 2}, {4096, 16}};
+
+static void mark(long label)
+{
+    syscall(SYS_getpriority, MARK, label);
+}
+
+int main(void)
+{
+    long label = 0;
+    for (size_t k = 0; k < sizeof shapes / sizeof *shapes; k++) {
+        fill_shelf(&full, shapes[k][0], shapes[k][1]);
+        for (size_t i = 0; i < sizeof pieces / sizeof *pieces; i++) {
+            for (size_t s = 0; s < sizeof sides / sizeof *sides; s++) {
+                job_function = pieces[i].function;
+                taking = pieces[i].taking;
+                pieces[i].before(&sides[s].side);
+                mark(0);
+                pieces[i].job(&sides[s].side, 1);
+                mark(++label);
+                printf("%ld %s %u %s\n", label, pieces[i].work, full.slots, sides[s].name);
+            }
+        }
+    }
+    return 0;
+}

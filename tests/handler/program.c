@@ -1,0 +1,186 @@
+/*
+ * Runs the handler of docs/handler.c as an emulator would: registers are set as a program of CP/M-86 sets them, and what the
+ * program then finds in AL, in its control block and at its DMA address is compared with what the paper says. A line for each
+ * case; the last line is `N passed, M failed`.
+ */
+#include "../../docs/handler.c"
+
+#include <stdio.h>
+
+enum { BLOCK = 1024, BLOCKS = 40, IMAGE_BYTES = BLOCK * BLOCKS, DS = 0x1000, FCB = 0x15C, DMA = 0x180 };
+
+static struct machine m;
+static uint8_t images[DRIVES][IMAGE_BYTES];
+static int passed, failed;
+
+static void expect(const char *what, long got, long wanted)
+{
+    if (got == wanted) {
+        passed++;
+        printf("ok %s\n", what);
+    } else {
+        failed++;
+        printf("FAILED %s: %ld and not %ld\n", what, got, wanted);
+    }
+}
+
+static uint8_t *fcb(void)
+{
+    return at(&m, DS, FCB);
+}
+
+static uint8_t *dma(void)
+{
+    return at(&m, m.dma_base, m.dma_offset);
+}
+
+/* A control block of this drive and name, at record n. */
+static void name(uint8_t dr, const char *eleven, unsigned n)
+{
+    memset(fcb(), 0, CHURAWEL_FCB_BYTES);
+    fcb()[0] = dr;
+    memcpy(fcb() + 1, eleven, 11);
+    fcb()[33] = (uint8_t)n;
+    fcb()[34] = (uint8_t)(n >> 8);
+}
+
+/* INT 224 with CL, CH and DX; DL is DX's low byte, as the processor has it. */
+static uint8_t int224(uint8_t cl, uint8_t ch, uint16_t dx)
+{
+    m.cl = cl;
+    m.ch = ch;
+    m.dx = dx;
+    m.dl = (uint8_t)dx;
+    file_call(&m);
+    return m.al;
+}
+
+static void put_images_in(void)
+{
+    m.ds = DS;
+    m.dma_base = DS;
+    m.dma_offset = DMA;
+    for (int i = 0; i < DRIVES; i++) {
+        memset(images[i], 0xE5, IMAGE_BYTES);
+        m.disk[i].image = images[i];
+        m.disk[i].image_bytes = IMAGE_BYTES;
+        uint32_t answer = churawel_log_in(BLOCK, BLOCKS, 1, images[i], IMAGE_BYTES, m.disk[i].drive, CHURAWEL_DRIVE_BYTES);
+        expect("log-in of an empty volume: 0", CHURAWEL_NUMBER(answer), 0);
+        expect("39 blocks are free", CHURAWEL_VALUE(answer), 39);
+    }
+}
+
+static void files_on_two_drives(void)
+{
+    name(0, "SIGLA   TXT", 0);
+    expect("make on the current drive: code 0", int224(22, 0, FCB), 0);
+    expect("A's image has changed", m.disk[0].changed, 1);
+    expect("B's has not", m.disk[1].changed, 0);
+    name(2, "COLLATIOTXT", 0);
+    expect("make on drive B: code 0", int224(22, 0, FCB), 0);
+    expect("the program's dr is put back", fcb()[0], 2);
+    expect("B has the entry", images[1][1], 'C');
+    expect("A has it not", memcmp(images[0] + 1, "SIGLA   TXT", 11), 0);
+    expect("make it again: 255 in AL", int224(22, 0, FCB), 255);
+    name(3, "SIGLA   TXT", 0);
+    expect("a drive that is not there: 255", int224(15, 0, FCB), 255);
+    name(0, "a=b        ", 0);
+    expect("a name that can't be typed: 255", int224(22, 0, FCB), 255);
+}
+
+static void records(void)
+{
+    name(0, "SIGLA   TXT", 0);
+    memset(dma(), 'A', 128);
+    expect("write record 0: 0", int224(34, 0, FCB), 0);
+    expect("its bytes stand at 1,024", images[0][1024], 'A');
+    name(0, "SIGLA   TXT", 20);
+    memset(dma(), 'B', 128);
+    expect("write record 20: 0", int224(34, 0, FCB), 0);
+    expect("its bytes stand at 2,560", images[0][2560], 'B');
+    name(0, "SIGLA   TXT", 8);
+    expect("read 8, in a gap: 1", int224(33, 0, FCB), 1);
+    name(0, "SIGLA   TXT", 128);
+    expect("read 128, in a missing extent: 4", int224(33, 0, FCB), 4);
+    name(0, "SIGLA   TXT", 0);
+    memset(dma(), 0, 128);
+    expect("read 0: 0", int224(33, 0, FCB), 0);
+    expect("the record is at the DMA address", dma()[127], 'A');
+    expect("size: 0", int224(35, 0, FCB), 0);
+    expect("21 records", fcb()[33] + 256 * fcb()[34], 21);
+}
+
+/* Three records by one call, with the count in CH: DL is 5CH here and means nothing. */
+static void several(void)
+{
+    name(0, "SIGLA   TXT", 0);
+    for (int i = 0; i < 3; i++)
+        memset(dma() + 128 * i, '1' + i, 128);
+    expect("221 of three records: 0", int224(221, 3, FCB), 0);
+    expect("three are done, in AH", m.ah, 3);
+    expect("cr stands behind them", fcb()[32], 3);
+    expect("the third stands at 1,280", images[0][1280], '3');
+    name(0, "SIGLA   TXT", 0);
+    memset(dma(), 0, 3 * 128);
+    fcb()[32] = 1;
+    expect("220 of sixteen stops in a gap: 1", int224(220, 16, FCB), 1);
+    expect("seven were done", m.ah, 7);
+    expect("the first of them is record 1", dma()[0], '2');
+    expect("seventeen records: 46", int224(220, 17, FCB), 46);
+}
+
+static void searches_and_users(void)
+{
+    name(2, "???????????", 0);
+    expect("search first on B: code 0", int224(17, 0, FCB), 0);
+    expect("the directory record is shown", dma()[1], 'C');
+    expect("search next goes on there: 255", int224(18, 0, 0), 255);
+    expect("user 3 for both drives: 0", int224(32, 0, 3), 0);
+    expect("the current user is 3", int224(32, 0, 255), 3);
+    name(2, "COLLATIOTXT", 0);
+    expect("user 3 has no such file on B: 255", int224(15, 0, FCB), 255);
+    expect("13 logs all drives in anew: 0", int224(13, 0, 0), 0);
+    expect("and the program's user is still 3", int224(32, 0, 255), 3);
+    expect("37 for drive B alone: 0", int224(37, 0, 2), 0);
+    expect("user 0 again: 0", int224(32, 0, 0), 0);
+    expect("B's file is opened: 0", int224(15, 0, FCB), 0);
+}
+
+/* The control block may lie inside the transfer buffer: copies are lent, and the control block is stored last. */
+static void overlapping(void)
+{
+    name(0, "SIGLA   TXT", 0);
+    m.dma_offset = FCB - 64;
+    expect("read with the control block inside the buffer: 0", int224(33, 0, FCB), 0);
+    expect("the record before it", *at(&m, DS, FCB - 1), '1');
+    expect("the control block is whole", memcmp(fcb() + 1, "SIGLA   TXT", 11), 0);
+    expect("and the record behind it", *at(&m, DS, FCB + 36), '1');
+    m.dma_offset = DMA;
+}
+
+static void protection(void)
+{
+    expect("28 protects the current drive: 0", int224(28, 0, 0), 0);
+    name(0, "SIGLA   TXT", 0);
+    expect("a write is refused by 37", int224(34, 0, FCB), 37);
+    expect("a delete is refused: 255 in AL", int224(19, 0, FCB), 255);
+    name(2, "COLLATIOTXT", 0);
+    expect("B is not protected", int224(34, 0, FCB), 0);
+    expect("log-in ends it", int224(13, 0, 0), 0);
+    name(0, "SIGLA   TXT", 0);
+    expect("delete: 0", int224(19, 0, FCB), 0);
+    expect("a function that is not served: 255", int224(99, 0, FCB), 255);
+}
+
+int main(void)
+{
+    put_images_in();
+    files_on_two_drives();
+    records();
+    several();
+    searches_and_users();
+    overlapping();
+    protection();
+    printf("%d passed, %d failed\n", passed, failed);
+    return failed > 0;
+}

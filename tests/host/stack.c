@@ -1,0 +1,91 @@
+// The stack that a call needs: docs/EMULATOR.md promises a bound, and here it is measured. Each call runs on a stack of its own
+// that was painted before; what is no longer painted afterwards was used.
+#define _XOPEN_SOURCE 700
+#include "churawel.h"
+#include "desk.h"
+
+#include <stdio.h>
+#include <string.h>
+#include <ucontext.h>
+
+enum { STACK_BYTES = 1 << 20, PROMISED = 16 * 1024, PAINT = 0xA5, B = 4096, T = 256, D = 16, SLOTS = D * B / ENTRY };
+
+static uint8_t stack[STACK_BYTES], volume[T * B], drive[64], fcb[36], buffer[PIECES * RECORD];
+static ucontext_t caller, callee;
+static uint8_t asked, parameter;
+
+static void log_in_there(void)
+{
+    churawel_log_in(B, T, D, volume, sizeof volume, drive, sizeof drive);
+}
+
+static void call_there(void)
+{
+    size_t bytes = asked >= 220 ? sizeof buffer : RECORD;
+    churawel_call(asked, parameter, drive, sizeof drive, volume, sizeof volume, fcb, sizeof fcb, buffer, bytes);
+}
+
+// How many bytes of a painted stack the work uses.
+static size_t used_by(void (*work)(void))
+{
+    memset(stack, PAINT, sizeof stack);
+    getcontext(&callee);
+    callee.uc_stack.ss_sp = stack;
+    callee.uc_stack.ss_size = sizeof stack;
+    callee.uc_link = &caller;
+    makecontext(&callee, work, 0);
+    swapcontext(&caller, &callee);
+    size_t untouched = 0;
+    while (untouched < sizeof stack && stack[untouched] == PAINT)
+        untouched++;
+    return sizeof stack - untouched;
+}
+
+// A full directory: each slot has a file of its own, the last one a block.
+static void fill_volume(void)
+{
+    memset(volume, 0, sizeof volume);
+    for (unsigned slot = 0; slot < SLOTS; slot++) {
+        char name[16];
+        snprintf(name, sizeof name, "BAND%04uTXT", slot);
+        memcpy(volume + slot * ENTRY + 1, name, 11);
+    }
+    volume[(SLOTS - 1) * ENTRY + 15] = 1;
+    volume[(SLOTS - 1) * ENTRY + 16] = D;
+}
+
+// On the last file; a search is open, and rename has a new name.
+static void start(void)
+{
+    fill_volume();
+    log_in_there();
+    memset(fcb, 0, sizeof fcb);
+    memset(fcb + 1, '?', 11);
+    asked = 17;
+    call_there();
+    memcpy(fcb + 1, "BAND2047TXT", 11);
+    memcpy(fcb + 17, "NEUBANDXTXT", 11);
+}
+
+void stack_used(void)
+{
+    static const uint8_t functions[] = {13, 15, 16, 17, 18, 19, 20, 21, 22, 23, 28, 30, 32, 33, 34, 35, 36, 37, 40, 220, 221, 99};
+    char what[96];
+    fill_volume();
+    size_t most = used_by(log_in_there);
+    snprintf(what, sizeof what, "log-in uses less stack than is promised: %zu bytes of %d", most, PROMISED);
+    verdict(what, most < PROMISED);
+    size_t least = most;
+    most = 0;
+    for (size_t i = 0; i < COUNT(functions); i++) {
+        start();
+        asked = functions[i];
+        parameter = asked >= 220 ? PIECES : 0;
+        size_t used = used_by(call_there);
+        most = used > most ? used : most;
+        least = used < least ? used : least;
+    }
+    snprintf(what, sizeof what, "and so does each function: %zu bytes at most", most);
+    verdict(what, most < PROMISED);
+    verdict("and what is measured is a call's own stack", least > 0 && least < most);
+}
