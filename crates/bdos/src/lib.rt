@@ -35,8 +35,8 @@ fn carry(
     }
 }
 
-// Does a call; g is the geometry that a log-in takes.
-fn serve(
+// Does a call; g is the geometry that a log-in takes. The seam, which knows the call already, comes in here.
+pub fn serve(
     g: Geometry,
     kind: Call,
     parameter: u8,

@@ -1,16 +1,18 @@
 // Search: the next slot that a search hits, and the directory record that shows it.
 ghost use mathlib.Core.Path.{_≡_};
-ghost use mathlib.Core.Bool.{true};
 ghost use Prim.Native.Nat.{_≤_};
 ghost use lib.ListN.{length};
-ghost use Rattle.disk_geometry.specs.Geometry.{lawful, slots};
-ghost use Rattle.disk_volume.specs.CodeLent.{VolumeAnd, IsFcb, IsRecord};
+ghost use Rattle.disk_geometry.specs.Geometry.{slots};
+ghost use Rattle.disk_volume.specs.CodeLent.{IsVolume, VolumeAnd, IsName, IsFcb, IsRecord};
+ghost use Rattle.disk_volume.specs.Name.{strip};
+ghost use Rattle.disk_volume.specs.Directory.{findFrom};
 ghost use Rattle.call_search.specs.Search.{patternBytes, kindAsked, sought, patternOf, hitFrom};
 ghost use Rattle.call_search.specs.CodeHit.{hitBuffer};
 use crate::PATTERN_BYTES;
 use crate::SearchKind;
 use disk_geometry::Geometry;
 use disk_volume::Wanted;
+use disk_volume::directory::find_from;
 use disk_volume::fields::NAME;
 use disk_volume::fields::NAME_BYTES;
 use disk_volume::fields::S1;
@@ -37,18 +39,31 @@ pub fn pattern_of(fcb: &[u8]) -> [u8; PATTERN_BYTES]
     pattern
 }
 
-// What a search of this kind looks for; ex 3FH is any group.
-fn sought_by(g: Geometry, kind: SearchKind, ex: u8) -> Wanted
-    requires { ⌜ lawful g ≡ true ⌝ }
-    ensures { λ r. ⌜ r ≡ sought g kind ex ⌝ }
+// The lowest slot from `from` on that a search of this kind looks for; ex 3FH is any group. Each kind has a search of its own, so
+// that what is wanted is not asked again at every slot.
+fn find_sought(
+    g: Geometry,
+    volume: &[u8],
+    from: usize,
+    user: u8,
+    name: &[u8],
+    kind: SearchKind,
+    ex: u8,
+) -> usize
+    requires { ⌜ IsVolume g (now volume) ⌝ }
+    requires { ⌜ (from ≤ slots g) × IsName (now name) ⌝ }
+    ensures { λ r. ⌜
+        (r ≡ findFrom g (now (volume .entry)) user (strip (now (name .entry))) (sought g kind ex) from) × (r ≤ slots g)
+        ⌝ }
 {
     match kind {
-        SearchKind::Nothing => Wanted::Any,
-        SearchKind::Everything => Wanted::Any,
+        SearchKind::Nothing => find_from(g, volume, from, user, name, Wanted::Any),
+        SearchKind::Everything => find_from(g, volume, from, user, name, Wanted::Any),
         SearchKind::Pattern => if ex == WILDCARD {
-            Wanted::Match
+            find_from(g, volume, from, user, name, Wanted::Match)
         } else {
-            Wanted::MatchGroup(g.group(lists::wide(ex)))
+            let k = g.group(lists::wide(ex));
+            find_from(g, volume, from, user, name, Wanted::MatchGroup(k))
         },
     }
 }
@@ -65,8 +80,8 @@ fn hit_from(
     requires { ⌜ VolumeAnd g (now volume) ((length (now pattern) ≡ patternBytes) × (from ≤ slots g)) ⌝ }
     ensures { λ r. ⌜ (r ≡ hitFrom g (now (volume .entry)) kind user (now (pattern .entry)) from) × (r ≤ slots g) ⌝ }
 {
-    let wanted = sought_by(g, kind, pattern[NAME_BYTES]);
-    disk_volume::directory::find_from(g, volume, from, user, &pattern[0..NAME_BYTES], wanted)
+    let ex = pattern[NAME_BYTES];
+    find_sought(g, volume, from, user, &pattern[0..NAME_BYTES], kind, ex)
 }
 
 // Searches from slot `from` on: the record of the hit goes to the buffer where there is one. Answers the slot that was

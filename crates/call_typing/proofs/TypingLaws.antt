@@ -1,5 +1,5 @@
 -- Laws of names that can be typed: a blank stands before a later non-blank exactly where one stands just before it, which is
--- what the loop looks for; a part of a stripped name is the stripped part.
+-- what the loop looks for.
 use mathlib.Core.Path.{_≡_, refl, ap, _∙_}
 use mathlib.Core.Bool.{Bool, true, false, not, cond, _&&_, and-false}
 use mathlib.Core.List.{List, [], _∷_}
@@ -47,20 +47,3 @@ last-places (x ∷ y ∷ ys) =
         let y : suc (suc k) - 1 ≡ suc k = omega arith in
         let z : suc k - 1 ≡ k = omega arith in
         rw (y, z)
-
--- ---- a part of a stripped name
-strip-take : (n : ℕ) (l : List ℕ) → strip (take n l) ≡ take n (strip l)
-unfolding strip
-strip-take zero l = refl
-strip-take (suc n) [] = refl
-strip-take (suc n) (x ∷ xs) = ap (λ (w : List ℕ). x % 128 ∷ w) (strip-take n xs)
-
-strip-drop : (n : ℕ) (l : List ℕ) → strip (drop n l) ≡ drop n (strip l)
-unfolding strip
-strip-drop zero l = refl
-strip-drop (suc n) [] = refl
-strip-drop (suc n) (x ∷ xs) = strip-drop n xs
-
-pub strip-part : (l : List ℕ) (a n : ℕ) → strip (part l a n) ≡ part (strip l) a n
-unfolding part
-strip-part l a n = strip-take n (drop a l) ∙ ap (take n) (strip-drop a l)

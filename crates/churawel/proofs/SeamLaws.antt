@@ -18,7 +18,7 @@ use Rattle.filecalls.specs.declared.Reply.{Reply}
 use Rattle.filecalls.specs.State.{isOpen}
 use Rattle.filecalls.specs.Outcome.{Outcome, left}
 use Rattle.filecalls.specs.LogIn.{logIn}
-use Rattle.bdos.specs.Step.{step}
+use Rattle.bdos.specs.Step.{does, step}
 use Rattle.call_served.specs.Asked.{asked}
 use Rattle.drive_bytes.specs.Layout.{decoded, encoded, encodedIn}
 use Rattle.drive_bytes.proofs.LoadLaws.{drive-whole}
@@ -51,10 +51,18 @@ module _ (n p : ℕ) (s v f b : List ℕ) {d : Drive} {call : Call} {t : Bool} (
       let k : isOpen (decoded s) ≡ false = ap isOpen (sym is) ∙ or-parts (asksOpen call) (isOpen d) (sym asks ∙ not-true t h) .1 in
       rw (k, e)
 
-  pub call-value : {o : Reply} {v′ f′ b′ : List ℕ} → left o v′ f′ b′ ≡ step (d .geometry) (asked n p f b) d v → valueOf (o .answer) < 65536
-  call-value steps = rw (ap (λ (o : Outcome). valueOf (o .answer)) steps) (step-value (d .geometry) (asked n p f b) d v)
+  -- what the call does is the step of its number
+  call-steps : {o : Outcome} → o ≡ does (d .geometry) call p d v f b → o ≡ step (d .geometry) (asked n p f b) d v
+  unfolding step
+  call-steps did = did ∙ ap (λ (x : Call). does (d .geometry) x p d v f b) is-call
 
-  module _ (h : not t ≡ false) {r : ℕ} {o : Reply} {v′ f′ b′ : List ℕ} (steps : left o v′ f′ b′ ≡ step (d .geometry) (asked n p f b) d v) (says : r ≡ answered (o .answer)) where
+  pub call-value : {o : Reply} {v′ f′ b′ : List ℕ} → left o v′ f′ b′ ≡ does (d .geometry) call p d v f b → valueOf (o .answer) < 65536
+  call-value did = rw (ap (λ (o : Outcome). valueOf (o .answer)) (call-steps did)) (step-value (d .geometry) (asked n p f b) d v)
+
+  module _ (h : not t ≡ false) {r : ℕ} {o : Reply} {v′ f′ b′ : List ℕ} (did : left o v′ f′ b′ ≡ does (d .geometry) call p d v f b) (says : r ≡ answered (o .answer)) where
+    steps : left o v′ f′ b′ ≡ step (d .geometry) (asked n p f b) d v
+    steps = call-steps did
+
     at-decoded : left o v′ f′ b′ ≡ step (decoded s .geometry) (asked n p f b) (decoded s) v
     at-decoded = steps ∙ ap (λ (x : Drive). step (x .geometry) (asked n p f b) x v) is
 

@@ -132,7 +132,7 @@ pub extern "C" fn churawel_call(
         return seal(Answer::Refused(Refusal::Closed));
     }
     let g = d.geometry;
-    let reply = bdos::enter(g, function, parameter, d, volume, fcb, buffer);
+    let reply = bdos::serve(g, kind, parameter, d, volume, fcb, buffer);
     let next = reply.drive;
     let answer = reply.answer;
     lay_back(kind, answer, next, drive);

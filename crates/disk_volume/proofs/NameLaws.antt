@@ -1,17 +1,22 @@
 -- Laws of names: what a stripped name is; a test that goes through names byte by byte is a test of each place, so that
 -- the loops of names have the law of every other loop; what "same" and "like" tell.
-use mathlib.Core.Path.{_≡_, refl, sym, ap, _∙_}
+use mathlib.Core.Path.{_≡_, refl, sym, ap, ap₂, _∙_}
 use mathlib.Core.Bool.{Bool, true, false, not, cond, _&&_, _||_, and-true, and-false, false≢true}
-use mathlib.Core.List.{List, [], _∷_}
-use Prim.Native.Nat.{ℕ, zero, suc, _+_, _-_, _%_, _≤_, _<_}
+use mathlib.Core.List.{List, [], _∷_, _++_}
+use Prim.Native.Nat.{ℕ, zero, suc, _+_, _-_, _*_, _%_, _^_, _≤_, _<_}
 use native.Mathlib.Numerals.{add-one}
+use native.Mathlib.Decide.{ℕ-discrete}
 use native.Mathlib.Omega.{arith}
+use lib.Bits.{bitAnd, and-block, and-mask}
 use lib.Dec.{leb, eqb}
-use lib.ListN.{length}
-use borrow.Author.Tests.{eq-eqb, eqb-true}
+use lib.ListN.{length, replicate, take, drop}
+use borrow.Author.Tests.{eq-eqb, ne-eqb, eqb-true}
 use Rattle.lists.proofs.BoolLaws.{and-left, and-right}
 use Rattle.lists.specs.Bounded.{everyFrom, every}
-use Rattle.lists.specs.Bytes.{byte, all}
+use Rattle.lists.specs.Bytes.{byte, part, all}
+use Rattle.lists.proofs.PartLaws.{length-part}
+use Rattle.numbers.specs.Numbers.{Bytes, number, bytesFrom}
+use Rattle.numbers.proofs.NumberLaws.{part-bytes, bytes-from}
 use Rattle.disk_volume.specs.Name.{strip, same, like, nameByte, goodName}
 
 -- ---- a stripped name
@@ -30,6 +35,23 @@ pub strip-strip : (l : List ℕ) → strip (strip l) ≡ strip l
 unfolding strip
 strip-strip [] = refl
 strip-strip (x ∷ xs) = let z : x % 128 % 128 ≡ x % 128 = omega arith in rw (z, strip-strip xs)
+
+-- a part of a stripped name is the stripped part
+strip-take : (n : ℕ) (l : List ℕ) → strip (take n l) ≡ take n (strip l)
+unfolding strip
+strip-take zero l = refl
+strip-take (suc n) [] = refl
+strip-take (suc n) (x ∷ xs) = ap (λ (w : List ℕ). x % 128 ∷ w) (strip-take n xs)
+
+strip-drop : (n : ℕ) (l : List ℕ) → strip (drop n l) ≡ drop n (strip l)
+unfolding strip
+strip-drop zero l = refl
+strip-drop (suc n) [] = refl
+strip-drop (suc n) (x ∷ xs) = strip-drop n xs
+
+pub strip-part : (l : List ℕ) (a n : ℕ) → strip (part l a n) ≡ part (strip l) a n
+unfolding part
+strip-part l a n = strip-take n (drop a l) ∙ ap (take n) (strip-drop a l)
 
 -- ---- byte by byte is place by place
 -- the places one further on
@@ -165,3 +187,70 @@ all-weaken q r w (x ∷ xs) e = go (q x) refl e (all-weaken q r w xs)
 pub good-same : (a p : List ℕ) → goodName false p ≡ true → like a p ≡ same a p
 unfolding goodName
 good-same a p e = like-same a p (all-weaken (nameByte false) plain (λ x. and-right (leb 32 x && leb x 126) (plain x)) p (and-left (all (nameByte false) p) (not (eqb (byte p 0) 32)) e))
+
+-- ---- names as numbers, several bytes at once
+-- the bits of each byte but its top one are the stripped bytes
+pub strip-number : (l : List ℕ) → Bytes l → bitAnd (number l) (number (replicate (length l) 127)) ≡ number (strip l)
+unfolding number strip
+strip-number [] h = refl
+strip-number (x ∷ xs) h =
+    let m : ℕ = number (replicate (length xs) 127) in
+    let e : x + 256 * number xs ≡ number xs * 2 ^ 8 + x = omega arith in
+    let f : 127 + 256 * m ≡ m * 2 ^ 8 + 127 = omega arith in
+    ap₂ bitAnd e f ∙ and-block 8 (number xs) m x 127 (h 0) (omega arith)
+    ∙ ap₂ (λ (y z : ℕ). y * 2 ^ 8 + z) (strip-number xs (λ k. h (suc k))) (and-mask x 7) ∙ omega arith
+
+strip-bytes : (l : List ℕ) → Bytes (strip l)
+strip-bytes l k = rw (byte-strip l k) (omega arith)
+
+-- two numbers are the same where the lowest byte and the rest are
+digit-same : (x y m n : ℕ) → x < 256 → y < 256 → eqb (x + 256 * m) (y + 256 * n) ≡ cond (eqb x y) (eqb m n) false
+digit-same x y m n h k = elim (ℕ-discrete x y) [
+  | yes e ↦ elim (ℕ-discrete m n) [
+    | yes f ↦ eq-eqb (x + 256 * m) (y + 256 * n) (omega arith) ∙ sym (rw (eq-eqb x y e, eq-eqb m n f))
+    | no f ↦ ne-eqb (x + 256 * m) (y + 256 * n) (λ g. f (omega arith)) ∙ sym (rw (eq-eqb x y e, ne-eqb m n f))
+  ]
+  | no e ↦ ne-eqb (x + 256 * m) (y + 256 * n) (λ g. e (omega arith)) ∙ sym (rw (ne-eqb x y e))
+]
+
+same-number : (a b : List ℕ) → length a ≡ length b → Bytes a → Bytes b → eqb (number a) (number b) ≡ same a b
+unfolding number same
+same-number [] [] e h k = refl
+same-number [] (y ∷ ys) e h k = absurd (omega arith)
+same-number (x ∷ xs) [] e h k = absurd (omega arith)
+same-number (x ∷ xs) (y ∷ ys) e h k =
+    digit-same x y (number xs) (number ys) (h 0) (k 0)
+    ∙ ap (λ (t : Bool). cond (eqb x y) t false) (same-number xs ys (omega arith) (λ i. h (suc i)) (λ i. k (suc i)))
+
+-- what is asked of the words from byte i on
+abbrev pub wordSame : List ℕ → List ℕ → ℕ → Bool
+wordSame a b i = eqb (number (strip (part a i 8))) (number (strip (part b i 8)))
+
+-- eleven bytes are the first eight and the last eight, which share some
+module _ (a b : List ℕ) (d : length a ≡ 11) (e : length b ≡ 11) where
+  word-told : (i : ℕ) → i + 8 ≤ 11 → wordSame a b i ≡ true → bytesFrom (strip a) i 8 ≡ bytesFrom (strip b) i 8
+  word-told i h t =
+      let n : length (strip (part a i 8)) ≡ length (strip (part b i 8)) =
+      length-strip (part a i 8) ∙ length-part a i 8 (omega arith) ∙ sym (length-strip (part b i 8) ∙ length-part b i 8 (omega arith)) in
+      let s : strip (part a i 8) ≡ strip (part b i 8) = same-true _ _ (sym (same-number (strip (part a i 8)) (strip (part b i 8)) n (strip-bytes _) (strip-bytes _)) ∙ t) in
+      sym (strip-part a i 8 ∙ part-bytes (strip a) i 8 (rw (length-strip a) (omega arith))) ∙ s
+      ∙ (strip-part b i 8 ∙ part-bytes (strip b) i 8 (rw (length-strip b) (omega arith)))
+
+  words-whole : wordSame a b 0 ≡ true → wordSame a b 3 ≡ true → strip a ≡ strip b
+  unfolding bytesFrom
+  words-whole p q =
+      sym (bytes-from (strip a) 11 (length-strip a ∙ d))
+      ∙ ap₂ (λ (x y : List ℕ). x ++ drop 5 y) (word-told 0 (omega arith) p) (word-told 3 (omega arith) q)
+      ∙ bytes-from (strip b) 11 (length-strip b ∙ e)
+
+  pub same-words : same (strip a) (strip b) ≡ cond (wordSame a b 0) (wordSame a b 3) false
+  same-words = go (same (strip a) (strip b)) refl (wordSame a b 0) (wordSame a b 3) refl refl
+    where
+      word-is : strip a ≡ strip b → (i : ℕ) → wordSame a b i ≡ true
+      word-is s i = eq-eqb _ _ (ap number (strip-part a i 8 ∙ ap (λ (l : List ℕ). part l i 8) s ∙ sym (strip-part b i 8)))
+
+      go : (t : Bool) → same (strip a) (strip b) ≡ t → (p q : Bool) → wordSame a b 0 ≡ p → wordSame a b 3 ≡ q → same (strip a) (strip b) ≡ cond (wordSame a b 0) (wordSame a b 3) false
+      go true s p q x y = let k = same-true (strip a) (strip b) s in rw (s, word-is k 0, word-is k 3)
+      go false s true true x y = absurd (false≢true (sym s ∙ ap (same (strip a)) (sym (words-whole x y)) ∙ same-refl (strip a)))
+      go false s true false x y = rw (s, x, y)
+      go false s false q x y = rw (s, x)

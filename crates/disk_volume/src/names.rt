@@ -1,6 +1,8 @@
 // Names: eleven bytes, compared and tested without their top bits.
 ghost use mathlib.Core.Path.{_≡_};
 ghost use mathlib.Core.Bool.{true, false};
+ghost use lib.ListN.{length};
+ghost use Rattle.numbers.specs.Numbers.{number};
 ghost use Rattle.disk_volume.specs.Name.{strip, same, like, goodName};
 ghost use Rattle.disk_volume.specs.CodeLent.{IsName};
 use crate::fields;
@@ -13,19 +15,31 @@ pub const BLANK: u8 = 0x20;
 // What a top bit counts in its byte.
 pub const TOP_BIT: u8 = 128;
 
-// Are the two names the same?
+// The bytes of a word, and where the last word of a name begins; it shares bytes with the first.
+const WORD_BYTES: usize = 8;
+
+const LAST_WORD: usize = fields::NAME_BYTES - WORD_BYTES;
+
+// A word of bytes that have every bit but the top one.
+const LOW_BITS: u64 = 0x7F7F7F7F7F7F7F7F;
+
+// Eight bytes as a number, without their top bits.
+fn stripped(bytes: &[u8]) -> u64
+    requires { ⌜ length (now bytes) ≡ 8 ⌝ }
+    ensures { λ r. ⌜ r ≡ number (strip (now (bytes .entry))) ⌝ }
+{
+    numbers::eight_of(bytes) & LOW_BITS
+}
+
+// Are the two names the same? They are compared a word at a time.
 pub fn same_name(a: &[u8], b: &[u8]) -> bool
     requires { ⌜ IsName (now a) × IsName (now b) ⌝ }
     ensures { λ r. ⌜ r ≡ same (strip (now (a .entry))) (strip (now (b .entry))) ⌝ }
 {
-    let mut k = 0;
-    while k < fields::NAME_BYTES {
-        if a[k] % TOP_BIT != b[k] % TOP_BIT {
-            return false;
-        }
-        k += 1;
+    if stripped(&a[0..WORD_BYTES]) != stripped(&b[0..WORD_BYTES]) {
+        return false;
     }
-    true
+    stripped(&a[LAST_WORD..fields::NAME_BYTES]) == stripped(&b[LAST_WORD..fields::NAME_BYTES])
 }
 
 // Does the pattern match the name? A 3FH in the pattern matches any byte.

@@ -1,28 +1,29 @@
 -- Laws of bytes laid one by one and part after part.
 use mathlib.Core.Path.{_≡_, refl, sym, ap, _∙_}
 use mathlib.Core.Bool.{Bool, true, false, cond}
-use mathlib.Core.List.{List, _∷_, _++_, append-nil}
+use mathlib.Core.List.{List, _∷_, _++_}
 use mir.Val.{boolByte}
 use Prim.Native.Nat.{ℕ, _+_, _≤_}
 use native.Mathlib.Omega.{arith}
 use lib.ListN.{length, take, drop, set}
 use lib.Seq.{length-take-le, take-append-add, take-at, take-all}
-use Rattle.lists.specs.Bytes.{put}
+use Rattle.lists.specs.Bytes.{part, put}
 use Rattle.lists.proofs.PartLaws.{length-put}
 use Rattle.disk_geometry.specs.declared.Geometry.{Geometry}
 use Rattle.call_search.specs.declared.SearchKind.{SearchKind}
 use Rattle.call_search.specs.declared.SearchKind.the-variants.{Nothing, Pattern, Everything}
-use Rattle.numbers.specs.Numbers.{bytesOf, bytesFrom}
+use Rattle.numbers.specs.Numbers.{Bytes, bytesOf, number, bytesFrom}
 use Rattle.drive_bytes.specs.Layout.{headBytes, keptBytes, searchBytes, heldBytes}
-use Rattle.numbers.proofs.NumberLaws.{bytes-from}
+use Rattle.numbers.proofs.NumberLaws.{bytes-number, part-bytes, bytes-from}
 
--- four stores and twelve bytes fill sixteen
-pub sixteen-stored : (l : List ℕ) → length l ≡ 16 → (a b c d : ℕ) (p : List ℕ)
-    → put (set (set (set (set l 0 a) 1 b) 2 c) 3 d) 4 12 p ≡ a ∷ b ∷ c ∷ d ∷ p
+-- four stores, four bytes and a word fill sixteen
+pub sixteen-stored : (l : List ℕ) → length l ≡ 16 → (a b c d : ℕ) (p : List ℕ) → length p ≡ 12 → Bytes p
+    → put (put (set (set (set (set l 0 a) 1 b) 2 c) 3 d) 4 4 (part p 0 4)) 8 8 (bytesOf 8 (number (part p 4 8)))
+    ≡ a ∷ b ∷ c ∷ d ∷ bytesFrom p 0 12
 unfolding bytesFrom put
-sixteen-stored l size a b c d p =
-    ap (λ (x : List ℕ). put (set (set (set (set x 0 a) 1 b) 2 c) 3 d) 4 12 p) (sym (bytes-from l 16 size))
-    ∙ ap (λ (x : List ℕ). a ∷ b ∷ c ∷ d ∷ x) (append-nil p)
+sixteen-stored l size a b c d p long bytes =
+    rw (part-bytes p 0 4 (omega arith), part-bytes p 4 8 (omega arith), bytes-number p bytes 4 8)
+    (ap (λ (x : List ℕ). put (put (set (set (set (set x 0 a) 1 b) 2 c) 3 d) 4 4 (bytesFrom p 0 4)) 8 8 (bytesFrom p 4 8)) (sym (bytes-from l 16 size)))
 
 -- ---- parts laid one after the other: the first k bytes are laid
 record Laid (size : ℕ) (l : List ℕ) (k : ℕ) (bytes : List ℕ) : Type 0 where

@@ -1,6 +1,7 @@
 // The drive's state laid into 64 lent bytes, each group of fields into its part.
 ghost use mathlib.Core.Path.{_≡_};
 ghost use lib.ListN.{length};
+ghost use Rattle.call_search.specs.Search.{patternBytes};
 ghost use Rattle.drive_bytes.specs.Layout.{driveBytes, headBytes, keptBytes, searchBytes, heldBytes, encoded};
 use crate::DRIVE_BYTES;
 use crate::layout::HELD_AT;
@@ -14,6 +15,7 @@ use call_search::SearchKind;
 use disk_geometry::Geometry;
 use filecalls::Drive;
 use filecalls::KeptSearch;
+use numbers::eight_of;
 use numbers::put_eight;
 
 // Where the fields of a search stand in its own bytes.
@@ -25,7 +27,12 @@ const LAST_HIGH: usize = LAST + 1;
 
 const PATTERN: usize = PATTERN_AT - SEARCH_AT;
 
-const PATTERN_END: usize = PATTERN + PATTERN_BYTES;
+// The last eight bytes of the pattern fill the second of the search's two words.
+const SECOND: usize = 8;
+
+const SECOND_END: usize = SECOND + 8;
+
+const PATTERN_HEAD: usize = SECOND - PATTERN;
 
 // Lays B, T, D, user and protection into bytes 0 to 7.
 fn put_head(out: &mut [u8], g: Geometry, user: u8, protected: bool)
@@ -45,16 +52,18 @@ fn put_head(out: &mut [u8], g: Geometry, user: u8, protected: bool)
     lists::copy(out, &bytes);
 }
 
-// Lays a search that is kept into bytes 8 to 23.
-fn put_kept(out: &mut [u8], kind: u8, user: u8, last: usize, pattern: &[u8; PATTERN_BYTES])
-    requires { ⌜ length (now out) ≡ 16 ⌝ }
+// Lays a search that is kept into bytes 8 to 23: what stands in the first word byte by byte, the second word at once.
+fn put_kept(out: &mut [u8], kind: u8, user: u8, last: usize, pattern: &[u8])
+    requires { ⌜ (length (now out) ≡ 16) × (length (now pattern) ≡ patternBytes) ⌝ }
     ensures { λ _. ⌜ now (out .exit) ≡ keptBytes kind user last (now (pattern .entry)) ⌝ }
 {
     out[0] = kind;
     out[USER] = user;
     out[LAST] = (last % 256) as u8;
     out[LAST_HIGH] = (last / 256 % 256) as u8;
-    lists::copy(&mut out[PATTERN..PATTERN_END], pattern);
+    lists::copy(&mut out[PATTERN..SECOND], &pattern[0..PATTERN_HEAD]);
+    let second = eight_of(&pattern[PATTERN_HEAD..PATTERN_BYTES]);
+    put_eight(&mut out[SECOND..SECOND_END], second);
 }
 
 // Lays the search into bytes 8 to 23: zeros where none is kept.

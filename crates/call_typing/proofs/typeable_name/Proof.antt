@@ -2,7 +2,7 @@
 use denote.Ref.{now}
 use Rattle.lists.specs.Bytes.{part}
 use Rattle.call_typing.specs.Typing.{typeable}
-use Rattle.call_typing.proofs.TypingLaws.{strip-part}
+use Rattle.disk_volume.proofs.NameLaws.{strip-part}
 use borrow.Author.Needs.{needs}
 use Rattle.call_typing.proofs.typeable_name.Statement.{statement}
 use Rattle.call_typing.proofs.typeable_name.Tie as tie

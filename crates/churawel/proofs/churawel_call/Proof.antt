@@ -25,8 +25,8 @@ returns c =
     let a = c .before .before .before .before .before .before .before .before .before .before .args in
     call-refused (a .function) (a .parameter) (a .drive .now) (a .volume .now) (a .fcb .now) (a .buffer .now) (c .before .before .before .before .decode .ensures) (c .before .before .before .call-of .ensures) (c .before .before .may-enter .ensures) (c .before .if1 .taken) (c .seal .ensures)
 
-enter-requires : tie.Need-enter-requires
-enter-requires c κs = search needs
+serve-requires : tie.Need-serve-requires
+serve-requires c κs = search needs
 
 lay-back-requires : tie.Need-lay-back-requires
 lay-back-requires c κs = search needs
@@ -34,7 +34,7 @@ lay-back-requires c κs = search needs
 seal-requires-2 : tie.Need-seal-requires-2
 seal-requires-2 c κs =
     let a = c .before .before .before .before .before .before .before .before .before .before .before .before .before .before .before .before .before .before .before .before .before .before .before .before .before .args in
-    call-value (a .function) (a .parameter) (a .drive .now) (a .volume .now) (a .fcb .now) (a .buffer .now) (c .before .before .before .before .before .before .before .before .before .before .before .before .before .before .before .before .before .before .before .decode .ensures) (c .before .before .before .before .before .before .before .before .before .before .before .before .before .before .before .before .before .before .call-of .ensures) (c .before .before .before .before .before .before .before .before .before .before .before .before .before .before .before .before .before .may-enter .ensures) (c .before .before .before .before .before .before .before .before .before .before .before .enter .ensures)
+    call-value (a .function) (a .parameter) (a .drive .now) (a .volume .now) (a .fcb .now) (a .buffer .now) (c .before .before .before .before .before .before .before .before .before .before .before .before .before .before .before .before .before .before .before .decode .ensures) (c .before .before .before .before .before .before .before .before .before .before .before .before .before .before .before .before .before .before .call-of .ensures) (c .before .before .before .before .before .before .before .before .before .before .before .before .before .before .before .before .before .may-enter .ensures) (c .before .before .before .before .before .before .before .before .before .before .before .serve .ensures)
 
 same-length-2 : tie.Need-same-length-2
 same-length-2 c = search needs
@@ -51,7 +51,7 @@ same-length-5 c = search needs
 returns-2 : tie.Need-returns-2
 returns-2 c =
     let a = c .before .before .before .before .before .before .before .before .before .before .before .before .before .before .before .before .before .before .before .before .before .before .before .before .before .before .args in
-    call-done (a .function) (a .parameter) (a .drive .now) (a .volume .now) (a .fcb .now) (a .buffer .now) (c .before .before .before .before .before .before .before .before .before .before .before .before .before .before .before .before .before .before .before .before .decode .ensures) (c .before .before .before .before .before .before .before .before .before .before .before .before .before .before .before .before .before .before .before .call-of .ensures) (c .before .before .before .before .before .before .before .before .before .before .before .before .before .before .before .before .before .before .may-enter .ensures) (c .before .before .before .before .before .before .before .before .before .before .before .before .before .before .before .before .before .if1 .left) (c .before .before .before .before .before .before .before .before .before .before .before .before .enter .ensures) (c .seal2 .ensures) (λ k. omega (arith, c .before .before .before .before .before .before .before .before .before .before .before .before .before .before .before .before .before .before .before .before .before .before .before .before .before .slice-known .given k)) (c .before .before .before .lay-back .ensures)
+    call-done (a .function) (a .parameter) (a .drive .now) (a .volume .now) (a .fcb .now) (a .buffer .now) (c .before .before .before .before .before .before .before .before .before .before .before .before .before .before .before .before .before .before .before .before .decode .ensures) (c .before .before .before .before .before .before .before .before .before .before .before .before .before .before .before .before .before .before .before .call-of .ensures) (c .before .before .before .before .before .before .before .before .before .before .before .before .before .before .before .before .before .before .may-enter .ensures) (c .before .before .before .before .before .before .before .before .before .before .before .before .before .before .before .before .before .if1 .left) (c .before .before .before .before .before .before .before .before .before .before .before .before .serve .ensures) (c .seal2 .ensures) (λ k. omega (arith, c .before .before .before .before .before .before .before .before .before .before .before .before .before .before .before .before .before .before .before .before .before .before .before .before .before .slice-known .given k)) (c .before .before .before .lay-back .ensures)
 
 pub churawel-call-spec : {M : Type 1} → statement M
 churawel-call-spec =
@@ -63,7 +63,7 @@ churawel-call-spec =
     seal-requires
     same-length
     returns
-    enter-requires
+    serve-requires
     lay-back-requires
     seal-requires-2
     same-length-2

@@ -1,9 +1,8 @@
--- Four stores and the copied pattern fill the sixteen bytes.
+-- Four stores, the pattern's head and its last eight bytes fill the sixteen bytes.
 use Rattle.drive_bytes.proofs.LayLaws.{sixteen-stored}
-use Rattle.numbers.proofs.NumberLaws.{bytes-from}
 use Rattle.drive_bytes.specs.Layout.{keptBytes}
 use Rattle.numbers.specs.Numbers.{bytesOf}
-use Rattle.lists.specs.Bytes.{put}
+use Rattle.lists.specs.Bytes.{part, put}
 use lib.ListN.{length-set}
 use mathlib.Core.Path.{_∙_}
 use native.Mathlib.Omega.{arith}
@@ -38,15 +37,52 @@ part-copy-start c = search needs
 part-copy-end : tie.Need-part-copy-end
 part-copy-end c = simp length-set (omega arith)
 
+sub-copy-2 : tie.Need-sub-copy-2
+sub-copy-2 c = search needs
+
+part-copy-start-2 : tie.Need-part-copy-start-2
+part-copy-start-2 c = search needs
+
+part-copy-end-2 : tie.Need-part-copy-end-2
+part-copy-end-2 c = search needs
+
 copy-requires : tie.Need-copy-requires
 copy-requires c κs = search needs
 
+sub-eight-of : tie.Need-sub-eight-of
+sub-eight-of c = search needs
+
+part-eight-of-start : tie.Need-part-eight-of-start
+part-eight-of-start c = search needs
+
+part-eight-of-end : tie.Need-part-eight-of-end
+part-eight-of-end c = search needs
+
+eight-of-requires : tie.Need-eight-of-requires
+eight-of-requires c κs = search needs
+
+sub-put-eight : tie.Need-sub-put-eight
+sub-put-eight c = search needs
+
+part-put-eight-start : tie.Need-part-put-eight-start
+part-put-eight-start c = search needs
+
+part-put-eight-end : tie.Need-part-put-eight-end
+part-put-eight-end c = rw (c .before .before .before .out .given .1) (simp length-set (omega arith))
+
+put-eight-requires : tie.Need-put-eight-requires
+put-eight-requires c κs = search needs
+
 same-length : tie.Need-same-length
-same-length c = c .before .out .given .1 ∙ simp length-set
+same-length c = c .before .out2 .given .1 ∙ c .before .before .before .before .before .before .before .out .given .1 ∙ simp length-set
 
 returns : tie.Need-returns
-unfolding keptBytes bytesOf put
-returns c = let a = c .before .before .before .before .before .before .args in rw (c .before .before .copy .ensures, bytes-from (a .pattern .now) 12 (search needs)) (sixteen-stored (a .out .now) (c .before .before .before .before .before .before .pre) _ _ _ _ (a .pattern .now))
+unfolding keptBytes bytesOf put part
+returns c =
+    let a = c .before .before .before .before .before .before .before .before .before .before .before .before .before .args in
+    let p = c .before .before .before .before .before .before .before .before .before .before .before .before .before .pre in
+    rw (c .before .before .before .before .before .before .before .before .copy .ensures, c .before .before .put-eight .ensures, c .before .before .before .before .eight-of .ensures)
+    (sixteen-stored (a .out .now) (p .0) _ _ _ _ (a .pattern .now) (p .1) (λ k. omega (arith, c .before .before .before .before .before .before .before .before .before .before .before .shared-slice-known .given k)))
 
 pub put-kept-spec : {M : Type 1} → statement M
 put-kept-spec =
@@ -61,6 +97,17 @@ put-kept-spec =
     sub-copy
     part-copy-start
     part-copy-end
+    sub-copy-2
+    part-copy-start-2
+    part-copy-end-2
     copy-requires
+    sub-eight-of
+    part-eight-of-start
+    part-eight-of-end
+    eight-of-requires
+    sub-put-eight
+    part-put-eight-start
+    part-put-eight-end
+    put-eight-requires
     same-length
     returns)

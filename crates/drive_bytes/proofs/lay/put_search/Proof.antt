@@ -13,11 +13,17 @@ fill-requires c κs = search needs
 enum-told-2 : tie.Need-enum-told-2
 enum-told-2 c = search needs
 
+slice-aggregate-put-kept : tie.Need-slice-aggregate-put-kept
+slice-aggregate-put-kept c = search needs
+
 put-kept-requires : tie.Need-put-kept-requires
 put-kept-requires c κs = search needs
 
 enum-told-3 : tie.Need-enum-told-3
 enum-told-3 c = search needs
+
+slice-aggregate-put-kept-2 : tie.Need-slice-aggregate-put-kept-2
+slice-aggregate-put-kept-2 c = search needs
 
 put-kept-requires-2 : tie.Need-put-kept-requires-2
 put-kept-requires-2 c κs = search needs
@@ -50,8 +56,10 @@ put-search-spec =
     enum-told
     fill-requires
     enum-told-2
+    slice-aggregate-put-kept
     put-kept-requires
     enum-told-3
+    slice-aggregate-put-kept-2
     put-kept-requires-2
     same-length
     returns
