@@ -1,0 +1,166 @@
+// An image over the seam: its bytes, its drive, the calls on it, and its files as the listing has them.
+#include "tool.h"
+
+#include <stdio.h>
+#include <stdlib.h>
+#include <string.h>
+
+// Where things stand in a control block, and the bit of an attribute.
+enum { FCB_NAME = 1, FCB_READ_ONLY = 9, FCB_SYSTEM = 10, FCB_NEW_NAME = 17, FCB_RECORD = 33, TOP_BIT = 0x80 };
+
+struct disk *read_disk(const struct options *options, const char *path, bool to_change)
+{
+    struct disk *disk = calloc(1, sizeof *disk);
+    if (disk == NULL)
+        refuse("there is not enough memory");
+    disk->path = path;
+    disk->original = open_image(path, to_change);
+    disk->geometry = geometry_of_image(options->geometry, path, (uint64_t)disk->original.state.st_size);
+    disk->volume = read_all(disk->original.file, path, VOLUME_MOST + 1);
+    return disk;
+}
+
+uint32_t log_in(const struct geometry *g, struct bytes volume, uint8_t *drive)
+{
+    return churawel_log_in(g->block_bytes, g->blocks, g->directory_blocks, volume.at, volume.count, drive, CHURAWEL_DRIVE_BYTES);
+}
+
+struct disk *open_disk(const struct options *options, const char *path, bool to_change)
+{
+    struct disk *disk = read_disk(options, path, to_change);
+    const char *why = inspect(disk);
+    if (why != NULL)
+        refuse("%s: %s", path, why);
+    uint32_t number = CHURAWEL_NUMBER(log_in(&disk->geometry, disk->volume, disk->drive));
+    if (number != 0)
+        refuse_by(path, number, "");
+    return disk;
+}
+
+void store_disk(struct disk *disk)
+{
+    const char *why = inspect(disk);
+    if (why != NULL)
+        refuse("%s: what was to be written: %s", disk->path, why);
+    replace_file(disk->original.path, &disk->original.state, disk->volume);
+    if (disk->original.state.st_nlink > 1)
+        note("%s had another name on this machine (a hard link), and under that the old disk stays", disk->path);
+}
+
+// ---- the files
+
+uint32_t number_at(const uint8_t *bytes, int count)
+{
+    uint32_t number = 0;
+    while (count-- > 0)
+        number = number << 8 | bytes[count];
+    return number;
+}
+
+bool next_file(const struct disk *disk, uint32_t *slot, struct listed *file)
+{
+    uint8_t line[CHURAWEL_FILE_BYTES];
+    uint32_t answer = churawel_file(disk->drive, sizeof disk->drive, disk->volume.at, disk->volume.count, *slot, line,
+                                    sizeof line);
+    if (CHURAWEL_NUMBER(answer) == CHURAWEL_REFUSED_NO_MATCH)
+        return false;
+    if (CHURAWEL_NUMBER(answer) != 0)
+        refuse_by(disk->path, CHURAWEL_NUMBER(answer), "");
+    *slot = CHURAWEL_VALUE(answer) + 1;
+    file->user = line[0];
+    memcpy(file->name, line + 1, NAME_BYTES);
+    file->read_only = line[12] != 0;
+    file->system = line[13] != 0;
+    file->records = number_at(line + 14, 4);
+    file->blocks = number_at(line + 18, 2);
+    return true;
+}
+
+bool find_file(const struct disk *disk, const struct name *name, struct listed *file)
+{
+    uint32_t slot = 0;
+    while (next_file(disk, &slot, file))
+        if (file->user == name->user && memcmp(file->name, name->bytes, NAME_BYTES) == 0)
+            return true;
+    return false;
+}
+
+struct name name_on(const struct disk *disk, const char *typed)
+{
+    struct listed file;
+    struct name name = name_of(typed);
+    return find_file(disk, &name, &file) ? name : in_capitals(name);
+}
+
+// ---- the calls
+
+static uint32_t call_with(struct disk *disk, uint8_t function, uint8_t parameter)
+{
+    return churawel_call(function, parameter, disk->drive, sizeof disk->drive, disk->volume.at, disk->volume.count, disk->fcb,
+                         sizeof disk->fcb, disk->buffer, sizeof disk->buffer);
+}
+
+void aim(struct disk *disk, const struct name *name)
+{
+    disk->aimed = *name;
+    memset(disk->fcb, 0, sizeof disk->fcb);
+    memcpy(disk->fcb + FCB_NAME, name->bytes, NAME_BYTES);
+    uint32_t answer = call_with(disk, CHURAWEL_FN_USER, name->user);
+    if (answer != 0)
+        refuse_by(disk->path, CHURAWEL_NUMBER(answer), "");
+}
+
+uint32_t call(struct disk *disk, uint8_t function)
+{
+    return call_with(disk, function, 0);
+}
+
+// There is no such file; but perhaps another user has one of this name.
+static _Noreturn void refuse_missing(const struct disk *disk, const char *about)
+{
+    struct listed file;
+    uint32_t slot = 0;
+    char shown[SHOWN_MOST], further[SHOWN_MOST + 32] = "";
+    while (*further == '\0' && next_file(disk, &slot, &file))
+        if (matches(&disk->aimed, file.name))
+            snprintf(further, sizeof further, "; another user has one: %s", shown_file(file.user, file.name, shown));
+    refuse_by(about, CHURAWEL_REFUSED_NO_MATCH, further);
+}
+
+void must(struct disk *disk, uint8_t function, const char *about)
+{
+    uint32_t answer = call(disk, function), number = CHURAWEL_NUMBER(answer);
+    if (churawel_succeeded(function, answer))
+        return;
+    // Make answers 255 where a write answers 5.
+    if (function == CHURAWEL_FN_MAKE && number == CHURAWEL_REFUSED_NO_MATCH)
+        refuse("%s: %s (%u)", about, words_of(CHURAWEL_REFUSED_NO_SLOT), number);
+    if (function == CHURAWEL_FN_MAKE && number == CHURAWEL_REFUSED_EXISTS)
+        refuse_by(about, number, "; --replace replaces it");
+    if (number == CHURAWEL_REFUSED_NO_MATCH)
+        refuse_missing(disk, about);
+    refuse_by(about, number, "");
+}
+
+void set_new_name(struct disk *disk, const struct name *name)
+{
+    memcpy(disk->fcb + FCB_NEW_NAME, name->bytes, NAME_BYTES);
+}
+
+void set_attributes(struct disk *disk, const struct listed *file)
+{
+    disk->fcb[FCB_READ_ONLY] |= file->read_only ? TOP_BIT : 0;
+    disk->fcb[FCB_SYSTEM] |= file->system ? TOP_BIT : 0;
+}
+
+void set_record(struct disk *disk, uint32_t record)
+{
+    disk->fcb[FCB_RECORD] = (uint8_t)record;
+    disk->fcb[FCB_RECORD + 1] = (uint8_t)(record >> 8);
+    disk->fcb[FCB_RECORD + 2] = (uint8_t)(record >> 16);
+}
+
+uint32_t record_set(const struct disk *disk)
+{
+    return number_at(disk->fcb + FCB_RECORD, 3);
+}
