@@ -5,3 +5,5 @@ pub mod SeamLaws
 pub mod LastingLaws
 pub mod CallsLast
 pub mod FaithfulHolds
+pub mod FaultLaws
+pub mod FileLaws

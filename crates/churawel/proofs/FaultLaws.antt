@@ -1,0 +1,63 @@
+-- What code learns on its way to a fault, as the definitions say it; and no fault is 8 zeros.
+use mathlib.Core.Path.{_≡_, refl}
+use mathlib.Core.Bool.{Bool, true, false}
+use mathlib.Core.List.{List}
+use Prim.Native.Nat.{ℕ, _<_}
+use native.Mathlib.Omega.{arith}
+use lib.Dec.{ltb, eqb}
+use lib.ListN.{length, replicate}
+use borrow.Author.Tests.{eq-eqb, ne-eqb, eqb-true, ltb-true}
+use Rattle.numbers.specs.Numbers.{bytesOf}
+use Rattle.disk_geometry.specs.declared.Geometry.{Geometry}
+use Rattle.disk_geometry.specs.Geometry.{lawful, bytes, slots, blocks, directoryBlocks}
+use Rattle.disk_volume.specs.CodeLent.{IsVolume}
+use Rattle.disk_held.specs.Held.{freeCount}
+use Rattle.disk_rules.specs.GoodSlot.{lowestBad}
+use Rattle.disk_rules.specs.Named.{heldOf}
+use Rattle.disk_faults.specs.declared.Rule.the-variants.{None}
+use Rattle.disk_faults.specs.declared.Fault.{Fault}
+use Rattle.disk_faults.specs.Faults.{alone}
+use Rattle.call_answers.specs.declared.Refusal.the-variants.{Closed, VolumeLength, BufferLength}
+use Rattle.call_answers.specs.declared.Answer.the-variants as answer
+use Rattle.call_answers.specs.Refusal.{firstMet}
+use Rattle.filecalls.specs.declared.Reply.{Reply}
+use Rattle.filecalls.specs.LogIn.{logIn, logInTests, refusedLogIn}
+use Rattle.churawel.specs.Seam.{answered}
+use Rattle.churawel.specs.Fault.{faultLength, faultBytes, faultFor, explained, faultAtSeam}
+
+pub no-fault : faultBytes (alone None) ≡ replicate faultLength 0
+unfolding faultBytes bytesOf
+no-fault = refl
+
+-- where log-in tells of a bad slot, the volume is one of the geometry, and the slot is one of the volume
+pub bad-slot : (g : Geometry) (v : List ℕ) (slot : ℕ) → logIn g v .answer ≡ answer.BadSlot slot → IsVolume g v × (slot < slots g)
+unfolding logIn logInTests firstMet refusedLogIn
+bad-slot g v slot said = go (lawful g) (eqb (length v) (bytes g)) (ltb (lowestBad g v) (slots g)) refl refl refl
+  where
+    go : (a b c : Bool) → lawful g ≡ a → eqb (length v) (bytes g) ≡ b → ltb (lowestBad g v) (slots g) ≡ c → IsVolume g v × (slot < slots g)
+    go false b c e f h =
+        let k : logIn g v .answer ≡ answer.Refused Closed = rw e in
+        let z : _≡_ {A = ℕ} 0 1 = cc in
+        absurd (omega arith)
+    go true false c e f h =
+        let k : logIn g v .answer ≡ answer.Refused VolumeLength = rw (e, f) in
+        let z : _≡_ {A = ℕ} 0 1 = cc in
+        absurd (omega arith)
+    go true true false e f h =
+        let k : logIn g v .answer ≡ answer.Ready (freeCount (heldOf g v) (directoryBlocks g) (blocks g)) = rw (e, f, h) in
+        let z : _≡_ {A = ℕ} 0 1 = cc in
+        absurd (omega arith)
+    go true true true e f h =
+        let k : logIn g v .answer ≡ answer.BadSlot (lowestBad g v) = rw (e, f, h) in
+        let s : slot ≡ lowestBad g v = cc in
+        ((e, eqb-true (length v) (bytes g) f), rw s (ltb-true (lowestBad g v) (slots g) h))
+
+module _ (g : Geometry) (v f : List ℕ) where
+  pub fault-refused : {r : ℕ} → (length f ≡ faultLength → ⊥) → r ≡ answered (answer.Refused BufferLength) → explained r f ≡ faultAtSeam g v f
+  unfolding faultAtSeam
+  fault-refused h e = rw (ne-eqb (length f) faultLength h, e)
+
+  pub fault-done : {r : ℕ} {o : Reply} {why : Fault} {after : List ℕ} → length f ≡ faultLength → o ≡ logIn g v
+      → why ≡ faultFor g v (o .answer) → after ≡ faultBytes why → r ≡ answered (o .answer) → explained r after ≡ faultAtSeam g v f
+  unfolding faultAtSeam
+  fault-done h is first lays e = rw (eq-eqb (length f) faultLength h, ← is, e, lays, first)

@@ -1,0 +1,3 @@
+-- Why a slot is bad.
+pub mod Faults
+pub mod CodeEntryAt

@@ -1,0 +1,3 @@
+-- What the code rests on: a loop that counts, the bytes of a name.
+pub mod CountedLaws
+pub mod LineLaws
