@@ -1,6 +1,7 @@
 # Sourced by build and by the tests that compile C, which stand in the repository's root and have set OUT.
 # The archive of `rt staticlib` links into x86-64 programs. On x86-64 gcc compiles them and they run as they are; on another
-# processor Debian's cross compiler and QEMU's user emulator do. What is lacking is installed by apt, and said so.
+# processor Debian's cross compiler and QEMU's user emulator do. What is lacking is installed by apt, and said so; where INSTALLS
+# is no, it is only said.
 
 FLAGS="-std=c11 -O2 -Wall -Wextra -pedantic -Iinclude"
 ARCHIVE=target/staticlib/libchurawel.a
@@ -18,7 +19,14 @@ install_packages() {
 need() {
     local what=$1
     shift
-    [ -e "$what" ] || command -v "$what" >/dev/null || install_packages "$@"
+    if [ -e "$what" ] || command -v "$what" >/dev/null; then
+        return
+    fi
+    if [ "${INSTALLS:-yes}" = no ]; then
+        echo "$what is missing, which is needed here. On Debian: apt-get install $*" >&2
+        exit 1
+    fi
+    install_packages "$@"
 }
 
 if [ "$(uname -m)" = x86_64 ]; then

@@ -49,8 +49,11 @@ def built(way, crates, log_path):
             words = line.split()
             if len(words) > 2 and words[0] == "rt:" and words[2] == "proved" and words[1] in rooms:
                 done.add(words[1])
-                if "(unchanged" not in words:
-                    show(f"  {len(done)} of {len(rooms)} rooms proved ({minutes(time.time() - start)}): {words[1]}")
+                far = f"  {len(done)} of {len(rooms)} rooms proved ({minutes(time.time() - start)})"
+                if len(done) == len(rooms) - 1:
+                    show(f"{far}, and {min(rooms - done)} is under way")
+                elif "(unchanged" not in words:
+                    show(f"{far}: {words[1]}")
     ended = check.wait() == 0
     # The last room of an archive is proved without a line of its own.
     done = rooms if ended else done

@@ -3,7 +3,7 @@ by chance beside a table of what the files should have in them."""
 import random
 
 from desk import Desk
-from disk import EMPTY, HEADING, entry, line, name_bytes, volume
+from disk import BAD, EMPTY, HEADING, entry, line, name_bytes, volume
 
 SEED, VOLUMES, RUNS, COMMANDS = 19, 40, 3, 30
 GEOMETRIES = [(1024, 40, 1), (1024, 256, 3), (2048, 100, 1), (4096, 60, 1)]
@@ -37,16 +37,15 @@ def own_fault(e):
     """the first rule that an entry breaks by itself, but for its map"""
     name = called(e)
     rules = [
-        (e[0] > 15, "its user is not 0 to 15"),
-        (name[0] == 0x20 or any(b < 0x20 or b > 0x7E or b == 0x3F for b in name), "its name has a byte that no name has"),
-        (any(e[k] > 0x7F for k in (1, 2, 3, 4, 5, 6, 7, 8, 11)),
-         "a byte of its name has a top bit that is neither read-only nor system"),
-        (e[12] > 31, "its ex is above 31"),
-        (e[13] != 0, "its s1 is not 0"),
-        (e[14] > 15, "its s2 is above 15"),
-        (e[15] > 128, "its rc is above 128"),
+        (e[0] > 15, "user"),
+        (name[0] == 0x20 or any(b < 0x20 or b > 0x7E or b == 0x3F for b in name), "name"),
+        (any(e[k] > 0x7F for k in (1, 2, 3, 4, 5, 6, 7, 8, 11)), "top bit"),
+        (e[12] > 31, "ex"),
+        (e[13] != 0, "s1"),
+        (e[14] > 15, "s2"),
+        (e[15] > 128, "rc"),
     ]
-    return next((words for broken, words in rules if broken), "")
+    return next((BAD[rule] for broken, rule in rules if broken), "")
 
 
 def shared_fault(slots, i, geometry):

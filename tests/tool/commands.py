@@ -101,11 +101,13 @@ def changes(desk, geometry):
     desk.done("rename of another user's file", "rename", "A.IMG", "5:b.txt", "5:c.txt", out=b"5:b.txt: renamed to 5:C.TXT\n")
     desk.refused("rename to itself", "rename", "A.IMG", "new.txt", "new.txt", said="(43)")
     desk.refused("rename to a name that is there", "rename", "A.IMG", "new.txt", "stdin", said="(43)")
-    desk.refused("rename of what is not there", "rename", "A.IMG", "own.txt", "x", said="own.txt: there is no such file")
+    desk.refused("rename of what is not there", "rename", "A.IMG", "own.txt", "x", said="own.txt: there is no such file (255)\n")
     desk.refused("erase of what is not there", "erase", "A.IMG", "own.txt", said="(255)")
     desk.refused("attributes of what is not there", "attributes", "A.IMG", "own.txt", "+r", said="(255)")
     desk.refused("get of what is not there", "get", "A.IMG", "own.txt", "x", said="(255)")
-    desk.refused("type of another user's file", "type", "A.IMG", "c.txt", said="(255)")
+    said = "c.txt: there is no such file (255); another user has one: 5:C.TXT\n"
+    for command, *more in (["type"], ["get", "x"], ["rename", "x"], ["erase"], ["attributes", "+r"]):
+        desk.refused(f"{command} of another user's file", command, "A.IMG", "c.txt", *more, said=said)
     free = desk.run("check", "A.IMG")[1].split()[-1]
     desk.done("erase of one file", "erase", "A.IMG", "new.txt", out=f"NEW.TXT: erased\nfree blocks: {int(free) + 1}\n".encode())
     desk.done("erase of a pattern", "erase", "A.IMG", "5:?.*", out=f"5:C.TXT: erased\nfree blocks: {int(free) + 2}\n".encode())
@@ -141,7 +143,7 @@ def full_directories(desk, geometry):
     desk.write("two", bytes(16 * geometry[0] + 1))
     desk.refused("put that needs two slots where one is left", "put", "B.IMG", "two", said="TWO: the directory is full (5)")
     desk.done("put in the last slot", "put", "B.IMG", "none")
-    desk.refused("put in a full directory", "put", "B.IMG", "own.txt", said="(255)")
+    desk.refused("put in a full directory", "put", "B.IMG", "own.txt", said="OWN.TXT: the directory is full (255)")
     desk.done("put --replace in a full directory", "put", "--replace", "B.IMG", "own.txt", "none")
 
 

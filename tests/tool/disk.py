@@ -3,6 +3,17 @@
 EMPTY = 0xE5
 HEADING = b"USER NAME         RECORDS   BYTES BLOCKS ATTRIBUTES\n"
 
+# What check says of an entry that breaks a rule by itself.
+BAD = {
+    "user": "its user is not 0 to 15",
+    "name": "its name has a byte that no name has",
+    "top bit": "a byte of its name has a top bit that is neither read-only nor system",
+    "ex": "its extent (ex) is above 31",
+    "s1": "its byte s1 is not 0",
+    "s2": "its extent (s2) is above 15",
+    "rc": "its count of records (rc) is above 128",
+}
+
 
 def name_bytes(text):
     """eleven bytes of NAME.TYP"""

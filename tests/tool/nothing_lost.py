@@ -17,6 +17,8 @@ ON_FILES = set("open openat fstat newfstatat stat statx access faccessat faccess
 RUNS = [
     (["put", "--replace", "V.IMG", "in", "a.txt"], "V.IMG"),
     (["erase", "V.IMG", "a.txt"], "V.IMG"),
+    (["rename", "V.IMG", "a.txt", "c.txt"], "V.IMG"),
+    (["attributes", "V.IMG", "a.txt", "+r"], "V.IMG"),
     (["new", "N.IMG"], "N.IMG"),
     (["get", "--replace", "V.IMG", "a.txt", "out"], "out"),
 ]
@@ -146,6 +148,12 @@ def links(desk):
     desk.same("the image has changed", len(entries_of(desk.read("V.IMG"), V, 0, "C.TXT")), 1)
     desk.same("the image keeps its mode", desk.path("V.IMG").stat().st_mode & 0o777, 0o640)
     desk.path("link").unlink()
+    before = desk.read("V.IMG")
+    desk.path("second").hardlink_to(desk.path("V.IMG"))
+    status, _, said = desk.run("erase", "V.IMG", "c.txt")
+    desk.same("a change of an image with two names is done, and says so", (status, b"V.IMG had another name" in said), (0, True))
+    desk.same("the other name keeps the old disk", (desk.read("second"), desk.read("V.IMG") == before), (before, False))
+    desk.path("second").unlink()
 
 
 class Lost(Desk):

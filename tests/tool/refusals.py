@@ -1,11 +1,12 @@
 """Wrong use, geometries, bad images, and host files that can't be read or written: what is said, the status, and that nothing
 changes."""
 import os
+import resource
 import socket
 import subprocess
 
 from desk import TOOL, Desk
-from disk import entry, volume
+from disk import BAD, entry, volume
 
 V = (1024, 40, 1)
 # More than the words: a command, and operands that are right.
@@ -85,22 +86,21 @@ def changed(laid, at, byte):
 def bad_slots():
     """what is wrong, the entry in slot 4, and the words; slots 0 to 3 have files A to D, slot 1 of user 3, with blocks 1 to 4"""
     good = entry(name="E.TXT", rc=8, blocks=[5])
-    yield "user 16", changed(good, 0, 16), "slot 4 (16:E.TXT): its user is not 0 to 15"
-    yield "a byte below 20H", changed(good, 2, 0x1F), "slot 4 (E\\x1F.TXT): its name has a byte that no name has"
-    yield "a question mark", changed(good, 1, 0x3F), "slot 4 (?.TXT): its name has a byte that no name has"
-    yield "a blank first", changed(good, 1, 0x20), "slot 4 (.TXT): its name has a byte that no name has"
-    neither = "a byte of its name has a top bit that is neither read-only nor system"
-    yield "a top bit", changed(good, 1, 0x80 | 0x45), f"slot 4 (E.TXT): {neither}"
-    yield "ex 32", changed(good, 12, 32), "slot 4 (E.TXT): its ex is above 31"
-    yield "s1 1", changed(good, 13, 1), "slot 4 (E.TXT): its s1 is not 0"
-    yield "s2 16", changed(good, 14, 16), "slot 4 (E.TXT): its s2 is above 15"
-    yield "rc 129", changed(good, 15, 129), "slot 4 (E.TXT): its rc is above 128"
+    yield "user 16", changed(good, 0, 16), f"slot 4 (16:E.TXT): {BAD['user']}"
+    yield "a byte below 20H", changed(good, 2, 0x1F), f"slot 4 (E\\x1F.TXT): {BAD['name']}"
+    yield "a question mark", changed(good, 1, 0x3F), f"slot 4 (?.TXT): {BAD['name']}"
+    yield "a blank first", changed(good, 1, 0x20), f"slot 4 (.TXT): {BAD['name']}"
+    yield "a top bit", changed(good, 1, 0x80 | 0x45), f"slot 4 (E.TXT): {BAD['top bit']}"
+    yield "ex 32", changed(good, 12, 32), f"slot 4 (E.TXT): {BAD['ex']}"
+    yield "s1 1", changed(good, 13, 1), f"slot 4 (E.TXT): {BAD['s1']}"
+    yield "s2 16", changed(good, 14, 16), f"slot 4 (E.TXT): {BAD['s2']}"
+    yield "rc 129", changed(good, 15, 129), f"slot 4 (E.TXT): {BAD['rc']}"
     yield "block 40", changed(good, 20, 40), "slot 4 (E.TXT): place 4 names block 40, and files have blocks 1 to 39"
     yield "a block twice", changed(good, 18, 5), "slot 4 (E.TXT): block 5 stands in it twice"
     yield "another's block", changed(good, 17, 2), "slot 4 (E.TXT): block 2 at place 1 belongs to slot 1 (3:B.TXT) too"
     again = entry(user=3, name="B.TXT")
     yield "the same file again", again, "slot 4 (3:B.TXT): slot 1 (3:B.TXT) has the same user, name and extents"
-    yield "two rules: the first counts", changed(changed(good, 12, 40), 13, 1), "slot 4 (E.TXT): its ex is above 31"
+    yield "two rules: the first counts", changed(changed(good, 12, 40), 13, 1), f"slot 4 (E.TXT): {BAD['ex']}"
 
 
 def bad_images(desk):
@@ -131,11 +131,16 @@ def host_files(desk):
     desk.refused("get to a folder", "get", "V.IMG", "a.txt", "folder", said="folder can't be written: Is a directory")
     desk.refused("get into a folder that is not there", "get", "V.IMG", "a.txt", "no/x", said="no/x can't be written")
     desk.refused("get to the image", "get", "--replace", "V.IMG", "a.txt", "./V.IMG", said="is the image itself")
+    desk.path("nowhere link").symlink_to("nowhere")
+    said = "nowhere link can't be made: File exists"
+    desk.refused("get to a link that leads nowhere", "get", "V.IMG", "a.txt", "nowhere link", said=said)
+    desk.refused("put of a link that leads nowhere", "put", "V.IMG", "nowhere link", "x", said="nowhere link can't be read")
     desk.refused("get to a full device", "get", "V.IMG", "a.txt", "/dev/full", said="/dev/full can't be written: No space left")
     desk.done("get to a device", "get", "V.IMG", "a.txt", "/dev/null")
     desk.refused("new where a file is", "new", "in", said="in can't be made: File exists")
     desk.refused("new where a folder is", "new", "folder", said="folder can't be made: File exists")
     desk.refused("new in a folder that is not there", "new", "no/x", said="no/x can't be written")
+    limited(desk)
     desk.path("V.IMG").chmod(0o444)
     desk.refused("put on a write-protected image", "put", "V.IMG", "in", said="V.IMG can't be changed: the file is write-protected")
     desk.done("list of a write-protected image", "list", "V.IMG")
@@ -143,6 +148,17 @@ def host_files(desk):
     desk.write("out", b"kept")
     desk.path("out").chmod(0o400)
     desk.refused("get to a write-protected file", "get", "--replace", "V.IMG", "a.txt", "out", said="write-protected")
+
+
+def limited(desk):
+    """where files may have up to 20,000 bytes, as on a disk of this machine that is full: the image has 40,960"""
+    def limit():
+        resource.setrlimit(resource.RLIMIT_FSIZE, (20000, 20000))
+
+    for command, operands in RIGHT.items():
+        if command not in ("list", "check", "get", "type"):
+            said = "can't be written: File too large"
+            desk.refused(f"{command} where files may not be so long", command, *operands, said=said, preexec_fn=limit)
 
 
 def as_another(desk):
