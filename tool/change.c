@@ -13,12 +13,11 @@ void rename_file(const struct options *options, char **operands, int count)
     if (new.user_typed && new.user != name_of(operands[1]).user)
         wrong_use("rename keeps a file's user, and '%s' names another than '%s'", operands[2], operands[1]);
     struct disk *disk = open_disk(options, operands[0], true);
-    struct name old = name_on(disk, operands[1]);
-    aim(disk, &old);
+    aim_at(disk, operands[1]);
     set_new_name(disk, &new);
     must(disk, CHURAWEL_FN_RENAME, operands[1]);
     store_disk(disk);
-    printf("%s: renamed to %s\n", operands[1], shown_file(old.user, new.bytes, shown));
+    printf("%s: renamed to %s\n", operands[1], shown_file(disk->aimed.user, new.bytes, shown));
 }
 
 // All files that are on the disk now.
@@ -29,9 +28,7 @@ struct files {
 
 static struct files files_on(const struct disk *disk)
 {
-    struct files files = {calloc(SLOTS_MOST, sizeof *files.at), 0};
-    if (files.at == NULL)
-        refuse("there is not enough memory");
+    struct files files = {room_for(SLOTS_MOST * sizeof *files.at), 0};
     for (uint32_t slot = 0; files.count < SLOTS_MOST && next_file(disk, &slot, &files.at[files.count]);)
         files.count++;
     return files;
@@ -99,10 +96,9 @@ void attributes(const struct options *options, char **operands, int count)
     struct listed file = {0};
     take_all_signs(operands, count, &file);
     struct disk *disk = open_disk(options, operands[0], true);
-    struct name name = name_on(disk, operands[1]);
-    find_file(disk, &name, &file);
+    aim_at(disk, operands[1]);
+    find_file(disk, &disk->aimed, &file);
     take_all_signs(operands, count, &file);
-    aim(disk, &name);
     set_attributes(disk, &file);
     must(disk, CHURAWEL_FN_ATTRIBUTES, operands[1]);
     store_disk(disk);

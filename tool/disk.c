@@ -10,9 +10,7 @@ enum { FCB_NAME = 1, FCB_READ_ONLY = 9, FCB_SYSTEM = 10, FCB_NEW_NAME = 17, FCB_
 
 struct disk *read_disk(const struct options *options, const char *path, bool to_change)
 {
-    struct disk *disk = calloc(1, sizeof *disk);
-    if (disk == NULL)
-        refuse("there is not enough memory");
+    struct disk *disk = room_for(sizeof *disk);
     disk->path = path;
     disk->original = open_image(path, to_change);
     disk->geometry = geometry_of_image(options->geometry, path, (uint64_t)disk->original.state.st_size);
@@ -85,13 +83,6 @@ bool find_file(const struct disk *disk, const struct name *name, struct listed *
     return false;
 }
 
-struct name name_on(const struct disk *disk, const char *typed)
-{
-    struct listed file;
-    struct name name = name_of(typed);
-    return find_file(disk, &name, &file) ? name : in_capitals(name);
-}
-
 // ---- the calls
 
 static uint32_t call_with(struct disk *disk, uint8_t function, uint8_t parameter)
@@ -108,6 +99,13 @@ void aim(struct disk *disk, const struct name *name)
     uint32_t answer = call_with(disk, CHURAWEL_FN_USER, name->user);
     if (answer != 0)
         refuse_by(disk->path, CHURAWEL_NUMBER(answer), "");
+}
+
+void aim_at(struct disk *disk, const char *typed)
+{
+    struct listed file;
+    struct name name = name_of(typed), capitals = in_capitals(name);
+    aim(disk, find_file(disk, &name, &file) ? &name : &capitals);
 }
 
 uint32_t call(struct disk *disk, uint8_t function)

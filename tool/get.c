@@ -25,9 +25,7 @@ static struct bytes file_bytes(struct disk *disk, const char *about, bool text, 
 {
     must(disk, CHURAWEL_FN_SIZE, about);
     uint32_t records = record_set(disk);
-    struct bytes bytes = {malloc((size_t)records * RECORD_BYTES + 1), 0};
-    if (bytes.at == NULL)
-        refuse("there is not enough memory");
+    struct bytes bytes = {room_for((size_t)records * RECORD_BYTES), 0};
     for (uint32_t record = 0; record < records; record++) {
         read_record(disk, record, zero_gaps, about);
         const uint8_t *end = text ? memchr(disk->buffer, END_OF_TEXT, RECORD_BYTES) : NULL;
@@ -77,10 +75,9 @@ void get(const struct options *options, char **operands, int count)
     char shown[SHOWN_MOST];
     bool zero_gaps = are_gaps_zero(options);
     struct disk *disk = open_disk(options, operands[0], false);
-    struct name name = name_on(disk, operands[1]);
-    aim(disk, &name);
+    aim_at(disk, operands[1]);
     struct bytes bytes = file_bytes(disk, operands[1], options->text, zero_gaps);
-    const char *path = count > 2 ? operands[2] : own_name(&name, shown);
+    const char *path = count > 2 ? operands[2] : own_name(&disk->aimed, shown);
     if (strcmp(path, "-") == 0)
         write_all(STDOUT_FILENO, "standard output", bytes);
     else
@@ -92,7 +89,6 @@ void type(const struct options *options, char **operands, int count)
     (void)count;
     bool zero_gaps = are_gaps_zero(options);
     struct disk *disk = open_disk(options, operands[0], false);
-    struct name name = name_on(disk, operands[1]);
-    aim(disk, &name);
+    aim_at(disk, operands[1]);
     write_all(STDOUT_FILENO, "standard output", file_bytes(disk, operands[1], true, zero_gaps));
 }

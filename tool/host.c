@@ -16,11 +16,17 @@ static _Noreturn void refuse_file(const char *path, const char *what)
     refuse("%s %s: %s", path, what, strerror(errno));
 }
 
+void *room_for(size_t count)
+{
+    void *room = calloc(count + 1, 1);
+    if (room == NULL)
+        refuse("there is not enough memory");
+    return room;
+}
+
 struct bytes read_all(int from, const char *path, size_t most)
 {
-    struct bytes bytes = {malloc(most), 0};
-    if (bytes.at == NULL)
-        refuse("there is not enough memory");
+    struct bytes bytes = {room_for(most), 0};
     while (bytes.count < most) {
         ssize_t n = read(from, bytes.at + bytes.count, most - bytes.count);
         if (n == 0)
@@ -115,14 +121,20 @@ struct original open_image(const char *path, bool to_change)
 
 // ---- a file written beside another, which then takes its name
 
-static char *beside(const char *path)
+static const char FRESH[] = ".churawel-XXXXXX";
+
+// The folder of a path, with its stroke; nothing for a name alone.
+static char *folder_of(const char *path)
 {
     const char *stroke = strrchr(path, '/');
-    int folder = stroke == NULL ? 0 : (int)(stroke - path + 1);
-    char *name = NULL;
-    if (asprintf(&name, "%.*s.churawel-XXXXXX", folder, path) < 0)
-        refuse("there is not enough memory");
-    return name;
+    size_t count = stroke == NULL ? 0 : (size_t)(stroke - path + 1);
+    return memcpy(room_for(count), path, count);
+}
+
+static char *beside(const char *path)
+{
+    char *folder = folder_of(path), *name = room_for(strlen(folder) + sizeof FRESH);
+    return strcat(strcpy(name, folder), FRESH);
 }
 
 // The owner is kept where that is allowed, the mode always.
@@ -141,14 +153,12 @@ static bool given_mode(int file, const struct stat *old)
 // The new name itself reaches the disk with its folder. The file's bytes are there already, so a failure loses none.
 static void flush_folder(const char *path)
 {
-    const char *stroke = strrchr(path, '/');
-    char *folder = stroke == NULL ? strdup(".") : strndup(path, (size_t)(stroke - path + 1));
-    int opened = folder == NULL ? -1 : open(folder, O_RDONLY | O_DIRECTORY | O_CLOEXEC);
+    const char *folder = folder_of(path);
+    int opened = open(*folder == '\0' ? "." : folder, O_RDONLY | O_DIRECTORY | O_CLOEXEC);
     if (opened >= 0) {
         fsync(opened);
         close(opened);
     }
-    free(folder);
 }
 
 // The signals that a person or a closing terminal sends wait until no file is left half done.
@@ -204,7 +214,6 @@ void replace_file(const char *path, const struct stat *old, struct bytes bytes)
     if (rename(fresh, path) != 0)
         give_up(fresh, path, "can't be replaced");
     flush_folder(path);
-    free(fresh);
 }
 
 // A second name for the new file is refused where the name is taken. File systems without second names look first.
@@ -224,5 +233,4 @@ void create_file(const char *path, struct bytes bytes)
         unlink(fresh);
     }
     flush_folder(path);
-    free(fresh);
 }

@@ -79,11 +79,8 @@ void new_image(const struct options *options, char **operands, int count)
     uint8_t drive[CHURAWEL_DRIVE_BYTES];
     struct geometry geometry = geometry_of_new(options->geometry);
     allow_geometry(&geometry, operands[0]);
-    struct bytes volume = {NULL, (size_t)geometry.block_bytes * geometry.blocks};
-    volume.at = malloc(volume.count);
-    if (volume.at == NULL)
-        refuse("there is not enough memory");
-    memset(volume.at, EMPTY, volume.count);
+    size_t volume_bytes = (size_t)geometry.block_bytes * geometry.blocks;
+    struct bytes volume = {memset(room_for(volume_bytes), EMPTY, volume_bytes), volume_bytes};
     uint32_t answer = log_in(&geometry, volume, drive);
     if (CHURAWEL_NUMBER(answer) != 0)
         refuse_by(operands[0], CHURAWEL_NUMBER(answer), "");

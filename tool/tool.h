@@ -70,8 +70,10 @@ struct geometry geometry_of_image(const char *option, const char *image, uint64_
 // By -g, else by the environment, else V's.
 struct geometry geometry_of_new(const char *option);
 
-// ---- host.c: files of this machine
+// ---- host.c: memory and files of this machine
 
+// So many bytes, all 0; the program's end frees them.
+void *room_for(size_t count);
 // All bytes of a file, but at most so many; of one that is open, or of the one that has this path.
 struct bytes read_all(int from, const char *path, size_t most);
 struct bytes read_file(const char *path, size_t most);
@@ -127,10 +129,10 @@ uint32_t number_at(const uint8_t *bytes, int count);
 // The next file at or after a slot; the slot behind it is noted. False where there is none.
 bool next_file(const struct disk *disk, uint32_t *slot, struct listed *file);
 bool find_file(const struct disk *disk, const struct name *name, struct listed *file);
-// The name of a file that is there, as it is typed or in capitals; the latter where neither is there.
-struct name name_on(const struct disk *disk, const char *typed);
 // Makes the user current and lays the name into the control block.
 void aim(struct disk *disk, const struct name *name);
+// Aims at a file that is there, as it is typed or in capitals; at the latter where neither is there.
+void aim_at(struct disk *disk, const char *typed);
 uint32_t call(struct disk *disk, uint8_t function);
 // A call that has to succeed; a refusal is said in words.
 void must(struct disk *disk, uint8_t function, const char *about);

@@ -1,14 +1,11 @@
 """./build and ./churawel in a copy of the tree, with a prover that only says what it is told to: how far the build is, that nothing
 is built where something is not proved, and that what is missing on a machine is said."""
 import os
-import platform
 import shutil
 import subprocess
 
-from desk import ROOT, Desk
+from desk import C, NATIVE, ROOT, Desk
 
-NATIVE = platform.machine() == "x86_64"
-COMPILER = "gcc" if NATIVE else "x86_64-linux-gnu-gcc"
 COPIED = ["build", "churawel", "crates.txt", "include", "tool", "tests/native.sh"]
 # Lays the archive that is there, as if it had been proved just now; status 1 where it is told that something is not proved.
 PROVER = f"""#!/bin/sh
@@ -58,9 +55,9 @@ def says(desk, what, path, words, status, said):
 
 def missing(desk, all_there):
     says(desk, "build without rt", path_without(desk, "no-rt", "rt"), ["./build"], 1, "rt is missing")
-    without = path_without(desk, "no-compiler", COMPILER)
-    says(desk, "build without a compiler", without, ["./build"], 1, f"{COMPILER} is missing")
-    says(desk, "./churawel that can't be built", without, ["./churawel", "--version"], 3, f"{COMPILER} is missing")
+    without = path_without(desk, "no-compiler", C)
+    says(desk, "build without a compiler", without, ["./build"], 1, f"{C} is missing")
+    says(desk, "./churawel that can't be built", without, ["./churawel", "--version"], 3, f"{C} is missing")
     desk.write("not-proved", b"")
     says(desk, "build where a room is not proved", all_there, ["./build"], 1, "The build failed: see target/log/build.log.")
     desk.same("nothing is built then", desk.path("target/bin/churawel").exists(), False)

@@ -7,8 +7,10 @@ from pathlib import Path
 
 ROOT = Path(__file__).resolve().parents[2]
 PROGRAM = ROOT / "target/bin/churawel"
-# The program is for x86-64; another processor emulates it.
-TOOL = [PROGRAM] if platform.machine() == "x86_64" else ["qemu-x86_64", PROGRAM]
+# The program is for x86-64; another processor emulates it, and Debian's cross compilers serve C and C++.
+NATIVE = platform.machine() == "x86_64"
+TOOL = [PROGRAM] if NATIVE else ["qemu-x86_64", PROGRAM]
+C, CPP = ("gcc", "g++") if NATIVE else ("x86_64-linux-gnu-gcc", "x86_64-linux-gnu-g++")
 SECONDS = 60
 
 

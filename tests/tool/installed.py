@@ -1,8 +1,7 @@
 """./install puts everything in its place, and the installed files serve a C and a C++ program as others would use them."""
-import platform
 import subprocess
 
-from desk import ROOT, TOOL, Desk
+from desk import C, CPP, NATIVE, ROOT, TOOL, Desk
 
 PROGRAM = r"""
 #include <churawel.h>
@@ -23,10 +22,8 @@ int main(void)
 PLACES = ["bin/churawel", "lib/libchurawel.a", "include/churawel.h", "share/man/man1/churawel.1", "lib/pkgconfig/churawel.pc"]
 
 
-# What compiles C, what compiles C++, and what links; on another processor than x86-64 Debian's cross compilers, and C's links
-# C++ too, since the program uses nothing of C++'s library.
-NATIVE = platform.machine() == "x86_64"
-C, CPP = ("gcc", "g++") if NATIVE else ("x86_64-linux-gnu-gcc", "x86_64-linux-gnu-g++")
+# What compiles C, what compiles C++, and what links; of the cross compilers C's links C++ too, since the program uses nothing of
+# C++'s library.
 LINKS_C, LINKS_CPP = ([C], [CPP]) if NATIVE else ([C, "-static"], [C, "-static"])
 WAYS = [("C", [C, "-std=c11"], "program.c", LINKS_C), ("C++", [CPP, "-std=c++17"], "program.cpp", LINKS_CPP)]
 STRICT = ["-Wall", "-Wextra", "-pedantic", "-Werror"]
