@@ -8,16 +8,16 @@
 void rename_file(const struct options *options, char **operands, int count)
 {
     (void)count;
-    char shown[SHOWN_MOST];
-    struct name new = in_capitals(name_of(operands[2]));
-    if (new.user_typed && new.user != name_of(operands[1]).user)
+    char shown[SHOWN_MOST], shown_new[SHOWN_MOST];
+    struct name old = name_of(operands[1]), new = in_capitals(name_of(operands[2]));
+    if (new.user_typed && new.user != old.user)
         wrong_use("rename keeps a file's user, and '%s' names another than '%s'", operands[2], operands[1]);
     struct disk *disk = open_disk(options, operands[0], true);
-    aim_at(disk, operands[1]);
+    aim_at(disk, old);
     set_new_name(disk, &new);
     must(disk, CHURAWEL_FN_RENAME, operands[1]);
     store_disk(disk);
-    printf("%s: renamed to %s\n", operands[1], shown_file(disk->aimed.user, new.bytes, shown));
+    printf("%s: renamed to %s\n", shown_file(old.user, disk->aimed.bytes, shown), shown_file(old.user, new.bytes, shown_new));
 }
 
 // All files that are on the disk now.
@@ -53,21 +53,14 @@ static void say_erased(const struct files *before, const struct files *after)
     }
 }
 
-// As the pattern is typed; in capitals where that matches nothing.
 void erase(const struct options *options, char **operands, int count)
 {
     (void)count;
-    struct name typed = pattern_of(operands[1]), capitals = in_capitals(typed);
+    struct name pattern = pattern_of(operands[1]);
     struct disk *disk = open_disk(options, operands[0], true);
     struct files before = files_on(disk);
-    aim(disk, &typed);
-    uint32_t answer = call(disk, CHURAWEL_FN_DELETE);
-    if (CHURAWEL_NUMBER(answer) == CHURAWEL_REFUSED_NO_MATCH) {
-        aim(disk, &capitals);
-        must(disk, CHURAWEL_FN_DELETE, operands[1]);
-    } else if (answer != 0) {
-        refuse_by(operands[1], CHURAWEL_NUMBER(answer), "");
-    }
+    aim_at(disk, pattern);
+    must(disk, CHURAWEL_FN_DELETE, operands[1]);
     struct files after = files_on(disk);
     store_disk(disk);
     say_erased(&before, &after);
@@ -94,13 +87,15 @@ static void take_all_signs(char **operands, int count, struct listed *file)
 void attributes(const struct options *options, char **operands, int count)
 {
     struct listed file = {0};
+    char shown[SHOWN_MOST];
+    struct name name = name_of(operands[1]);
     take_all_signs(operands, count, &file);
     struct disk *disk = open_disk(options, operands[0], true);
-    aim_at(disk, operands[1]);
+    aim_at(disk, name);
     find_file(disk, &disk->aimed, &file);
     take_all_signs(operands, count, &file);
     set_attributes(disk, &file);
     must(disk, CHURAWEL_FN_ATTRIBUTES, operands[1]);
     store_disk(disk);
-    printf("%s: %s, %s\n", operands[1], file.read_only ? "read-only" : "not read-only", file.system ? "system" : "not system");
+    printf("%s: %s, %s\n", shown_file(name.user, disk->aimed.bytes, shown), file.read_only ? "read-only" : "not read-only", file.system ? "system" : "not system");
 }

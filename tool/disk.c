@@ -74,11 +74,11 @@ bool next_file(const struct disk *disk, uint32_t *slot, struct listed *file)
     return true;
 }
 
-bool find_file(const struct disk *disk, const struct name *name, struct listed *file)
+bool find_file(const struct disk *disk, const struct name *pattern, struct listed *file)
 {
     uint32_t slot = 0;
     while (next_file(disk, &slot, file))
-        if (file->user == name->user && memcmp(file->name, name->bytes, NAME_BYTES) == 0)
+        if (file->user == pattern->user && matches(pattern, file->name))
             return true;
     return false;
 }
@@ -101,11 +101,11 @@ void aim(struct disk *disk, const struct name *name)
         refuse_by(disk->path, CHURAWEL_NUMBER(answer), "");
 }
 
-void aim_at(struct disk *disk, const char *typed)
+void aim_at(struct disk *disk, struct name typed)
 {
     struct listed file;
-    struct name name = name_of(typed), capitals = in_capitals(name);
-    aim(disk, find_file(disk, &name, &file) ? &name : &capitals);
+    struct name capitals = in_capitals(typed);
+    aim(disk, find_file(disk, &typed, &file) ? &typed : &capitals);
 }
 
 uint32_t call(struct disk *disk, uint8_t function)
@@ -113,21 +113,31 @@ uint32_t call(struct disk *disk, uint8_t function)
     return call_with(disk, function, 0);
 }
 
-// There is no such file; but perhaps another user has one of this name.
-static _Noreturn void refuse_missing(const struct disk *disk, const char *about)
+enum { FURTHER_MOST = SHOWN_MOST + 32 };
+
+// What may help whom a call refused: another user's file of that name, or which of several files is read-only.
+static const char *further_of(const struct disk *disk, uint32_t number, char *further)
 {
     struct listed file;
     uint32_t slot = 0;
-    char shown[SHOWN_MOST], further[SHOWN_MOST + 32] = "";
-    while (*further == '\0' && next_file(disk, &slot, &file))
-        if (matches(&disk->aimed, file.name))
-            snprintf(further, sizeof further, "; another user has one: %s", shown_file(file.user, file.name, shown));
-    refuse_by(about, CHURAWEL_REFUSED_NO_MATCH, further);
+    char shown[SHOWN_MOST];
+    bool missing = number == CHURAWEL_REFUSED_NO_MATCH;
+    bool one_of_several = number == CHURAWEL_REFUSED_READ_ONLY && is_pattern(&disk->aimed);
+    *further = '\0';
+    while (*further == '\0' && (missing || one_of_several) && next_file(disk, &slot, &file)) {
+        shown_file(file.user, file.name, shown);
+        if (missing && matches(&disk->aimed, file.name))
+            snprintf(further, FURTHER_MOST, "; another user has one: %s", shown);
+        else if (one_of_several && file.user == disk->aimed.user && file.read_only && matches(&disk->aimed, file.name))
+            snprintf(further, FURTHER_MOST, "; it is %s", shown);
+    }
+    return further;
 }
 
-void must(struct disk *disk, uint8_t function, const char *about)
+void accept_answer(const struct disk *disk, uint8_t function, uint32_t answer, const char *about)
 {
-    uint32_t answer = call(disk, function), number = CHURAWEL_NUMBER(answer);
+    char further[FURTHER_MOST];
+    uint32_t number = CHURAWEL_NUMBER(answer);
     if (churawel_succeeded(function, answer))
         return;
     // Make answers 255 where a write answers 5.
@@ -135,9 +145,12 @@ void must(struct disk *disk, uint8_t function, const char *about)
         refuse("%s: %s (%u)", about, words_of(CHURAWEL_REFUSED_NO_SLOT), number);
     if (function == CHURAWEL_FN_MAKE && number == CHURAWEL_REFUSED_EXISTS)
         refuse_by(about, number, "; --replace replaces it");
-    if (number == CHURAWEL_REFUSED_NO_MATCH)
-        refuse_missing(disk, about);
-    refuse_by(about, number, "");
+    refuse_by(about, number, further_of(disk, number, further));
+}
+
+void must(struct disk *disk, uint8_t function, const char *about)
+{
+    accept_answer(disk, function, call(disk, function), about);
 }
 
 void set_new_name(struct disk *disk, const struct name *name)

@@ -74,8 +74,9 @@ void get(const struct options *options, char **operands, int count)
 {
     char shown[SHOWN_MOST];
     bool zero_gaps = are_gaps_zero(options);
+    struct name name = name_of(operands[1]);
     struct disk *disk = open_disk(options, operands[0], false);
-    aim_at(disk, operands[1]);
+    aim_at(disk, name);
     struct bytes bytes = file_bytes(disk, operands[1], options->text, zero_gaps);
     const char *path = count > 2 ? operands[2] : own_name(&disk->aimed, shown);
     if (strcmp(path, "-") == 0)
@@ -88,7 +89,8 @@ void type(const struct options *options, char **operands, int count)
 {
     (void)count;
     bool zero_gaps = are_gaps_zero(options);
+    struct name name = name_of(operands[1]);
     struct disk *disk = open_disk(options, operands[0], false);
-    aim_at(disk, operands[1]);
+    aim_at(disk, name);
     write_all(STDOUT_FILENO, "standard output", file_bytes(disk, operands[1], true, zero_gaps));
 }

@@ -86,6 +86,11 @@ struct name in_capitals(struct name name)
     return name;
 }
 
+bool is_pattern(const struct name *name)
+{
+    return memchr(name->bytes, ANY, NAME_BYTES) != NULL;
+}
+
 bool matches(const struct name *pattern, const uint8_t *name)
 {
     for (int k = 0; k < NAME_BYTES; k++)

@@ -33,20 +33,28 @@ static void write_records(struct disk *disk, struct bytes bytes, uint8_t filler,
     }
 }
 
-// Makes the file; one that is replaced goes first, and a system file stays one.
-static void make_file(struct disk *disk, const struct name *name, bool replace, const char *about)
+// The file that is there goes, and is made anew; a system file stays one.
+static void make_anew(struct disk *disk, const struct name *name, const char *about)
 {
-    struct listed old;
-    bool replaced = replace && find_file(disk, name, &old);
-    aim(disk, name);
-    if (replaced)
-        must(disk, CHURAWEL_FN_DELETE, about);
+    struct listed old = {0};
+    find_file(disk, name, &old);
+    must(disk, CHURAWEL_FN_DELETE, about);
     must(disk, CHURAWEL_FN_MAKE, about);
-    if (replaced && old.system) {
+    if (old.system) {
         set_attributes(disk, &old);
         must(disk, CHURAWEL_FN_ATTRIBUTES, about);
         aim(disk, name);
     }
+}
+
+static void make_file(struct disk *disk, const struct name *name, bool replace, const char *about)
+{
+    aim(disk, name);
+    uint32_t answer = call(disk, CHURAWEL_FN_MAKE);
+    if (replace && CHURAWEL_NUMBER(answer) == CHURAWEL_REFUSED_EXISTS)
+        make_anew(disk, name, about);
+    else
+        accept_answer(disk, CHURAWEL_FN_MAKE, answer, about);
 }
 
 void put(const struct options *options, char **operands, int count)

@@ -53,6 +53,7 @@ struct name name_of(const char *typed);
 // As name_of, where * stands for any rest of the name or of the type.
 struct name pattern_of(const char *typed);
 struct name in_capitals(struct name name);
+bool is_pattern(const struct name *name);
 bool matches(const struct name *pattern, const uint8_t *name);
 // SIGLA.TXT, without a user.
 const char *shown_name(const uint8_t *name, char *shown);
@@ -128,13 +129,16 @@ void store_disk(struct disk *disk);
 uint32_t number_at(const uint8_t *bytes, int count);
 // The next file at or after a slot; the slot behind it is noted. False where there is none.
 bool next_file(const struct disk *disk, uint32_t *slot, struct listed *file);
-bool find_file(const struct disk *disk, const struct name *name, struct listed *file);
+// The first file of the user that is meant.
+bool find_file(const struct disk *disk, const struct name *pattern, struct listed *file);
 // Makes the user current and lays the name into the control block.
 void aim(struct disk *disk, const struct name *name);
-// Aims at a file that is there, as it is typed or in capitals; at the latter where neither is there.
-void aim_at(struct disk *disk, const char *typed);
+// Aims at files that are there, as they are typed or in capitals; at the latter where neither are there.
+void aim_at(struct disk *disk, struct name typed);
 uint32_t call(struct disk *disk, uint8_t function);
-// A call that has to succeed; a refusal is said in words.
+// Takes an answer that is no refusal; a refusal is said in words.
+void accept_answer(const struct disk *disk, uint8_t function, uint32_t answer, const char *about);
+// A call that has to succeed.
 void must(struct disk *disk, uint8_t function, const char *about);
 // What a call takes from the control block beside the name: rename's new name, attributes, a record's number.
 void set_new_name(struct disk *disk, const struct name *name);

@@ -80,7 +80,7 @@ def replacing(desk, geometry):
     desk.same("put --replace: its bytes", file_on(desk.read("A.IMG"), geometry, 0, "OWN.TXT"), b"other".ljust(128, b"\0"))
     desk.same("put --replace: still a system file", entries_of(desk.read("A.IMG"), geometry, 0, "OWN.TXT")[0][10] & 0x80, 0x80)
     desk.done("put --replace of a file that is not there", "put", "--replace", "A.IMG", "own.txt", "5:b.txt")
-    desk.done("attributes +r", "attributes", "A.IMG", "own.txt", "+r", out=b"own.txt: read-only, system\n")
+    desk.done("attributes +r", "attributes", "A.IMG", "own.txt", "+r", out=b"OWN.TXT: read-only, system\n")
     said = "OWN.TXT: the file is read-only (38)"
     desk.refused("put --replace of a read-only file", "put", "--replace", "A.IMG", "own.txt", said=said)
 
@@ -91,14 +91,18 @@ def changes(desk, geometry):
         return e[9] >> 7, e[10] >> 7
 
     desk.refused("rename of a read-only file", "rename", "A.IMG", "own.txt", "new.txt", said="(38)")
-    desk.refused("erase of a read-only file among others", "erase", "A.IMG", "*.*", said="the file is read-only (38)")
+    said = "*.*: the file is read-only (38); it is OWN.TXT\n"
+    desk.refused("erase of a read-only file among others", "erase", "A.IMG", "*.*", said=said)
+    desk.refused("erase of a read-only file", "erase", "A.IMG", "own.txt", said="own.txt: the file is read-only (38)\n")
     for signs, expected in [("-s", (1, 0)), ("-r +s", (0, 1)), ("+rs", (1, 1)), ("-rs", (0, 0)), ("+r -r", (0, 0))]:
-        desk.done(f"attributes {signs}", "attributes", "A.IMG", "own.txt", *signs.split())
+        said = ", ".join(word if on else f"not {word}" for on, word in zip(expected, ("read-only", "system")))
+        out = f"OWN.TXT: {said}\n".encode()
+        desk.done(f"attributes {signs}", "attributes", "A.IMG", "own.txt", *signs.split(), out=out)
         desk.same(f"attributes {signs}: the bits", marks("OWN.TXT"), expected)
-    desk.done("rename", "rename", "A.IMG", "own.txt", "new.txt", out=b"own.txt: renamed to NEW.TXT\n")
+    desk.done("rename", "rename", "A.IMG", "own.txt", "new.txt", out=b"OWN.TXT: renamed to NEW.TXT\n")
     desk.same("rename: under its new name", file_on(desk.read("A.IMG"), geometry, 0, "NEW.TXT"), b"other".ljust(128, b"\0"))
     desk.same("rename: the old one is gone", entries_of(desk.read("A.IMG"), geometry, 0, "OWN.TXT"), [])
-    desk.done("rename of another user's file", "rename", "A.IMG", "5:b.txt", "5:c.txt", out=b"5:b.txt: renamed to 5:C.TXT\n")
+    desk.done("rename of another user's file", "rename", "A.IMG", "5:b.txt", "5:c.txt", out=b"5:B.TXT: renamed to 5:C.TXT\n")
     desk.refused("rename to itself", "rename", "A.IMG", "new.txt", "new.txt", said="(43)")
     desk.refused("rename to a name that is there", "rename", "A.IMG", "new.txt", "stdin", said="(43)")
     desk.refused("rename of what is not there", "rename", "A.IMG", "own.txt", "x", said="own.txt: there is no such file (255)\n")
