@@ -26,7 +26,7 @@ extern "C" {
 #define CHURAWEL_FCB_BYTES 36
 #define CHURAWEL_BUFFER_BYTES 128
 #define CHURAWEL_RECORDS_MOST 16
-#define CHURAWEL_FAULT_BYTES 8
+#define CHURAWEL_FAULT_BYTES 32
 #define CHURAWEL_FILE_BYTES 24
 
 /*
@@ -116,9 +116,16 @@ uint32_t churawel_call(
 
 /*
  * Log-in's answer, with no drive left, and why: 0 with the number of free blocks, 32, 33, or 36 with the lowest bad slot.
- * After 36 the fault is: byte 0 the first rule that the slot breaks; 1 the place of its map; 2 and 3 the block; 4 and 5 the
- * other slot; two zeros. Numbers have their low byte first, and are 0 where the rule has no place, block or other slot.
- * After any other answer all 8 bytes are 0. A fault of another length: 35, before all others, and nothing changes.
+ * After 36 the fault is:
+ *    0         the first of the rules below that the slot breaks
+ *    1         the place of its map; for rules 8, 9 and 10
+ *    2 to 3    the block; for rules 8, 9 and 10
+ *    4 to 5    the bad slot
+ *    6 to 7    the other slot, always a lower one; for rules 10 and 11
+ *    8 to 19   bytes 0 to 11 of the bad slot's entry as they stand: user, name and type, top bits too
+ *   20 to 31   the same of the other slot; for rules 10 and 11
+ * Numbers have their low byte first. What a rule has not is 0, and after any other answer than 36 all 32 bytes are.
+ * A fault of another length: 35, before all others, and nothing changes.
  * The rules: 1 user above 15; 2 a byte of the name; 3 a top bit on another byte than 9 and 10; 4 ex above 31; 5 s1 not 0;
  * 6 s2 above 15; 7 rc above 128; 8 a block outside D to T-1; 9 a block that is in a lower place too; 10 a block that is in
  * a lower slot too; 11 a lower slot of the same user, name and group.

@@ -213,7 +213,7 @@ WRONG = [
     ("a drive of 63 bytes", r"DRIVE_BYTES 64", "DRIVE_BYTES 63", LENGTHS_AGREE),
     ("a control block of 33 bytes", r"FCB_BYTES 36", "FCB_BYTES 33", LENGTHS_AGREE),
     ("a buffer of 127 bytes", r"BUFFER_BYTES 128", "BUFFER_BYTES 127", LENGTHS_AGREE),
-    ("a fault of 7 bytes", r"FAULT_BYTES 8", "FAULT_BYTES 7", LENGTHS_AGREE),
+    ("a fault of 31 bytes", r"FAULT_BYTES 32", "FAULT_BYTES 31", LENGTHS_AGREE),
     ("seventeen records", r"RECORDS_MOST 16", "RECORDS_MOST 17", LENGTHS_AGREE),
     ("a length that the source has not", r"(#define \w+_FCB_BYTES)", r"#define CHURAWEL_SLOT_BYTES 32\n\1", LENGTHS_AGREE),
     ("another number of a function", r"SIZE = 35", "SIZE = 38", CALLS_AGREE),

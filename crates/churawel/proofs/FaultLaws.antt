@@ -1,33 +1,32 @@
--- What code learns on its way to a fault, as the definitions say it; and no fault is 8 zeros.
-use mathlib.Core.Path.{_≡_, refl}
-use mathlib.Core.Bool.{Bool, true, false}
+-- What code learns on its way to a fault, as the definitions say it.
+use mathlib.Core.Path.{_≡_, refl, sym}
+use mathlib.Core.Bool.{Bool, true, false, cond}
 use mathlib.Core.List.{List}
-use Prim.Native.Nat.{ℕ, _<_}
+use Prim.Native.Nat.{ℕ, _+_, _-_, _<_}
 use native.Mathlib.Omega.{arith}
 use lib.Dec.{ltb, eqb}
-use lib.ListN.{length, replicate}
+use lib.ListN.{length, take, drop, replicate}
+use lib.Seq.{take-take}
 use borrow.Author.Tests.{eq-eqb, ne-eqb, eqb-true, ltb-true}
-use Rattle.numbers.specs.Numbers.{bytesOf}
+use Rattle.lists.specs.Bytes.{part}
+use Rattle.lists.proofs.PartLaws.{length-part}
 use Rattle.disk_geometry.specs.declared.Geometry.{Geometry}
-use Rattle.disk_geometry.specs.Geometry.{lawful, bytes, slots, blocks, directoryBlocks}
+use Rattle.disk_geometry.specs.Geometry.{lawful, bytes, slots, slotStart, blocks, directoryBlocks}
 use Rattle.disk_volume.specs.CodeLent.{IsVolume}
+use Rattle.disk_volume.specs.Directory.{slotAt}
+use Rattle.disk_volume.proofs.DirectoryLaws.{slot-length}
+use Rattle.disk_faults.specs.declared.Fault.{Fault}
+use Rattle.disk_faults.specs.Faults.{hasOther}
 use Rattle.disk_held.specs.Held.{freeCount}
 use Rattle.disk_rules.specs.GoodSlot.{lowestBad}
 use Rattle.disk_rules.specs.Named.{heldOf}
-use Rattle.disk_faults.specs.declared.Rule.the-variants.{None}
-use Rattle.disk_faults.specs.declared.Fault.{Fault}
-use Rattle.disk_faults.specs.Faults.{alone}
 use Rattle.call_answers.specs.declared.Refusal.the-variants.{Closed, VolumeLength, BufferLength}
 use Rattle.call_answers.specs.declared.Answer.the-variants as answer
 use Rattle.call_answers.specs.Refusal.{firstMet}
 use Rattle.filecalls.specs.declared.Reply.{Reply}
 use Rattle.filecalls.specs.LogIn.{logIn, logInTests, refusedLogIn}
 use Rattle.churawel.specs.Seam.{answered}
-use Rattle.churawel.specs.Fault.{faultLength, faultBytes, faultFor, explained, faultAtSeam}
-
-pub no-fault : faultBytes (alone None) ≡ replicate faultLength 0
-unfolding faultBytes bytesOf
-no-fault = refl
+use Rattle.churawel.specs.Fault.{faultLength, ownerLength, ownerBytes, otherBytes, faultFor, explained, faultAtSeam}
 
 -- where log-in tells of a bad slot, the volume is one of the geometry, and the slot is one of the volume
 pub bad-slot : (g : Geometry) (v : List ℕ) (slot : ℕ) → logIn g v .answer ≡ answer.BadSlot slot → IsVolume g v × (slot < slots g)
@@ -52,12 +51,32 @@ bad-slot g v slot said = go (lawful g) (eqb (length v) (bytes g)) (ltb (lowestBa
         let s : slot ≡ lowestBad g v = cc in
         ((e, eqb-true (length v) (bytes g) f), rw s (ltb-true (lowestBad g v) (slots g) h))
 
+-- ---- user and name: `&volume[at..at + 12]`, where at is the start of slot i
+module _ (g : Geometry) (v : List ℕ) (known : IsVolume g v) (i : ℕ) (h : i < slots g) where
+  pub owner-lent : (at : ℕ) → at ≡ slotStart g i → take (at + 12 - at) (drop at v) ≡ ownerBytes g v i
+  unfolding ownerBytes slotAt part
+  owner-lent at e =
+      let z : at + 12 - at ≡ 12 = omega arith in
+      rw (z, e) (sym (take-take 12 32 (drop (slotStart g i) v) (omega arith)))
+
+  pub owner-length : length (ownerBytes g v i) ≡ ownerLength
+  unfolding ownerBytes
+  owner-length = length-part (slotAt g v i) 0 12 (omega (arith, slot-length g (known .0) v (known .1) i h))
+
+pub other-length : (g : Geometry) (v : List ℕ) → IsVolume g v → (f : Fault) → f .other < slots g → length (otherBytes g v f) ≡ ownerLength
+unfolding otherBytes
+other-length g v known f h = go (hasOther (f .rule))
+  where
+    go : (t : Bool) → length (cond t (ownerBytes g v (f .other)) (replicate ownerLength 0)) ≡ ownerLength
+    go true = owner-length g v known (f .other) h
+    go false = refl
+
 module _ (g : Geometry) (v f : List ℕ) where
   pub fault-refused : {r : ℕ} → (length f ≡ faultLength → ⊥) → r ≡ answered (answer.Refused BufferLength) → explained r f ≡ faultAtSeam g v f
   unfolding faultAtSeam
   fault-refused h e = rw (ne-eqb (length f) faultLength h, e)
 
-  pub fault-done : {r : ℕ} {o : Reply} {why : Fault} {after : List ℕ} → length f ≡ faultLength → o ≡ logIn g v
-      → why ≡ faultFor g v (o .answer) → after ≡ faultBytes why → r ≡ answered (o .answer) → explained r after ≡ faultAtSeam g v f
+  pub fault-done : {r : ℕ} {o : Reply} {after : List ℕ} → length f ≡ faultLength → o ≡ logIn g v
+      → after ≡ faultFor g v (o .answer) → r ≡ answered (o .answer) → explained r after ≡ faultAtSeam g v f
   unfolding faultAtSeam
-  fault-done h is first lays e = rw (eq-eqb (length f) faultLength h, ← is, e, lays, first)
+  fault-done h is lays e = rw (eq-eqb (length f) faultLength h, ← is, e, lays)

@@ -168,8 +168,7 @@ pub extern "C" fn churawel_fault(
     };
     let reply = Drive::log_in(g, volume);
     let answer = reply.answer;
-    let why = fault::fault_for(g, volume, answer);
-    fault::put_fault(fault, why);
+    fault::put_fault_for(fault, g, volume, answer);
     seal(answer)
 }
 

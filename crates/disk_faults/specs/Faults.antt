@@ -1,7 +1,7 @@
 -- Why a slot is bad: the rules of 01's sentence on good slots in its order, and the first of them that a slot breaks.
 -- None is broken exactly where the slot is good: `Agree`, proved in `proofs/Agreement`.
 use mathlib.Core.Path.{_≡_}
-use mathlib.Core.Bool.{Bool, false, not, cond, _&&_}
+use mathlib.Core.Bool.{Bool, true, false, not, cond, _&&_}
 use mathlib.Core.List.{List}
 use Prim.Native.Nat.{ℕ, _<_}
 use lib.Dec.{leb, ltb, eqb}
@@ -47,13 +47,31 @@ ruleNumber (Map rule) = mapRuleNumber rule
 -- "no lower slot has the same user, name and group"
 ruleNumber Twin = 11
 
+-- the rules that speak of another slot: "or in a lower slot", "no lower slot"
+abbrev pub mapRuleHasOther : MapRule → Bool
+mapRuleHasOther Outside = false
+mapRuleHasOther Twice = false
+mapRuleHasOther Lower = true
+
+abbrev pub hasOther : Rule → Bool
+hasOther None = false
+hasOther UserByte = false
+hasOther NameByte = false
+hasOther TopBit = false
+hasOther ExByte = false
+hasOther S1Byte = false
+hasOther S2Byte = false
+hasOther RcByte = false
+hasOther (Map rule) = mapRuleHasOther rule
+hasOther Twin = true
+
 -- no rule is broken
 abbrev pub isKept : Rule → Bool
 isKept rule = eqb (ruleNumber rule) 0
 
 -- a rule, with the place of the map, the block and the other slot where the rule has one, 0 where it has not
 abbrev pub fault : Rule → ℕ → ℕ → ℕ → Fault
-fault rule place block slot = record { rule = rule; place = place; block = block; slot = slot }
+fault rule place block other = record { rule = rule; place = place; block = block; other = other }
 
 abbrev pub alone : Rule → Fault
 alone rule = fault rule 0 0 0

@@ -5,7 +5,7 @@ ghost use Prim.Native.Nat.{_≤_, _<_};
 ghost use Rattle.disk_geometry.specs.Geometry.{slots, places};
 ghost use Rattle.disk_volume.specs.CodeLent.{IsVolume, IsEntry};
 ghost use Rattle.disk_rules.specs.GoodSlot.{goodTopBits, inPlaces, namesBlock};
-ghost use Rattle.disk_faults.specs.Faults.{mapRuleNumber, ruleNumber, alone, entryRule, breaks, placeOf, slotOf, otherSlot, mapFault, twinFault, firstBroken};
+ghost use Rattle.disk_faults.specs.Faults.{mapRuleNumber, ruleNumber, mapRuleHasOther, hasOther, alone, entryRule, breaks, placeOf, slotOf, otherSlot, mapFault, twinFault, firstBroken};
 ghost use Rattle.disk_faults.specs.CodeEntryAt.{EntryAt};
 use disk_geometry::Geometry;
 use disk_volume::Wanted;
@@ -40,7 +40,7 @@ pub struct Fault {
     pub rule: Rule,
     pub place: usize,
     pub block: usize,
-    pub slot: usize,
+    pub other: usize,
 }
 
 // Answers the number of a map's rule.
@@ -69,6 +69,35 @@ pub fn rule_number(rule: Rule) -> u8
         Rule::RcByte => 7,
         Rule::Map(broken) => map_rule_number(broken),
         Rule::Twin => 11,
+    }
+}
+
+// Does the map's rule speak of another slot?
+fn map_rule_has_other(rule: MapRule) -> bool
+    ensures { λ r. ⌜ r ≡ mapRuleHasOther rule ⌝ }
+{
+    match rule {
+        MapRule::Outside => false,
+        MapRule::Twice => false,
+        MapRule::Lower => true,
+    }
+}
+
+// Does the rule speak of another slot?
+pub fn has_other(rule: Rule) -> bool
+    ensures { λ r. ⌜ r ≡ hasOther rule ⌝ }
+{
+    match rule {
+        Rule::None => false,
+        Rule::UserByte => false,
+        Rule::NameByte => false,
+        Rule::TopBit => false,
+        Rule::ExByte => false,
+        Rule::S1Byte => false,
+        Rule::S2Byte => false,
+        Rule::RcByte => false,
+        Rule::Map(broken) => map_rule_has_other(broken),
+        Rule::Twin => true,
     }
 }
 
@@ -146,7 +175,7 @@ pub fn alone(rule: Rule) -> Fault
         rule,
         place: 0,
         block: 0,
-        slot: 0,
+        other: 0,
     }
 }
 
@@ -231,7 +260,7 @@ fn map_fault(
         rule: Rule::Map(rule),
         place: p,
         block: b,
-        slot: other_slot(g, volume, i, rule, b),
+        other: other_slot(g, volume, i, rule, b),
     }
 }
 
@@ -253,7 +282,7 @@ fn twin_fault(g: Geometry, volume: &[u8], i: usize, e: &[u8]) -> Fault
             rule: Rule::Twin,
             place: 0,
             block: 0,
-            slot,
+            other: slot,
         };
     }
     alone(Rule::None)
