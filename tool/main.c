@@ -17,16 +17,17 @@ const struct command COMMANDS[] = {
      "Says whether the disk is sound; if not, the first bad slot of its directory, its file, and what is wrong with it.", check},
     {"get", "IMAGE FILE [OUT]", "gtRGh", 2, 3, false,
      "Copies a file of the disk to a file of this machine.\n"
-     "Without OUT that has the file's own name; - is standard output. A record that was never written is an error.",
+     "Without OUT that has the file's own name; - is standard output. One that is there is replaced only with --replace.\n"
+     "A record that was never written is an error, but not with --gaps zero.",
      get},
     {"type", "IMAGE FILE", "gGh", 2, 2, false,
      "Shows a file as text, to its first 1AH.\n"
-     "A record before that which was never written is an error.",
+     "A record before that which was never written is an error, but not with --gaps zero.",
      type},
     {"put", "IMAGE IN [FILE]", "gtRh", 2, 3, true,
      "Copies a file of this machine to the disk, whole or not at all.\n"
-     "Without FILE it keeps its name, in capitals; - is standard input. The last record is filled up with zeros, or with 1AH as\n"
-     "text. A system file that is replaced stays one.",
+     "Without FILE it keeps its name, in capitals; - is standard input. One that is there is replaced only with --replace, and\n"
+     "stays a system file if it was one. The last record is filled up with zeros, or with 1AH as text.",
      put},
     {"rename", "IMAGE FILE NEW", "gh", 3, 3, true, "Gives a file another name.", rename_file},
     {"erase", "IMAGE PATTERN", "gh", 2, 2, true,
