@@ -1,14 +1,16 @@
 -- What code learns on its way to a fault, as the definitions say it.
 use mathlib.Core.Path.{_≡_, refl, sym}
-use mathlib.Core.Bool.{Bool, true, false, cond}
+use mathlib.Core.Bool.{Bool, true, false, not, cond}
 use mathlib.Core.List.{List}
 use Prim.Native.Nat.{ℕ, _+_, _-_, _<_}
 use native.Mathlib.Omega.{arith}
 use lib.Dec.{ltb, eqb}
 use lib.ListN.{length, take, drop, replicate}
 use lib.Seq.{take-take}
-use borrow.Author.Tests.{eq-eqb, ne-eqb, eqb-true, ltb-true}
+use borrow.Author.Tests.{eq-eqb, ne-eqb, eqb-true, ltb-true, not-true}
+use Rattle.lists.specs.Bounded.{lowest}
 use Rattle.lists.specs.Bytes.{part}
+use Rattle.lists.proofs.BoundedLaws.{low-hit}
 use Rattle.lists.proofs.PartLaws.{length-part}
 use Rattle.disk_geometry.specs.declared.Geometry.{Geometry}
 use Rattle.disk_geometry.specs.Geometry.{lawful, bytes, slots, slotStart, blocks, directoryBlocks}
@@ -18,7 +20,7 @@ use Rattle.disk_volume.proofs.DirectoryLaws.{slot-length}
 use Rattle.disk_faults.specs.declared.Fault.{Fault}
 use Rattle.disk_faults.specs.Faults.{hasOther}
 use Rattle.disk_held.specs.Held.{freeCount}
-use Rattle.disk_rules.specs.GoodSlot.{lowestBad}
+use Rattle.disk_rules.specs.GoodSlot.{goodSlot, lowestBad}
 use Rattle.disk_rules.specs.Named.{heldOf}
 use Rattle.call_answers.specs.declared.Refusal.the-variants.{Closed, VolumeLength, BufferLength}
 use Rattle.call_answers.specs.declared.Answer.the-variants as answer
@@ -28,12 +30,21 @@ use Rattle.filecalls.specs.LogIn.{logIn, logInTests, refusedLogIn}
 use Rattle.churawel.specs.Seam.{answered}
 use Rattle.churawel.specs.Fault.{faultLength, ownerLength, ownerBytes, otherBytes, faultFor, explained, faultAtSeam}
 
--- where log-in tells of a bad slot, the volume is one of the geometry, and the slot is one of the volume
-pub bad-slot : (g : Geometry) (v : List ℕ) (slot : ℕ) → logIn g v .answer ≡ answer.BadSlot slot → IsVolume g v × (slot < slots g)
+-- where log-in tells of a bad slot, the volume is one of the geometry, and the slot is one of the volume and bad
+pub record Bad (g : Geometry) (v : List ℕ) (slot : ℕ) : Type 0 where
+  pub volume : IsVolume g v
+  pub inside : slot < slots g
+  pub bad : goodSlot g v slot ≡ false
+
+lowest-bad : (g : Geometry) (v : List ℕ) → lowestBad g v < slots g → goodSlot g v (lowestBad g v) ≡ false
+unfolding lowestBad
+lowest-bad g v h = not-true _ (low-hit (λ i. not (goodSlot g v i)) 0 (slots g) (lowest (slots g) (λ i. not (goodSlot g v i))) refl (omega arith) .passes)
+
+pub bad-slot : (g : Geometry) (v : List ℕ) (slot : ℕ) → logIn g v .answer ≡ answer.BadSlot slot → Bad g v slot
 unfolding logIn logInTests firstMet refusedLogIn
 bad-slot g v slot said = go (lawful g) (eqb (length v) (bytes g)) (ltb (lowestBad g v) (slots g)) refl refl refl
   where
-    go : (a b c : Bool) → lawful g ≡ a → eqb (length v) (bytes g) ≡ b → ltb (lowestBad g v) (slots g) ≡ c → IsVolume g v × (slot < slots g)
+    go : (a b c : Bool) → lawful g ≡ a → eqb (length v) (bytes g) ≡ b → ltb (lowestBad g v) (slots g) ≡ c → Bad g v slot
     go false b c e f h =
         let k : logIn g v .answer ≡ answer.Refused Closed = rw e in
         let z : _≡_ {A = ℕ} 0 1 = cc in
@@ -49,7 +60,8 @@ bad-slot g v slot said = go (lawful g) (eqb (length v) (bytes g)) (ltb (lowestBa
     go true true true e f h =
         let k : logIn g v .answer ≡ answer.BadSlot (lowestBad g v) = rw (e, f, h) in
         let s : slot ≡ lowestBad g v = cc in
-        ((e, eqb-true (length v) (bytes g) f), rw s (ltb-true (lowestBad g v) (slots g) h))
+        let l : lowestBad g v < slots g = ltb-true (lowestBad g v) (slots g) h in
+        record { volume = (e, eqb-true (length v) (bytes g) f); inside = rw s l; bad = rw s (lowest-bad g v l) }
 
 -- ---- user and name: `&volume[at..at + 12]`, where at is the start of slot i
 module _ (g : Geometry) (v : List ℕ) (known : IsVolume g v) (i : ℕ) (h : i < slots g) where

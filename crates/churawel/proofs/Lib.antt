@@ -7,3 +7,4 @@ pub mod CallsLast
 pub mod FaithfulHolds
 pub mod FaultLaws
 pub mod FileLaws
+pub mod ExplainsHolds

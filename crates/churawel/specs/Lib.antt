@@ -4,3 +4,4 @@ pub mod Faithful
 pub mod CodeSeam
 pub mod Fault
 pub mod File
+pub mod Explains

@@ -3,13 +3,9 @@ use mathlib.Core.Path.{_≡_, refl, sym, ap, _∙_}
 use mathlib.Core.Bool.{Bool, true, false, not, cond, _&&_, _||_, and-true, and-false}
 use mathlib.Core.List.{List}
 use Prim.Native.Nat.{ℕ, zero, suc, _+_, _≤_, _<_}
-use native.Mathlib.Decide.{decLt}
-use native.Mathlib.Omega.{arith}
-use borrow.Author.Tests.{ltb-true, ltb-false}
 use lib.Dec.{leb, ltb, eqb}
-use Rattle.lists.specs.Bounded.{anyFrom, everyFrom, lowest, any, every}
+use Rattle.lists.specs.Bounded.{anyFrom, everyFrom, every}
 use Rattle.lists.specs.Bytes.{byte}
-use Rattle.lists.proofs.BoundedLaws.{low-hit, low-miss, low-le, any-low, any-intro, any-none, every-ext}
 use Rattle.disk_geometry.specs.declared.Geometry.{Geometry}
 use Rattle.disk_geometry.specs.Geometry.{slots, groupOf, inside, places}
 use Rattle.disk_volume.specs.declared.Wanted.the-variants.{Group}
@@ -23,7 +19,9 @@ use Rattle.disk_faults.specs.declared.MapRule.the-variants.{Outside, Twi
 use Rattle.disk_faults.specs.declared.Rule.{Rule}
 use Rattle.disk_faults.specs.declared.Rule.the-variants.{None, UserByte, NameByte, TopBit, ExByte, S1Byte, S2Byte, RcByte, Map, Twin}
 use Rattle.disk_faults.specs.declared.Fault.{Fault}
-use Rattle.disk_faults.specs.Faults.{isKept, fault, alone, otherSlot, entryRule, breaks, placeOf, mapFault, twinSlot, twinFault, firstBroken, Agree}
+use Rattle.disk_faults.specs.Faults.{breaksAt, placeOf, twinSlot, otherSlot, fault, alone, isKept, Agree}
+use Rattle.disk_faults.specs.CodeLadder.{entryRule, mapFault, twinFault, found}
+use Rattle.disk_faults.proofs.LadderLaws.{broken, broken-any, twin-seen, ladder}
 
 -- ---- a map: three rules of places at once
 -- z: the place is 0; x: its block is from D to T-1; y, w: it is against the other rules
@@ -47,44 +45,12 @@ module _ (z x y w : ℕ → Bool) where
   all-places i (suc k) = rw (all-places (suc i) k) (one-place (z i) (x i) (y i) (w i) _ _ _)
 
 module _ (g : Geometry) (v : List ℕ) (i : ℕ) where
-  -- a rule of the map is broken in some place
-  abbrev broken : MapRule → Bool
-  broken rule = ltb (placeOf g v i rule) (places g)
-
-  broken-any : (rule : MapRule) → broken rule ≡ any (places g) (breaks g v i rule)
-  unfolding placeOf
-  broken-any rule = let z : 0 + places g ≡ places g = omega arith in sym (rw z at (any-low (breaks g v i rule) 0 (places g)))
-
-  map-good : every (places g) (goodPlace g v i) ≡ (not (broken Outside) && not (broken Twice) && not (broken Lower))
-  unfolding goodPlace breaks
+  map-good : every (places g) (goodPlace g v i) ≡ (not (broken g v i Outside) && not (broken g v i Twice) && not (broken g v i Lower))
+  unfolding goodPlace breaksAt
   map-good =
       let b : ℕ → ℕ = λ p. blockIn g (slotAt g v i) p in
-      rw (broken-any Outside, broken-any Twice, broken-any Lower)
+      rw (broken-any g v i Outside, broken-any g v i Twice, broken-any g v i Lower)
       (all-places (λ p. eqb (b p) 0) (λ p. inside g (b p)) (λ p. inPlaces g (slotAt g v i) p (b p)) (λ p. namedBelow g v i (b p)) 0 (places g))
-
--- ---- the lowest slot of the same user, name and group
-below-any : (p : ℕ → Bool) (n i : ℕ) → i ≤ n → ltb (lowest n p) i ≡ any i p
-below-any p n i l = go (ltb (lowest n p) i) refl
-  where
-    go : (t : Bool) → ltb (lowest n p) i ≡ t → t ≡ any i p
-    go true e =
-        let h : lowest n p < i = ltb-true (lowest n p) i e in
-        sym (any-intro p 0 i (lowest n p) (omega arith) (omega arith) (low-hit p 0 n (lowest n p) refl (omega arith) .passes))
-    go false e =
-        let h : i ≤ lowest n p = ltb-false (lowest n p) i e in
-        sym (any-none p 0 i (λ m a b. before m (omega arith)))
-      where
-        before : (m : ℕ) → m < lowest n p → p m ≡ false
-        before m h = elim (decLt (lowest n p) n) [
-          | yes k ↦ low-hit p 0 n (lowest n p) refl (omega arith) .first m (omega arith) h
-          | no k ↦ low-miss p 0 n (omega arith) m (omega arith) (omega (arith, low-le p 0 n))
-        ]
-
-twin-seen : (g : Geometry) (v : List ℕ) (i : ℕ) → i < slots g → ltb (twinSlot g v i) i ≡ seenBelow g v i
-unfolding twinSlot seenBelow findSlot
-twin-seen g v i h =
-    let e = slotAt g v i in
-    below-any (slotFits g v (byte e USER) (nameOf e) (Group (groupOf g (extent e)))) (slots g) i (omega arith)
 
 -- ---- a ladder of rules: none is broken where the first is not, and none of the others
 kept-map : (g : Geometry) (v : List ℕ) (i : ℕ) (rule : MapRule) (f : Fault) → isKept (mapFault g v i rule f .rule) ≡ (not (broken g v i rule) && isKept (f .rule))
@@ -158,6 +124,7 @@ whole false r m true n s e f = rw e f
 whole false r m false n s e f = rw e e
 
 pub agree : Agree
-unfolding firstBroken goodSlot
+unfolding found goodSlot
 agree g v i h =
-    whole (isEmpty (slotAt g v i)) (entryRule (slotAt g v i)) (mapRules g v i h) _ _ _ (kept-entry (slotAt g v i)) (kept-maps g v i h)
+    rw (← ladder g v i h)
+    (whole (isEmpty (slotAt g v i)) (entryRule (slotAt g v i)) (mapRules g v i h) _ _ _ (kept-entry (slotAt g v i)) (kept-maps g v i h))

@@ -11,11 +11,11 @@ use Rattle.disk_volume.specs.Fields.{USER, NAME, T1, EX, S1, S2, RC, MAP}
 use Rattle.disk_volume.specs.Name.{strip, nameAt, same, goodName}
 use Rattle.disk_volume.specs.Entry.{Entry, blockIn, ofFile, ofGroup}
 use Rattle.disk_volume.specs.Directory.{slotAt, findSlot}
-use Rattle.disk_rules.specs.GoodSlot.{goodTopBits, inPlaces, namesBlock, namedBelow}
+use Rattle.disk_rules.specs.GoodSlot.{goodTopBits, inPlaces, namesBlock, namedBelow, seenBelow}
 use Rattle.disk_faults.specs.declared.MapRule.the-variants.{Outside, Twice, Lower}
 use Rattle.disk_faults.specs.declared.Rule.the-variants.{None, UserByte, NameByte, TopBit, ExByte, S1Byte, S2Byte, RcByte, Map, Twin}
 use Rattle.disk_faults.specs.declared.Fault.{Fault}
-use Rattle.disk_faults.specs.Faults.{fault, alone, entryRule, breaks, placeOf, slotOf, mapFault, twinSlot, twinFault, firstBroken}
+use Rattle.disk_faults.specs.Faults.{breaksAt, breaks, placeOf, slotOf, twinSlot, fault, alone, told, firstOf, firstBroken}
 
 -- SIGLA.TXT of user 0, extent 0, with blocks 1 and 2 in places 0 and 2; one byte of it altered
 abbrev sigla : Entry
@@ -62,7 +62,7 @@ pub record Examples : Type 0 where
   outside-before-twice : found 0 (set (set (with 17 1) 18 9) 19 9) ≡ fault (Map Outside) 2 9 0
 
 pub examples : Examples
-unfolding firstBroken entryRule goodTopBits breaks placeOf slotOf mapFault twinSlot twinFault inPlaces namesBlock namedBelow findSlot lowFrom anyFrom everyFrom part all start slotStart groupOf inside strip nameAt same goodName places blockIn ofFile ofGroup slotAt
+unfolding firstBroken firstOf breaks breaksAt told goodTopBits placeOf slotOf twinSlot inPlaces namesBlock namedBelow seenBelow findSlot lowFrom anyFrom everyFrom part all start slotStart groupOf inside strip nameAt same goodName places blockIn ofFile ofGroup slotAt
 examples = record {
   good = refl;
   empty = refl;

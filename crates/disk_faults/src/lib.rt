@@ -4,8 +4,9 @@ ghost use mathlib.Core.Bool.{not, cond};
 ghost use Prim.Native.Nat.{_≤_, _<_};
 ghost use Rattle.disk_geometry.specs.Geometry.{slots, places};
 ghost use Rattle.disk_volume.specs.CodeLent.{IsVolume, IsEntry};
-ghost use Rattle.disk_rules.specs.GoodSlot.{goodTopBits, inPlaces, namesBlock};
-ghost use Rattle.disk_faults.specs.Faults.{mapRuleNumber, ruleNumber, mapRuleHasOther, hasOther, alone, entryRule, breaks, placeOf, slotOf, otherSlot, mapFault, twinFault, firstBroken};
+ghost use Rattle.disk_rules.specs.GoodSlot.{inPlaces, namesBlock};
+ghost use Rattle.disk_faults.specs.Faults.{mapRuleNumber, ruleNumber, mapRuleHasOther, hasOther, alone, breaksAt, placeOf, slotOf, otherSlot, firstBroken};
+ghost use Rattle.disk_faults.specs.CodeLadder.{entryRule, mapFault, twinFault, found};
 ghost use Rattle.disk_faults.specs.CodeEntryAt.{EntryAt};
 use disk_geometry::Geometry;
 use disk_volume::Wanted;
@@ -101,23 +102,6 @@ pub fn has_other(rule: Rule) -> bool
     }
 }
 
-// Do bytes 9 and 10 alone carry a top bit, if any?
-fn good_top_bits(e: &[u8]) -> bool
-    requires { ⌜ IsEntry (now e) ⌝ }
-    ensures { λ r. ⌜ r ≡ goodTopBits (now (e .entry)) ⌝ }
-{
-    let mut k = 0;
-    while k < fields::NAME_BYTES {
-        if !((e[fields::NAME + k] < names::TOP_BIT)
-            | (k == fields::NAME_T1)
-            | (k == fields::NAME_T2)) {
-            return false;
-        }
-        k += 1;
-    }
-    true
-}
-
 // The rule where it is broken, `otherwise` where it is kept.
 fn unless_kept(kept: bool, rule: Rule, otherwise: Rule) -> Rule
     ensures { λ r. ⌜ r ≡ cond (not kept) rule otherwise ⌝ }
@@ -131,7 +115,7 @@ fn entry_rule(e: &[u8]) -> Rule
     ensures { λ r. ⌜ r ≡ entryRule (now (e .entry)) ⌝ }
 {
     let good_name = names::good_name(false, &e[fields::NAME..fields::NAME_END]);
-    let good_bits = good_top_bits(e);
+    let good_bits = disk_rules::good_top_bits(e);
     let rc = unless_kept(e[fields::RC] <= 128, Rule::RcByte, Rule::None);
     let s2 = unless_kept(e[fields::S2] <= 15, Rule::S2Byte, rc);
     let s1 = unless_kept(e[fields::S1] == 0, Rule::S1Byte, s2);
@@ -198,7 +182,7 @@ fn slot_of(g: Geometry, volume: &[u8], i: usize, b: usize) -> usize
 // Does place p of the entry e in slot i break the rule?
 fn is_broken(g: Geometry, volume: &[u8], i: usize, e: &[u8], rule: MapRule, p: usize) -> bool
     requires { ⌜ EntryAt g (now volume) i (now e) × (p < places g) ⌝ }
-    ensures { λ r. ⌜ r ≡ breaks g (now (volume .entry)) i rule p ⌝ }
+    ensures { λ r. ⌜ r ≡ breaksAt g (now (volume .entry)) i rule p ⌝ }
 {
     let b = entry::block_in(g, e, p);
     if b == 0 {
@@ -291,7 +275,7 @@ fn twin_fault(g: Geometry, volume: &[u8], i: usize, e: &[u8]) -> Fault
 // The first rule that the entry e in slot i breaks; the last rule is asked first.
 fn fault_of(g: Geometry, volume: &[u8], i: usize, e: &[u8]) -> Fault
     requires { ⌜ EntryAt g (now volume) i (now e) ⌝ }
-    ensures { λ r. ⌜ r ≡ firstBroken g (now (volume .entry)) i ⌝ }
+    ensures { λ r. ⌜ r ≡ found g (now (volume .entry)) i ⌝ }
 {
     if e[fields::USER] == fields::EMPTY {
         return alone(Rule::None);

@@ -1,5 +1,5 @@
 -- The definition's ladder from its last test up.
-use Rattle.disk_faults.specs.Faults.{entryRule}
+use Rattle.disk_faults.specs.CodeLadder.{entryRule}
 use Rattle.disk_volume.specs.Name.{nameAt}
 use Rattle.lists.specs.Bytes.{part}
 use borrow.Author.Needs.{needs}

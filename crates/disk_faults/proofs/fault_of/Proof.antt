@@ -1,5 +1,5 @@
 -- The definition's ladder from its last rule up.
-use Rattle.disk_faults.specs.Faults.{firstBroken}
+use Rattle.disk_faults.specs.CodeLadder.{found}
 use borrow.Author.Tests.{eq-eqb, ne-eqb}
 use borrow.Author.Needs.{needs}
 use Rattle.disk_faults.proofs.fault_of.Statement.{statement}
@@ -12,7 +12,7 @@ alone-requires : tie.Need-alone-requires
 alone-requires c κs = search needs
 
 returns : tie.Need-returns
-unfolding firstBroken
+unfolding found
 returns c = rw (c .alone .ensures, ← c .before .before .before .before .before .pre .1 .1 .1, eq-eqb _ 229 (c .before .if1 .taken))
 
 entry-rule-requires : tie.Need-entry-rule-requires
@@ -25,7 +25,7 @@ alone-requires-2 : tie.Need-alone-requires-2
 alone-requires-2 c κs = search needs
 
 returns-2 : tie.Need-returns-2
-unfolding firstBroken
+unfolding found
 returns-2 c =
     rw (c .alone2 .ensures, ← c .before .before .before .before .before .before .before .before .pre .1 .1 .1, ne-eqb _ 229 (c .before .before .before .before .if1 .left), ← c .before .before .before .entry-rule .ensures, ← c .before .before .rule-number .ensures, ne-eqb _ 0 (c .before .if2 .taken))
 
@@ -42,7 +42,7 @@ map-fault-requires-3 : tie.Need-map-fault-requires-3
 map-fault-requires-3 c κs = search needs
 
 returns-3 : tie.Need-returns-3
-unfolding firstBroken
+unfolding found
 returns-3 c =
     rw (c .map-fault3 .ensures, c .before .map-fault2 .ensures, c .before .before .map-fault .ensures, c .before .before .before .twin-fault .ensures, ← c .before .before .before .before .before .before .before .before .before .before .before .pre .1 .1 .1, ne-eqb _ 229 (c .before .before .before .before .before .before .before .if1 .left), ← c .before .before .before .before .before .before .entry-rule .ensures, ← c .before .before .before .before .before .rule-number .ensures, eq-eqb _ 0 (c .before .before .before .before .if2 .left))
 

@@ -1,6 +1,8 @@
--- The entry that is lent is the one in slot i.
+-- The entry that is lent is the one in slot i; what code finds from the last rule up is the first rule.
 use Rattle.disk_volume.proofs.EntryLaws.{lent-slot}
 use denote.Ref.{now}
+use Rattle.disk_faults.proofs.LadderLaws.{ladder}
+use mathlib.Core.Path.{_∙_}
 use borrow.Author.Needs.{needs}
 use Rattle.disk_faults.proofs.first_broken.Statement.{statement}
 use Rattle.disk_faults.proofs.first_broken.Tie as tie
@@ -26,7 +28,7 @@ fault-of-requires c κs =
     (search needs, (search needs, (search needs, lent-slot (a .g) (now (a .volume)) (a .i) (c .before .slot-start .result) (c .before .slot-start .ensures .0))))
 
 returns : tie.Need-returns
-returns c = search needs
+returns c = c .fault-of .ensures ∙ ladder _ _ _ (c .before .before .before .before .pre .1)
 
 pub first-broken-spec : {M : Type 1} → statement M
 first-broken-spec =

@@ -1,6 +1,6 @@
 -- A place with 0 breaks no rule; any other breaks the rule that its block is against.
 use Rattle.disk_faults.proofs.SlotLaws.{named-by-slot}
-use Rattle.disk_faults.specs.Faults.{breaks}
+use Rattle.disk_faults.specs.Faults.{breaksAt}
 use Rattle.disk_volume.specs.Directory.{slotAt}
 use Rattle.disk_volume.specs.Entry.{blockIn}
 use borrow.Author.Tests.{eq-eqb, ne-eqb}
@@ -18,7 +18,7 @@ block-in-requires : tie.Need-block-in-requires
 block-in-requires c κs = search needs
 
 returns : tie.Need-returns
-unfolding breaks
+unfolding breaksAt
 returns c = rw (← block (c .before), eq-eqb _ 0 (c .if1 .taken))
 
 enum-told : tie.Need-enum-told
@@ -40,16 +40,16 @@ slot-of-requires : tie.Need-slot-of-requires
 slot-of-requires c κs = search needs
 
 returns-2 : tie.Need-returns-2
-unfolding breaks
+unfolding breaksAt
 returns-2 c = rw (c .before .enum-told .given .1, ← block (c .before .before .before .before), ne-eqb _ 0 (c .before .before .before .if1 .left), ← c .is-inside .ensures)
 
 returns-3 : tie.Need-returns-3
-unfolding breaks
+unfolding breaksAt
 returns-3 c =
     rw (c .before .enum-told2 .given .1, ← block (c .before .before .before .before), ne-eqb _ 0 (c .before .before .before .if1 .left), ← c .before .before .before .before .before .before .before .pre .0 .1 .1 .1) (c .in-places .ensures)
 
 returns-4 : tie.Need-returns-4
-unfolding breaks
+unfolding breaksAt
 returns-4 c = rw (c .before .enum-told3 .given .1, ← block (c .before .before .before .before), ne-eqb _ 0 (c .before .before .before .if1 .left), named-by-slot, ← c .slot-of .ensures)
 
 pub is-broken-spec : {M : Type 1} → statement M

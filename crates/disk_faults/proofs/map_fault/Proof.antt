@@ -1,5 +1,5 @@
 -- The place that was found decides; block and other slot are those of that place.
-use Rattle.disk_faults.specs.Faults.{mapFault}
+use Rattle.disk_faults.specs.CodeLadder.{mapFault}
 use borrow.Author.Tests.{lt-ltb, le-ltb}
 use borrow.Author.Needs.{needs}
 use Rattle.disk_faults.proofs.map_fault.Statement.{statement}

@@ -1,5 +1,5 @@
 -- No place passed so far breaks the rule, so what is still to be searched gives the whole.
-use Rattle.disk_faults.specs.Faults.{breaks, placeOf}
+use Rattle.disk_faults.specs.Faults.{breaksAt, placeOf}
 use Rattle.disk_geometry.specs.Geometry.{places}
 use Rattle.lists.proofs.BoundedLaws.{Searched, searched-start, searched-next, searched-hit, searched-none, from-zero}
 use Rattle.lists.specs.Bounded.{lowFrom}
@@ -11,15 +11,15 @@ use Rattle.disk_faults.proofs.place_of.Statement.{statement}
 use Rattle.disk_faults.proofs.place_of.Tie as tie
 
 abbrev Inv-loop : tie.InvT-loop
-Inv-loop g volume i e rule n p₀ p = (p ≤ n) × Searched (breaks g volume i rule) 0 n p
+Inv-loop g volume i e rule n p₀ p = (p ≤ n) × Searched (breaksAt g volume i rule) 0 n p
 
 abbrev μ-loop : tie.MeasureT-loop
 μ-loop g volume i e rule n p₀ p = n - p
 
 -- the search of all places
-whole : (c : tie.After-places Inv-loop μ-loop) → (let a = c .before .before .before .args in placeOf (a .g) (now (a .volume)) (a .i) (a .rule) ≡ lowFrom (breaks (a .g) (now (a .volume)) (a .i) (a .rule)) 0 (c .places .result - 0))
+whole : (c : tie.After-places Inv-loop μ-loop) → (let a = c .before .before .before .args in placeOf (a .g) (now (a .volume)) (a .i) (a .rule) ≡ lowFrom (breaksAt (a .g) (now (a .volume)) (a .i) (a .rule)) 0 (c .places .result - 0))
 unfolding placeOf
-whole c = let a = c .before .before .before .args in rw (c .places .ensures .0) (sym (from-zero (breaks (a .g) (now (a .volume)) (a .i) (a .rule)) (places (a .g))))
+whole c = let a = c .before .before .before .args in rw (c .places .ensures .0) (sym (from-zero (breaksAt (a .g) (now (a .volume)) (a .i) (a .rule)) (places (a .g))))
 
 places-requires : tie.Need-places-requires Inv-loop μ-loop
 places-requires c κs = search needs

@@ -1,5 +1,6 @@
 -- What is searched for is the entry's own user, name and group.
-use Rattle.disk_faults.specs.Faults.{twinSlot, twinFault}
+use Rattle.disk_faults.specs.Faults.{twinSlot}
+use Rattle.disk_faults.specs.CodeLadder.{twinFault}
 use Rattle.disk_volume.specs.Name.{nameAt}
 use Rattle.lists.specs.Bytes.{part}
 use borrow.Author.Tests.{lt-ltb, le-ltb}

@@ -18,7 +18,7 @@ use Rattle.churawel.proofs.fault.put_fault.Tie as tie
 other : (c : tie.After-first-broken) → c .first-broken .result .other < slots (c .before .before .before .args .g)
 other c =
     let a = c .before .before .before .args in
-    rw (c .first-broken .ensures) (omega (arith, other-below (a .g) (now (a .volume)) (a .i), c .before .before .before .pre .1 .1))
+    rw (c .first-broken .ensures) (omega (arith, other-below (a .g) (now (a .volume)) (a .i) (c .before .before .before .pre .1 .1), c .before .before .before .pre .1 .1))
 
 first-broken-requires : tie.Need-first-broken-requires
 first-broken-requires c κs = search needs

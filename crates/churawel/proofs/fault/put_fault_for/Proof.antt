@@ -13,7 +13,7 @@ put-fault-requires : tie.Need-put-fault-requires
 put-fault-requires c κs =
     let a = c .before .before .before .before .before .before .args in
     let known = bad-slot (a .g) (now (a .volume)) _ (sym (c .before .before .before .before .before .before .pre .1) ∙ c .before .before .answer .given .1) in
-    (known .0, (search needs, known .1))
+    (known .volume, (search needs, known .inside))
 
 enum-told : tie.Need-enum-told
 enum-told c = search needs
