@@ -43,7 +43,7 @@ static int says(struct geometry g, uint32_t answer, const uint8_t *bytes)
 }
 
 // One case: the slot is bad, and this is why. User and name are those that stand in the volume.
-static void is_bad(const char *what, size_t slot, struct why why)
+static void is_bad(const char *what, struct geometry g, size_t slot, struct why why)
 {
     uint8_t bytes[CHURAWEL_FAULT_BYTES] = {why.rule, why.place, (uint8_t)why.block, (uint8_t)(why.block >> 8), (uint8_t)slot, (uint8_t)(slot >> 8)};
     memcpy(bytes + 8, now.volume + slot * ENTRY, 12);
@@ -52,7 +52,7 @@ static void is_bad(const char *what, size_t slot, struct why why)
         bytes[7] = (uint8_t)(why.other >> 8);
         memcpy(bytes + 20, now.volume + (size_t)why.other * ENTRY, 12);
     }
-    verdict(what, says(V, 36 | (uint32_t)slot << 16, bytes));
+    verdict(what, says(g, 36 | (uint32_t)slot << 16, bytes));
 }
 
 // One case: byte k of slot i has this value, and all else is as in two_entries.
@@ -60,7 +60,7 @@ static void broken(const char *what, size_t slot, size_t k, uint8_t byte, struct
 {
     two_entries();
     now.volume[slot * ENTRY + k] = byte;
-    is_bad(what, slot, why);
+    is_bad(what, V, slot, why);
 }
 
 static void each_rule(void)
@@ -86,16 +86,39 @@ static void several_faults(void)
     now.volume[15] = 129;
     now.volume[12] = 32;
     now.volume[ENTRY] = 16;
-    is_bad("ex and rc of slot 0, user of slot 1: rule 4 of slot 0", 0, (struct why){4, 0, 0, NO_OTHER});
+    is_bad("ex and rc of slot 0, user of slot 1: rule 4 of slot 0", V, 0, (struct why){4, 0, 0, NO_OTHER});
     two_entries();
     memcpy(now.volume + 2 * ENTRY, now.volume + ENTRY, ENTRY);
     memcpy(now.volume + ENTRY, now.volume + 3 * ENTRY, ENTRY);
     memcpy(now.volume + 9 * ENTRY, now.volume + 2 * ENTRY, ENTRY);
-    is_bad("slot 9 has block 3 of slot 2, and its group: rule 10, slot 2", 9, (struct why){10, 0, 3, 2});
+    is_bad("slot 9 has block 3 of slot 2, and its group: rule 10, slot 2", V, 9, (struct why){10, 0, 3, 2});
     now.volume[9 * ENTRY + 16] = 4;
-    is_bad("slot 9 has the group of slot 2 alone: rule 11, slot 2", 9, (struct why){11, 0, 0, 2});
+    is_bad("slot 9 has the group of slot 2 alone: rule 11, slot 2", V, 9, (struct why){11, 0, 0, 2});
     now.volume[9 * ENTRY + 9] |= 0x80;
-    is_bad("the same with a read-only mark, which is shown", 9, (struct why){11, 0, 0, 2});
+    is_bad("the same with a read-only mark, which is shown", V, 9, (struct why){11, 0, 0, 2});
+}
+
+// Another geometry: B 2,048, where extents 0 and 1 are one group, and D 2, where block 1 is the directory's.
+static void another_geometry(void)
+{
+    const struct geometry g = {2048, 8, 2};
+    static const struct entry entries[] = {
+        {.slot = 40, .user = 7, .name = DRAFT, .rc = 128, .map = {[3] = 7}},
+        {.slot = 127, .user = 7, .name = DRAFT, .ex = 2, .rc = 8, .map = {2}},
+    };
+    fresh(g);
+    as_it_stands();
+    for (size_t i = 0; i < COUNT(entries); i++)
+        want_entry(entries[i]);
+    now = want;
+    uint8_t *last = now.volume + 127 * ENTRY;
+    last[17] = 1;
+    is_bad("block 1 below D, in slot 127, the last: rule 8", g, 127, (struct why){8, 1, 1, NO_OTHER});
+    last[17] = 7;
+    is_bad("block 7 of slot 40 in place 1: rule 10", g, 127, (struct why){10, 1, 7, 40});
+    last[17] = 0;
+    last[12] = 1;
+    is_bad("extent 1 is of the group of extent 0: rule 11", g, 127, (struct why){11, 0, 0, 40});
 }
 
 static void without_fault(void)
@@ -119,5 +142,6 @@ void why_bad(void)
 {
     each_rule();
     several_faults();
+    another_geometry();
     without_fault();
 }

@@ -65,6 +65,46 @@ static void each_file(void)
     shows("from slot 2, slot 31 being empty: 255", 2, 255, NULL);
 }
 
+// Blocks of 2,048 and 4,096 bytes: an entry covers two extents, or four. DRAFT ends in extent 3 of its first group or of its
+// second; FINAL has its blocks in the last places.
+static void larger_blocks(void)
+{
+    const struct told draft = {0, DRAFT, 0, 0, {149, 1}, {3}};
+    const struct told final = {1, FINAL, 0, 0, {128, 0}, {2}};
+    static const struct entry of_2048[] = {
+        {.slot = 2, .name = DRAFT, .ex = 1, .rc = 128, .map = {1, 2}},
+        {.slot = 5, .name = DRAFT, .ex = 3, .rc = 21, .map = {0, 3}},
+        {.slot = 63, .user = 1, .name = FINAL, .rc = 128, .map = {[14] = 4, [15] = 5}},
+    };
+    logged_in("log-in of blocks of 2,048: 14 free", (struct geometry){2048, 20, 1}, 14, of_2048, COUNT(of_2048));
+    shows("DRAFT of two groups: 405 records, 3 blocks", 0, 2u << 16, &draft);
+    shows("FINAL in slot 63, the last", 3, 63u << 16, &final);
+    shows("from slot 64: 255", 64, 255, NULL);
+    static const struct entry of_4096[] = {
+        {.slot = 4, .name = DRAFT, .ex = 3, .rc = 21, .map = {2, 3, 0, 4}},
+        {.slot = 127, .user = 1, .name = FINAL, .rc = 128, .map = {[14] = 5, [15] = 6}},
+    };
+    logged_in("log-in of blocks of 4,096: 5 free", (struct geometry){4096, 11, 1}, 5, of_4096, COUNT(of_4096));
+    shows("DRAFT of one group: 405 records, 3 blocks", 0, 4u << 16, &draft);
+    shows("FINAL in slot 127, the last", 5, 127u << 16, &final);
+}
+
+// A volume that was altered after log-in: the calls show what stands there.
+static void altered(void)
+{
+    struct told strange = {200, "A/B     TXT", 1, 1, {0x00, 0x70, 0x10}, {16}};
+    three_files();
+    uint8_t *entry = now.volume + 7 * ENTRY;
+    memset(entry, 255, ENTRY);
+    entry[0] = 200;
+    memcpy(entry + 1, "A/B     \xD4\xD8T", 11);
+    shows("a wild entry: its records and blocks by its bytes", 2, 7u << 16, &strange);
+    entry[1] |= 0x80;
+    entry[9] = 'T';
+    strange.read_only = 0;
+    shows("a top bit in the name is taken off, and one mark is gone", 7, 7u << 16, &strange);
+}
+
 static void refused(void)
 {
     three_files();
@@ -84,5 +124,7 @@ static void refused(void)
 void each_line(void)
 {
     each_file();
+    larger_blocks();
+    altered();
     refused();
 }

@@ -1,4 +1,5 @@
-// The seam to an emulator: log-in and every other call, exported for C, over lent bytes alone.
+// The seam to an emulator: log-in, every other call, why a volume is refused and which files it has, exported for C, over lent
+// bytes alone.
 ghost use mathlib.Core.Path.{_≡_};
 ghost use mathlib.Core.Bool.{_||_};
 ghost use mathlib.Core.List.{[]};

@@ -1,6 +1,6 @@
 -- Each rule evaluated: B 1,024, T 8, D 1, so 32 slots and blocks 1 to 7.
 use mathlib.Core.Path.{_≡_, refl}
-use mathlib.Core.List.{List, [], _∷_, _++_}
+use mathlib.Core.List.{List, [], _∷_, _++_, map}
 use Prim.Native.Nat.{ℕ, _-_}
 use lib.ListN.{replicate, length, set}
 use Rattle.lists.specs.Bounded.{lowFrom, anyFrom, everyFrom}
@@ -15,7 +15,7 @@ use Rattle.disk_rules.specs.GoodSlot.{goodTopBits, inPlaces, namesBlock, namedB
 use Rattle.disk_faults.specs.declared.MapRule.the-variants.{Outside, Twice, Lower}
 use Rattle.disk_faults.specs.declared.Rule.the-variants.{None, UserByte, NameByte, TopBit, ExByte, S1Byte, S2Byte, RcByte, Map, Twin}
 use Rattle.disk_faults.specs.declared.Fault.{Fault}
-use Rattle.disk_faults.specs.Faults.{breaksAt, breaks, placeOf, slotOf, twinSlot, fault, alone, told, firstOf, firstBroken}
+use Rattle.disk_faults.specs.Faults.{rules, ruleNumber, breaksAt, breaks, placeOf, slotOf, twinSlot, fault, alone, told, firstOf, firstBroken}
 
 -- SIGLA.TXT of user 0, extent 0, with blocks 1 and 2 in places 0 and 2; one byte of it altered
 abbrev sigla : Entry
@@ -31,12 +31,19 @@ abbrev next : ℕ → ℕ → Entry
 next b c = set (set (with EX 1) MAP b) 18 c
 
 -- what slot i breaks where these entries stand in the first slots, and all else is E5H
+abbrev foundIn : Geometry → ℕ → List ℕ → Fault
+foundIn g i entries = firstBroken g (entries ++ replicate (8192 - length entries) 229) i
+
 abbrev found : ℕ → List ℕ → Fault
-found i entries = firstBroken (geometryOf 1024 8 1) (entries ++ replicate (8192 - length entries) 229) i
+found i entries = foundIn (geometryOf 1024 8 1) i entries
 
 pub record Examples : Type 0 where
+  -- the rules have the numbers of their places in the list
+  in-order : map ruleNumber rules ≡ 1 ∷ 2 ∷ 3 ∷ 4 ∷ 5 ∷ 6 ∷ 7 ∷ 8 ∷ 9 ∷ 10 ∷ 11 ∷ []
   good : found 0 sigla ≡ alone None
   empty : found 1 sigla ≡ alone None
+  -- each limit is still good: user 15, ex 31, s2 15, rc 128, block T-1
+  limits : found 0 (set (set (set (set (with USER 15) EX 31) S2 15) RC 128) 18 7) ≡ alone None
   user : found 0 (with USER 16) ≡ alone UserByte
   -- a blank in front, and 3FH
   first-blank : found 0 (with NAME 32) ≡ alone NameByte
@@ -50,21 +57,33 @@ pub record Examples : Type 0 where
   rc : found 0 (with RC 129) ≡ alone RcByte
   -- block T in place 2
   outside : found 0 (with 18 8) ≡ fault (Map Outside) 2 8 0
+  -- block 1 in place 0, where D is 2
+  directory : foundIn (geometryOf 1024 8 2) 0 sigla ≡ fault (Map Outside) 0 1 0
   -- block 1 in places 0 and 2
   twice : found 0 (with 18 1) ≡ fault (Map Twice) 2 1 0
   -- block 2 in slot 0 and in place 2 of slot 1; in an empty slot it doesn't count
   lower : found 1 (sigla ++ next 7 2) ≡ fault (Map Lower) 2 2 0
   lower-empty : found 1 (with USER 229 ++ next 7 2) ≡ alone None
+  -- the lowest place, and the lowest slot that has the block
+  lowest : found 2 (sigla ++ (next 7 2 ++ with USER 3)) ≡ fault (Map Lower) 0 1 0
   -- the same user, name and group as slot 0
   twin : found 2 (sigla ++ (next 3 4 ++ set (set sigla MAP 5) 18 6)) ≡ fault Twin 0 0 0
+  -- a read-only mark doesn't make it another name, and another user's file is another
+  twin-marked : found 1 (sigla ++ set (set (with T1 212) MAP 5) 18 6) ≡ fault Twin 0 0 0
+  other-user : found 1 (sigla ++ set (set (with USER 3) MAP 5) 18 6) ≡ alone None
   -- several at once: the first in the order of the rules
   ex-before-rc : found 0 (set (with RC 129) EX 32) ≡ alone ExByte
   outside-before-twice : found 0 (set (set (with 17 1) 18 9) 19 9) ≡ fault (Map Outside) 2 9 0
+  -- block 2 of slot 0 in places 0 and 2: twice in the entry, though place 0 alone is against the next rule
+  twice-before-lower : found 1 (sigla ++ next 2 2) ≡ fault (Map Twice) 2 2 0
+  lower-before-twin : found 1 (sigla ++ sigla) ≡ fault (Map Lower) 0 1 0
 
 pub examples : Examples
 unfolding firstBroken firstOf breaks breaksAt told goodTopBits placeOf slotOf twinSlot inPlaces namesBlock namedBelow seenBelow findSlot lowFrom anyFrom everyFrom part all start slotStart groupOf inside strip nameAt same goodName places blockIn ofFile ofGroup slotAt
 examples = record {
+  in-order = refl;
   good = refl;
+  limits = refl;
   empty = refl;
   user = refl;
   first-blank = refl;
@@ -76,10 +95,16 @@ examples = record {
   s2 = refl;
   rc = refl;
   outside = refl;
+  directory = refl;
   twice = refl;
   lower = refl;
   lower-empty = refl;
+  lowest = refl;
   twin = refl;
+  twin-marked = refl;
+  other-user = refl;
   ex-before-rc = refl;
   outside-before-twice = refl;
+  twice-before-lower = refl;
+  lower-before-twin = refl;
 }
