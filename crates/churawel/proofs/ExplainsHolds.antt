@@ -18,7 +18,7 @@ use Rattle.call_answers.specs.declared.Answer.{Answer}
 use Rattle.call_answers.specs.declared.Answer.the-variants.{Done, Ready, BadSlot, Refused, Several}
 use Rattle.filecalls.specs.LogIn.{logIn}
 use Rattle.churawel.specs.Fault.{faultLength, faultBytes, faultFor, faultAtSeam}
-use Rattle.churawel.specs.Explains.{NamesSlot, NamesRule, Explained36, Explains}
+use Rattle.churawel.specs.Explains.{NamesSlot, NamesRule, TellsTruly, Explains}
 use Rattle.churawel.proofs.FaultLaws.{Bad, bad-slot}
 
 -- in 32 bytes the call leaves the fault of log-in's answer

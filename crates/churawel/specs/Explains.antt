@@ -27,10 +27,10 @@ pub record NamesRule (g : Geometry) (v : List ℕ) (s : ℕ) (f : List ℕ) : Ty
   pub earlier : (other : Rule) → ruleNumber other < ruleNumber rule → breaks g v s other ≡ false
 
 -- f: what the call leaves in the 32 bytes that it is lent
-pub record Explained36 (g : Geometry) (v : List ℕ) (s : ℕ) (f : List ℕ) : Type 0 where
+pub record TellsTruly (g : Geometry) (v : List ℕ) (s : ℕ) (f : List ℕ) : Type 0 where
   pub slot : logIn g v .answer ≡ BadSlot s → NamesSlot f s
   pub rule : logIn g v .answer ≡ BadSlot s → NamesRule g v s f
   pub only : NamesSlot f s → logIn g v .answer ≡ BadSlot s
 
 abbrev pub Explains : Type 0
-Explains = (g : Geometry) (v lent : List ℕ) → length lent ≡ faultLength → (s : ℕ) → Explained36 g v s (faultAtSeam g v lent .fault)
+Explains = (g : Geometry) (v lent : List ℕ) → length lent ≡ faultLength → (s : ℕ) → TellsTruly g v s (faultAtSeam g v lent .fault)
