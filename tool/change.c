@@ -5,6 +5,12 @@
 #include <stdlib.h>
 #include <string.h>
 
+// Is it the new name that this number refuses, and not the file?
+static bool is_of_new_name(uint32_t number, const struct name *old)
+{
+    return number == CHURAWEL_REFUSED_UNTYPEABLE || number == CHURAWEL_REFUSED_EXISTS || (number == CHURAWEL_REFUSED_NAME && !is_pattern(old));
+}
+
 void rename_file(const struct options *options, char **operands, int count)
 {
     (void)count;
@@ -15,7 +21,8 @@ void rename_file(const struct options *options, char **operands, int count)
     struct disk *disk = open_disk(options, operands[0], true);
     aim_at(disk, old);
     set_new_name(disk, &new);
-    must(disk, CHURAWEL_FN_RENAME, operands[1]);
+    uint32_t answer = call(disk, CHURAWEL_FN_RENAME);
+    accept_answer(disk, CHURAWEL_FN_RENAME, answer, is_of_new_name(CHURAWEL_NUMBER(answer), &old) ? operands[2] : operands[1]);
     store_disk(disk);
     printf("%s: renamed to %s\n", shown_file(old.user, disk->aimed.bytes, shown), shown_file(old.user, new.bytes, shown_new));
 }

@@ -104,7 +104,7 @@ def changes(desk, geometry):
     desk.same("rename: the old one is gone", entries_of(desk.read("A.IMG"), geometry, 0, "OWN.TXT"), [])
     desk.done("rename of another user's file", "rename", "A.IMG", "5:b.txt", "5:c.txt", out=b"5:B.TXT: renamed to 5:C.TXT\n")
     desk.refused("rename to itself", "rename", "A.IMG", "new.txt", "new.txt", said="(43)")
-    desk.refused("rename to a name that is there", "rename", "A.IMG", "new.txt", "stdin", said="(43)")
+    desk.refused("rename to a name that is there", "rename", "A.IMG", "new.txt", "stdin", said="stdin: a file of this name is there already (43)\n")
     desk.refused("rename of what is not there", "rename", "A.IMG", "own.txt", "x", said="own.txt: there is no such file (255)\n")
     desk.refused("erase of what is not there", "erase", "A.IMG", "own.txt", said="(255)")
     desk.refused("attributes of what is not there", "attributes", "A.IMG", "own.txt", "+r", said="(255)")
@@ -191,7 +191,7 @@ def names(desk):
         desk.refused(f"put of {name}", "put", "N.IMG", "none", name, said="a new name can't have small letters")
     said = "this can't be a file's name (39)"
     desk.refused("put of a name with ?", "put", "--replace", "N.IMG", "none", "sigla.???", said=said)
-    desk.refused("rename to a name with ?", "rename", "N.IMG", "x", "sigla.???", said="(39)")
+    desk.refused("rename to a name with ?", "rename", "N.IMG", "x", "sigla.???", said="sigla.???: this can't be a file's name (39)\n")
     desk.refused("get of a name with ?", "get", "N.IMG", "sigla.???", "x", said="(39)")
     desk.done("rename of A=B", "rename", "N.IMG", "a=b", "ab")
     desk.done("erase of the one as it is typed", "erase", "N.IMG", "sigla.txt", out=b"sigla.txt: erased\nfree blocks: 32\n")
