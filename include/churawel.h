@@ -18,11 +18,16 @@
 extern "C" {
 #endif
 
-/* The lengths that calls want: of a drive, of a control block, of the transfer buffer (k times as long for k records). */
+/*
+ * The lengths that calls want: of a drive, of a control block, of the transfer buffer (k times as long for k records, at most
+ * so many), of a fault, and of a file's line.
+ */
 #define CHURAWEL_DRIVE_BYTES 64
 #define CHURAWEL_FCB_BYTES 36
 #define CHURAWEL_BUFFER_BYTES 128
 #define CHURAWEL_RECORDS_MOST 16
+#define CHURAWEL_FAULT_BYTES 32
+#define CHURAWEL_FILE_BYTES 24
 
 /*
  * The two halves of an answer: its number, and a log-in's count of free blocks or its lowest bad slot, or of several records
@@ -108,6 +113,39 @@ uint32_t churawel_call(
     uint8_t *volume, size_t volume_bytes,
     uint8_t *fcb, size_t fcb_bytes,
     uint8_t *buffer, size_t buffer_bytes);
+
+/*
+ * Log-in's answer, with no drive left, and why: 0 with the number of free blocks, 32, 33, or 36 with the lowest bad slot.
+ * After 36 the fault is:
+ *    0         the first of the rules below that the slot breaks
+ *    1         the place of its map; for rules 8, 9 and 10
+ *    2 to 3    the block; for rules 8, 9 and 10
+ *    4 to 5    the bad slot
+ *    6 to 7    the other slot, always a lower one; for rules 10 and 11
+ *    8 to 19   bytes 0 to 11 of the bad slot's entry as they stand: user, name and type, top bits too
+ *   20 to 31   the same of the other slot; for rules 10 and 11
+ * Numbers have their low byte first. What a rule has not is 0, and after any other answer than 36 all 32 bytes are.
+ * A fault of another length: 35, before all others, and nothing changes.
+ * The rules: 1 user above 15; 2 a byte of the name; 3 a top bit on another byte than 9 and 10; 4 ex above 31; 5 s1 not 0;
+ * 6 s2 above 15; 7 rc above 128; 8 a block outside D to T-1; 9 a block that is in a lower place too; 10 a block that is in
+ * a lower slot too; 11 a lower slot of the same user, name and group.
+ */
+uint32_t churawel_fault(
+    uint32_t block_bytes, uint32_t blocks, uint32_t directory_blocks,
+    const uint8_t *volume, size_t volume_bytes,
+    uint8_t *fault, size_t fault_bytes);
+
+/*
+ * The next file at or after slot `from`, in the lister's order. Found: 0, with the file's lowest slot as the value, and the
+ * line is: byte 0 the user; 1 to 11 name and type without top bits; 12 is 1 if an entry is read-only, 13 if one is a system
+ * file; 14 to 17 its records and 18 to 19 its blocks, low byte first; four zeros. No such file: 255. A drive that counts as
+ * closed: 32; another length of volume: 33; a line that is not 24 bytes: 35. A refusal changes nothing.
+ */
+uint32_t churawel_file(
+    const uint8_t *drive, size_t drive_bytes,
+    const uint8_t *volume, size_t volume_bytes,
+    uint32_t from,
+    uint8_t *file, size_t file_bytes);
 
 /* Did the call of this function succeed? A number alone does not say so: 2 is a directory code of 15 and a refusal of 34. */
 static inline int churawel_succeeded(uint8_t function, uint32_t answer)

@@ -131,6 +131,8 @@ void several_records(void);
 void lent_and_log_in(void);
 void malformed_drives(void);
 void typing(void);
+void why_bad(void);
+void each_line(void);
 void stack_used(void);
 
 #endif

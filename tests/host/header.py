@@ -18,6 +18,8 @@ LENGTHS = {
     "FCB_BYTES": r"\bconst FCB_BYTES: usize = (\d+);",
     "BUFFER_BYTES": r"\bconst RECORD_BYTES: usize = (\d+);",
     "RECORDS_MOST": r"Refusal::BadCount, .* <= (\d+)\)",
+    "FAULT_BYTES": r"\bconst FAULT_BYTES: usize = (\d+);",
+    "FILE_BYTES": r"\bconst FILE_BYTES: usize = (\d+);",
 }
 
 # Names that the header has and the source has not: a name for each number of a call, and a name for a refusal.
@@ -185,20 +187,24 @@ def difference(has, wants):
     return ""
 
 
-LOG_IN, CALL = signature("churawel_log_in"), signature("churawel_call")
+LOG_IN, CALL, FAULT, FILE = (signature(f"churawel_{name}") for name in ("log_in", "call", "fault", "file"))
 
 # What is wrong, the text to alter (there once), what it becomes, and the case that must find it.
 WRONG = [
     ("a byte that is 32 bits wide", r"uint8_t parameter", "uint32_t parameter", CALL),
     ("a length of 32 bits", r"size_t fcb_bytes", "uint32_t fcb_bytes", CALL),
     ("a result of 16 bits", r"uint32_t churawel_log_in", "uint16_t churawel_log_in", LOG_IN),
-    ("a lent slice that is not const", r"const uint8_t \*volume", "uint8_t *volume", LOG_IN),
+    ("a lent slice that is not const", r"(?s)(\w+_log_in\(.*?)const (uint8_t \*volume)", r"\1\2", LOG_IN),
     ("a changed slice that is const", r"uint8_t \*buffer", "const uint8_t *buffer", CALL),
-    ("two numbers in the other order", r"(uint32_t block_bytes), (uint32_t blocks)", r"\2, \1", LOG_IN),
+    ("two numbers in the other order", r"(?s)(\w+_log_in\(\s*)(uint32_t \w+), (uint32_t \w+)", r"\1\3, \2", LOG_IN),
     ("two slices in the other order", r"(uint8_t \*fcb.*),(\s*)(uint8_t \*buffer, \w+ \w+)", r"\3,\2\1", CALL),
     ("a length before its pointer", r"(uint8_t \*buffer), (size_t buffer_bytes)", r"\2, \1", CALL),
     ("a parameter that is missing", r"uint8_t function, (?=uint8_t)", "", CALL),
     ("a parameter too many", r"uint8_t function, (?=uint8_t)", "uint8_t function, uint8_t drive_code, ", CALL),
+    ("a fault that is not changed", r"(uint8_t \*fault)", r"const \1", FAULT),
+    ("a fault without its length", r", size_t fault_bytes", "", FAULT),
+    ("a drive that is not const", r"const (uint8_t \*drive)", r"\1", FILE),
+    ("a slot of 16 bits", r"uint32_t from", "uint16_t from", FILE),
     ("a function that is missing", r"(?s)uint32_t churawel_call\(.*?\);", "", FUNCTIONS),
     ("a function too many", r"(uint32_t churawel_call\()", r"void churawel_close(uint8_t *drive);\n\1", FUNCTIONS),
     ("a function of another name", r"churawel_log_in\(", "churawel_login(", FUNCTIONS),
@@ -207,6 +213,7 @@ WRONG = [
     ("a drive of 63 bytes", r"DRIVE_BYTES 64", "DRIVE_BYTES 63", LENGTHS_AGREE),
     ("a control block of 33 bytes", r"FCB_BYTES 36", "FCB_BYTES 33", LENGTHS_AGREE),
     ("a buffer of 127 bytes", r"BUFFER_BYTES 128", "BUFFER_BYTES 127", LENGTHS_AGREE),
+    ("a fault of 31 bytes", r"FAULT_BYTES 32", "FAULT_BYTES 31", LENGTHS_AGREE),
     ("seventeen records", r"RECORDS_MOST 16", "RECORDS_MOST 17", LENGTHS_AGREE),
     ("a length that the source has not", r"(#define \w+_FCB_BYTES)", r"#define CHURAWEL_SLOT_BYTES 32\n\1", LENGTHS_AGREE),
     ("another number of a function", r"SIZE = 35", "SIZE = 38", CALLS_AGREE),

@@ -14,6 +14,8 @@ int main(void)
     lent_and_log_in();
     malformed_drives();
     typing();
+    why_bad();
+    each_line();
     stack_used();
     return summary() == 0 ? 0 : 1;
 }

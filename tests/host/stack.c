@@ -25,6 +25,16 @@ static void call_there(void)
     churawel_call(asked, parameter, drive, sizeof drive, volume, sizeof volume, fcb, sizeof fcb, buffer, bytes);
 }
 
+static void fault_there(void)
+{
+    churawel_fault(B, T, D, volume, sizeof volume, buffer, CHURAWEL_FAULT_BYTES);
+}
+
+static void file_there(void)
+{
+    churawel_file(drive, sizeof drive, volume, sizeof volume, SLOTS - 1, buffer, CHURAWEL_FILE_BYTES);
+}
+
 // How many bytes of a painted stack the work uses.
 static size_t used_by(void (*work)(void))
 {
@@ -87,5 +97,11 @@ void stack_used(void)
     }
     snprintf(what, sizeof what, "and so does each function: %zu bytes at most", most);
     verdict(what, most < PROMISED);
+    volume[(SLOTS - 1) * ENTRY + 15] = 129;
+    size_t told = used_by(fault_there);
+    start();
+    size_t line = used_by(file_there);
+    snprintf(what, sizeof what, "and so do a fault, %zu bytes, and a file's line, %zu", told, line);
+    verdict(what, told < PROMISED && line < PROMISED);
     verdict("and what is measured is a call's own stack", least > 0 && least < most);
 }

@@ -1,21 +1,14 @@
-// Our side of the peer test: one call, or one file read or written by calls, over an image file.
+// Our side of the peer test, beside the tool: what the tool does not do, or does in another way. One file read or written by
+// calls, over an image file.
 //
-//     layer IMAGE B T D free                    the free blocks, by log-in
-//     layer IMAGE B T D list USER               a name a line, as cpmls prints them
-//     layer IMAGE B T D size USER NAME          records
 //     layer IMAGE B T D get USER NAME FILE      by sequential reads
 //     layer IMAGE B T D gather USER NAME FILE   by random reads, the last record first
-//     layer IMAGE B T D put USER NAME FILE      make, then sequential writes
 //     layer IMAGE B T D scatter USER NAME FILE  make, then random writes, the last record first
-//     layer IMAGE B T D replace USER NAME FILE  delete, then as put, with no log-in between
 //     layer IMAGE B T D append USER NAME FILE   sequential writes from the file's size on
 //     layer IMAGE B T D patch USER NAME FILE N  random writes from record N on
-//     layer IMAGE B T D delete USER NAME        the name may have ? in it
-//     layer IMAGE B T D rename USER NAME NEW
-//     layer IMAGE B T D mark USER NAME LETTERS  attributes: r read-only, s system, - none
 //
-// A name is NAME.TYP. A refusal prints `refused NUMBER`, with the slot behind it for 36, and ends with status 1. The image is
-// written back where the call was done.
+// A name is NAME.TYP. A refusal prints its number in brackets, as the tool does, and ends with status 1. The image is written
+// back where the call was done.
 #include "churawel.h"
 
 #include <ctype.h>
@@ -39,10 +32,7 @@ static _Noreturn void fail(const char *what)
 
 static _Noreturn void refused(uint32_t answer)
 {
-    printf("refused %u", answer & 0xFFFF);
-    if (answer >> 16 != 0)
-        printf(" %u", answer >> 16);
-    putchar('\n');
+    printf("refused (%u)\n", answer & 0xFFFF);
     exit(1);
 }
 
@@ -121,27 +111,6 @@ static void set_position(uint32_t n)
     fcb[32] = n % 128;
 }
 
-// A name as cpmls prints it: small letters, no blanks, a full stop where there is a type.
-static void print_name(const uint8_t *e)
-{
-    for (int k = 1; k <= 11; k++) {
-        int c = e[k] & 0x7F;
-        if (k == 9 && c != ' ')
-            putchar('.');
-        if (c != ' ')
-            putchar(tolower(c));
-    }
-    putchar('\n');
-}
-
-// Every entry of the user whose extent is in group 0: one for each file.
-static void list(void)
-{
-    block_for("????????.???");
-    for (uint32_t answer = call(17, 0); answer < 4; answer = call(18, 0))
-        print_name(buffer + answer * 32);
-}
-
 // The file's bytes; each record is read into its place.
 static size_t read_file(uint8_t *bytes, int backwards)
 {
@@ -185,45 +154,22 @@ static void write_random(const uint8_t *bytes, size_t n, uint32_t from, int back
     }
 }
 
-static void mark(const char *letters)
-{
-    if (strchr(letters, 'r') != NULL)
-        fcb[9] |= 0x80;
-    if (strchr(letters, 's') != NULL)
-        fcb[10] |= 0x80;
-    must(30, 0);
-}
-
 int main(int count, char **words)
 {
     static uint8_t bytes[FILE_MOST];
-    if (count < 6)
+    if (count < 9)
         fail("too few words");
-    const char *image = words[1], *what = words[5];
-    const char *name = count > 7 ? words[7] : "", *path = count > 8 ? words[8] : "";
+    const char *image = words[1], *what = words[5], *name = words[7], *path = words[8];
     uint32_t record = count > 9 ? (uint32_t)atoi(words[9]) : 0;
     volume_bytes = load(image, volume, sizeof volume);
     uint32_t answer = churawel_log_in((uint32_t)atoi(words[2]), (uint32_t)atoi(words[3]), (uint32_t)atoi(words[4]), volume,
                                       volume_bytes, drive, sizeof drive);
     if ((answer & 0xFFFF) != 0)
         refused(answer);
-    if (strcmp(what, "free") == 0) {
-        printf("%u\n", answer >> 16);
-        return 0;
-    }
-    must(32, count > 6 ? (uint8_t)atoi(words[6]) : 0);
+    must(32, (uint8_t)atoi(words[6]));
     block_for(name);
-    if (strcmp(what, "list") == 0) {
-        list();
-    } else if (strcmp(what, "size") == 0) {
-        printf("%u\n", records());
-    } else if (strcmp(what, "get") == 0 || strcmp(what, "gather") == 0) {
+    if (strcmp(what, "get") == 0 || strcmp(what, "gather") == 0) {
         save(path, bytes, read_file(bytes, strcmp(what, "gather") == 0));
-    } else if (strcmp(what, "put") == 0 || strcmp(what, "replace") == 0) {
-        if (strcmp(what, "replace") == 0)
-            must(19, 0);
-        must(22, 0);
-        write_sequential(bytes, load(path, bytes, sizeof bytes));
     } else if (strcmp(what, "scatter") == 0) {
         must(22, 0);
         write_random(bytes, load(path, bytes, sizeof bytes), 0, 1);
@@ -232,13 +178,6 @@ int main(int count, char **words)
         write_sequential(bytes, load(path, bytes, sizeof bytes));
     } else if (strcmp(what, "patch") == 0) {
         write_random(bytes, load(path, bytes, sizeof bytes), record, 0);
-    } else if (strcmp(what, "delete") == 0) {
-        must(19, 0);
-    } else if (strcmp(what, "rename") == 0) {
-        lay_name(fcb + 17, path);
-        must(23, 0);
-    } else if (strcmp(what, "mark") == 0) {
-        mark(path);
     } else {
         fail("no such command");
     }

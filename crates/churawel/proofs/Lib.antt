@@ -1,7 +1,12 @@
--- What the seam rests on: answers that fit 16 bits, closed states that every call refuses, and states that 64 bytes carry.
+-- What the seam rests on: answers that fit 16 bits, closed states that every call refuses, states that 64 bytes carry, what is
+-- told of a bad slot and of a file, and the bytes of a fault evaluated.
 pub mod ValueLaws
 pub mod ClosedLaws
 pub mod SeamLaws
 pub mod LastingLaws
 pub mod CallsLast
 pub mod FaithfulHolds
+pub mod FaultLaws
+pub mod FileLaws
+pub mod ExplainsHolds
+pub mod Examples

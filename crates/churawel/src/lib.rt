@@ -1,4 +1,5 @@
-// The seam to an emulator: log-in and every other call, exported for C, over lent bytes alone.
+// The seam to an emulator: log-in, every other call, why a volume is refused and which files it has, exported for C, over lent
+// bytes alone.
 ghost use mathlib.Core.Path.{_≡_};
 ghost use mathlib.Core.Bool.{_||_};
 ghost use mathlib.Core.List.{[]};
@@ -8,12 +9,17 @@ ghost use Rattle.disk_geometry.specs.Geometry.{geometryOf};
 ghost use Rattle.filecalls.specs.State.{isOpen};
 ghost use Rattle.churawel.specs.Seam.{answered, sealed, atSeam, logInAtSeam};
 ghost use Rattle.churawel.specs.CodeSeam.{asksOpen, laidBack};
+ghost use Rattle.churawel.specs.Fault.{explained, faultAtSeam};
+ghost use Rattle.churawel.specs.File.{shown, fileAtSeam};
 use call_answers::Answer;
 use call_answers::Refusal;
 use call_served::Call;
 use disk_geometry::Geometry;
 use drive_bytes::DRIVE_BYTES;
 use filecalls::Drive;
+use files::line;
+
+mod fault;
 
 // A number of 32 bits as a size.
 fn size(x: u32) -> usize
@@ -137,4 +143,59 @@ pub extern "C" fn churawel_call(
     let answer = reply.answer;
     lay_back(kind, answer, next, drive);
     seal(answer)
+}
+
+// Logs the volume in as `churawel_log_in` does, and says of a bad slot why it is bad; no drive is left.
+#[no_mangle]
+pub extern "C" fn churawel_fault(
+    block_bytes: u32,
+    blocks: u32,
+    directory_blocks: u32,
+    volume: &[u8],
+    fault: &mut [u8],
+) -> u32
+    ensures { λ r. ⌜
+        explained r (now (fault .exit))
+        ≡ faultAtSeam (geometryOf «block_bytes» blocks «directory_blocks») (now (volume .entry)) (now (fault .entry))
+        ⌝ }
+{
+    if fault.len() != fault::FAULT_BYTES {
+        return seal(Answer::Refused(Refusal::BufferLength));
+    }
+    let g = Geometry {
+        block_bytes: size(block_bytes),
+        blocks: size(blocks),
+        directory_blocks: size(directory_blocks),
+    };
+    let reply = Drive::log_in(g, volume);
+    let answer = reply.answer;
+    fault::put_fault_for(fault, g, volume, answer);
+    seal(answer)
+}
+
+// Lays the line of the next file at or after slot `from`; its lowest slot is the value.
+#[no_mangle]
+pub extern "C" fn churawel_file(drive: &[u8], volume: &[u8], from: u32, file: &mut [u8]) -> u32
+    ensures { λ r. ⌜
+        shown r (now (file .exit))
+        ≡ fileAtSeam (now (drive .entry)) (now (volume .entry)) from (now (file .entry))
+        ⌝ }
+{
+    let d = drive_bytes::decode(drive);
+    if !d.is_open() {
+        return seal(Answer::Refused(Refusal::Closed));
+    }
+    let g = d.geometry;
+    if volume.len() != g.bytes() {
+        return seal(Answer::Refused(Refusal::VolumeLength));
+    }
+    if file.len() != line::FILE_BYTES {
+        return seal(Answer::Refused(Refusal::BufferLength));
+    }
+    let slot = files::next_file(g, volume, size(from));
+    if g.slots() <= slot {
+        return seal(Answer::Refused(Refusal::NoMatch));
+    }
+    line::put_file(file, g, volume, slot);
+    seal(Answer::Ready(slot))
 }

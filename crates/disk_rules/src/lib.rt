@@ -18,7 +18,7 @@ fn good_fields(e: &[u8]) -> bool
 }
 
 // Do bytes 9 and 10 alone carry a top bit, if any?
-fn good_top_bits(e: &[u8]) -> bool
+pub fn good_top_bits(e: &[u8]) -> bool
     requires { ⌜ IsEntry (now e) ⌝ }
     ensures { λ r. ⌜ r ≡ goodTopBits (now (e .entry)) ⌝ }
 {

@@ -23,7 +23,8 @@ use Rattle.disk_rules.proofs.GoodLaws.{Fields, fields-good, good-facts}
 use Rattle.text.specs.Decimal.{decimal}
 use Rattle.text.proofs.DecimalLaws.{decimal-one, decimal-more}
 use Rattle.call_size.specs.Size.{entryEnd, larger, sizeOf}
-use Rattle.listing.specs.Listing.{isUsed, usedPlaces, moreBlocks, blocksOf, isListed, nameText, line, lineAt, linesFrom}
+use Rattle.files.specs.Files.{isUsed, usedPlaces, moreBlocks, blocksOf, isListed}
+use Rattle.listing.specs.Listing.{nameText, line, lineAt, linesFrom}
 
 -- ---- how many digits a number has
 one-digit : (n : ℕ) → n < 10 → length (decimal n) ≤ 1

@@ -1,6 +1,6 @@
--- Laws of the listing: loops that count and that append, and what log-in's answer tells.
+-- Laws of the listing: loops that append, and what log-in's answer tells.
 use mathlib.Core.Path.{_≡_, refl, sym, ap, _∙_}
-use mathlib.Core.Bool.{Bool, true, false, cond}
+use mathlib.Core.Bool.{Bool, true, false}
 use mathlib.Core.List.{List, [], _∷_}
 use Prim.Native.Nat.{ℕ, suc, _+_, _-_, _%_, _≤_, _<_}
 use native.Mathlib.Numerals.{add-one}
@@ -9,7 +9,6 @@ use lib.Dec.{eqb}
 use lib.ListN.{length, getD, drop, drop-of-length-le}
 use lib.Seq.{drop-cons}
 use borrow.Author.Tests.{eqb-true}
-use Rattle.lists.specs.Bounded.{countFrom}
 use Rattle.disk_geometry.specs.declared.Geometry.{Geometry}
 use Rattle.disk_geometry.specs.Geometry.{lawful, bytes}
 use Rattle.disk_volume.specs.Name.{strip}
@@ -25,27 +24,6 @@ use Rattle.listing.specs.Listing.{geometryV, lineAt, linesFrom, refused,
 
 less : (n i : ℕ) → i < n → n - i ≡ suc (n - (i + 1))
 less n i h = omega arith
-
--- ---- a loop that counts
-pub record Counted (p : ℕ → Bool) (n m i : ℕ) : Type 0 where
-  pub rest : m + countFrom p i (n - i) ≡ countFrom p 0 n
-
-module _ {p : ℕ → Bool} {n : ℕ} where
-  pub counted-start : Counted p n 0 0
-  counted-start = record { rest = let z : n - 0 ≡ n = omega arith in rw z (omega arith) }
-
-  pub counted-next : {m k i : ℕ} → Counted p n m i → i < n → k ≡ cond (p i) 1 0 → Counted p n (m + k) (i + 1)
-  unfolding countFrom
-  counted-next {m} {k} {i} s h e =
-      let a : countFrom p i (n - i) ≡ k + countFrom p (i + 1) (n - (i + 1)) = rw (less n i h, add-one, e) in
-      record { rest = let r = s .rest in omega arith }
-
-  pub counted-end : {m i : ℕ} → Counted p n m i → n ≤ i → m ≡ countFrom p 0 n
-  unfolding countFrom
-  counted-end {m} {i} s h =
-      let z : n - i ≡ 0 = omega arith in
-      let a : countFrom p i (n - i) ≡ 0 = rw z in
-      let r = s .rest in omega arith
 
 -- ---- a loop that appends bytes without their top bits
 pub strip-next : (s : List ℕ) (i : ℕ) → i < length s → strip (drop i s) ≡ (getD s i 0 % 128) ∷ strip (drop (i + 1) s)

@@ -1,18 +1,16 @@
 -- The listing of a volume: "a header, a line for each file by its lowest slot (user, name of eight, full stop, type of
 -- three, both without top bits, size, blocks held), then the free blocks". Every line ends in one line feed.
-use mathlib.Core.Bool.{Bool, not, cond, _&&_}
+use mathlib.Core.Bool.{cond}
 use mathlib.Core.List.{List, [], _++_}
-use Prim.Native.Nat.{ℕ, zero, suc, _+_}
-use lib.Dec.{eqb}
-use Rattle.lists.specs.Bounded.{countFrom, fold}
+use Prim.Native.Nat.{ℕ, zero, suc}
 use Rattle.lists.specs.Bytes.{byte, part}
 use Rattle.disk_geometry.specs.declared.Geometry.{Geometry}
-use Rattle.disk_volume.specs.declared.Wanted.the-variants.{File}
-use Rattle.disk_geometry.specs.Geometry.{slots, places, geometryOf}
+use Rattle.disk_geometry.specs.Geometry.{slots, geometryOf}
 use Rattle.disk_volume.specs.Fields.{USER, NAME, TYPE}
 use Rattle.disk_volume.specs.Name.{strip, nameOf}
-use Rattle.disk_volume.specs.Entry.{Entry, isEmpty, blockIn, ofFile}
-use Rattle.disk_volume.specs.Directory.{slotAt, findSlot}
+use Rattle.disk_volume.specs.Entry.{Entry}
+use Rattle.disk_volume.specs.Directory.{slotAt}
+use Rattle.files.specs.Files.{blocksOf, isListed}
 use Rattle.text.specs.Decimal.{decimal}
 use Rattle.text.specs.Letters.{letters, blank, lineEnd}
 use Rattle.call_answers.specs.declared.Answer.{Answer}
@@ -38,24 +36,6 @@ freeWord = letters "FREE "
 
 abbrev pub refusedWord : List ℕ
 refusedWord = letters "REFUSED "
-
--- "sixteen block numbers, 0 for none": place p of an entry's map names a block; how many places do
-abbrev pub isUsed : Geometry → Entry → ℕ → Bool
-isUsed g e p = not (eqb (blockIn g e p) 0)
-
-unfoldable pub usedPlaces : Geometry → Entry → ℕ
-usedPlaces g e = countFrom (isUsed g e) 0 (places g)
-
--- m and the blocks that slot i holds for the file; the blocks held by all entries of the file
-unfoldable pub moreBlocks : Geometry → List ℕ → ℕ → List ℕ → ℕ → ℕ → ℕ
-moreBlocks g v u name m i = cond (ofFile u name (slotAt g v i)) (m + usedPlaces g (slotAt g v i)) m
-
-unfoldable pub blocksOf : Geometry → List ℕ → ℕ → List ℕ → ℕ
-blocksOf g v u name = fold (moreBlocks g v u name) 0 0 (slots g)
-
--- the entry in slot i stands for its file: no lower slot has an entry of the file
-unfoldable pub isListed : Geometry → List ℕ → Entry → ℕ → Bool
-isListed g v e i = not (isEmpty e) && eqb (findSlot g v (byte e USER) (nameOf e) File) i
 
 -- "name of eight, full stop, type of three, both without top bits"
 unfoldable pub nameText : Entry → List ℕ

@@ -8,7 +8,6 @@ use call_answers::Answer;
 use disk_geometry::Geometry;
 use filecalls::Drive;
 
-mod blocks_held;
 mod lines;
 
 // A volume of V's geometry has so many bytes.

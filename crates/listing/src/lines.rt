@@ -5,16 +5,15 @@ ghost use Rattle.disk_geometry.specs.Geometry.{slots};
 ghost use Rattle.disk_volume.specs.Name.{strip};
 ghost use Rattle.disk_volume.specs.CodeLent.{IsVolume, VolumeAnd, IsEntry};
 ghost use Rattle.text.specs.Text.{text, puts};
-ghost use Rattle.listing.specs.Listing.{isListed, nameText, line, lineAt, linesFrom, accepted};
-use crate::blocks_held;
+ghost use Rattle.listing.specs.Listing.{nameText, line, lineAt, linesFrom, accepted};
 use disk_geometry::Geometry;
-use disk_volume::Wanted;
-use disk_volume::fields::EMPTY;
 use disk_volume::fields::NAME;
 use disk_volume::fields::NAME_END;
 use disk_volume::fields::TYPE;
 use disk_volume::fields::USER;
 use disk_volume::names::TOP_BIT;
+use files::blocks_held;
+use files::is_listed;
 
 // The bytes of s without their top bits.
 fn put_stripped(out: &mut [u8], at: usize, s: &[u8]) -> usize
@@ -58,18 +57,6 @@ fn put_line(g: Geometry, volume: &[u8], e: &[u8], out: &mut [u8], at: usize) -> 
     let h = text::put_byte(out, f, b' ');
     let i = text::put_decimal(out, h, blocks);
     text::put_byte(out, i, b'\n')
-}
-
-// Does the entry in slot i stand for its file?
-fn is_listed(g: Geometry, volume: &[u8], e: &[u8], i: usize) -> bool
-    requires { ⌜ VolumeAnd g (now volume) (IsEntry (now e)) ⌝ }
-    ensures { λ r. ⌜ r ≡ isListed g (now (volume .entry)) (now (e .entry)) i ⌝ }
-{
-    let user = e[USER];
-    if user == EMPTY {
-        return false;
-    }
-    disk_volume::directory::find(g, volume, user, &e[NAME..NAME_END], Wanted::File) == i
 }
 
 // What slot i adds: the file's line where its entry stands for the file.

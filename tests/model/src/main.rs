@@ -21,11 +21,11 @@ use doors::replay::expected;
 use doors::script::Script;
 
 const USAGE: &str = "usage:
-  model run SEED SCRIPTS FOLDER   scripts and chains on replay and at the seam; failing ones go to FOLDER
+  model run SEED SCRIPTS FOLDER   scripts, chains and tellings on replay and at the seam; failing ones go to FOLDER
   model some SEED SCRIPTS FOLDER  the same, where pairs of call and answer may be missing
   model long SEED CALLS FOLDER    one run of so many calls at the seam
-  model again FILE                a kept script or chain once more
-  model keep SEED NUMBER FOLDER   writes the script and the chain of this number to FOLDER
+  model again FILE                a kept script, chain or telling once more
+  model keep SEED NUMBER FOLDER   writes the script, the chain and the telling of this number to FOLDER
   model expected                  a script on standard input: what replay must print
   model listing                   a volume on standard input: what the lister must print
 The environment's REPLAY is the command that runs replay, SEAM the one that runs seam.c.
@@ -71,7 +71,7 @@ fn again(file: &str) -> Result<bool, String> {
 
 fn keep(seed: u64, number: u64, folder: &Path) -> Result<bool, String> {
     std::fs::create_dir_all(folder).map_err(|error| error.to_string())?;
-    for ending in [kept::SCRIPT, kept::CHAIN] {
+    for ending in [kept::SCRIPT, kept::CHAIN, kept::TELLING] {
         let path = kept::keep(folder, seed, number, ending).map_err(|error| error.to_string())?;
         println!("{}", path.display());
     }
@@ -95,9 +95,7 @@ fn obey(words: &[&str]) -> Option<Result<bool, String>> {
         ["some", seed, scripts, folder] => {
             run_all(seed.parse().ok()?, scripts.parse().ok()?, Path::new(folder), false)
         }
-        ["long", seed, calls, folder] => {
-            run_long(seed.parse().ok()?, calls.parse().ok()?, Path::new(folder))
-        }
+        ["long", seed, calls, folder] => run_long(seed.parse().ok()?, calls.parse().ok()?, Path::new(folder)),
         ["again", file] => again(file),
         ["keep", seed, number, folder] => keep(seed.parse().ok()?, number.parse().ok()?, Path::new(folder)),
         ["expected"] => answer(|bytes| expected(&Script::decode(bytes)).0),

@@ -1,4 +1,4 @@
-//! The archive behind the seam's two entries: `seam.c` links it and
+//! The archive behind the seam's four entries: `seam.c` links it and
 //! answers over a pipe, so that the archive may be for another processor.
 
 use std::io::{self, Read, Write};
@@ -43,6 +43,14 @@ impl Seam for Archive {
     fn call(&self, function: u8, parameter: u8, memory: &mut Memory) -> Result<u32, String> {
         let none = Geometry { block_bytes: 0, blocks: 0, directory_blocks: 0 };
         self.ask([1, function, parameter, 0], none, memory)
+    }
+
+    fn fault(&self, geometry: Geometry, memory: &mut Memory) -> Result<u32, String> {
+        self.ask([2, 0, 0, 0], geometry, memory)
+    }
+
+    fn file(&self, from: u32, memory: &mut Memory) -> Result<u32, String> {
+        self.ask([3, 0, 0, 0], Geometry { block_bytes: from, blocks: 0, directory_blocks: 0 }, memory)
     }
 }
 

@@ -1,18 +1,24 @@
-//! Scripts and chains as files, so that one can be run once more.
+//! Scripts, chains and tellings as files, so that one can be run once more.
 
 use std::io;
 use std::path::{Path, PathBuf};
 
 use crate::choose::chains::chain;
 use crate::choose::scripts::script_bytes;
+use crate::choose::tellings::telling;
 
 pub const SCRIPT: &str = "script";
 pub const CHAIN: &str = "chain";
+pub const TELLING: &str = "telling";
 
-/// Writes the script or the chain of this seed and number.
+/// Writes the script, the chain or the telling of this seed and number.
 pub fn keep(folder: &Path, seed: u64, number: u64, ending: &str) -> io::Result<PathBuf> {
     let path = folder.join(format!("{}-{}.{}", seed, number, ending));
-    let bytes = if ending == CHAIN { chain(seed, number).encode() } else { script_bytes(seed, number) };
+    let bytes = match ending {
+        CHAIN => chain(seed, number).encode(),
+        TELLING => telling(seed, number).encode(),
+        _ => script_bytes(seed, number),
+    };
     std::fs::write(&path, bytes)?;
     Ok(path)
 }

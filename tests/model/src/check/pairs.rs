@@ -11,6 +11,10 @@ use crate::paper::calls::is_served;
 pub enum Row {
     /// `churawel_log_in`.
     LogInEntry,
+    /// `churawel_fault`.
+    FaultEntry,
+    /// `churawel_file`.
+    FileEntry,
     /// A function's number, through `replay` or `churawel_call`.
     Function(u8),
     /// Any number that is not served, through `churawel_call`.
@@ -29,6 +33,8 @@ impl Row {
     pub fn name(&self) -> String {
         match self {
             Row::LogInEntry => "churawel_log_in".to_string(),
+            Row::FaultEntry => "churawel_fault".to_string(),
+            Row::FileEntry => "churawel_file".to_string(),
             Row::Function(function) => format!("function {}", function),
             Row::NotServed => "a number that is not served".to_string(),
         }
@@ -119,6 +125,9 @@ pub fn possible(door: Door) -> BTreeSet<(Row, u32)> {
         pairs.extend([(Row::NotServed, 31), (Row::NotServed, 32)]);
         // 32 for a drive of another length too.
         pairs.extend([0, 32, 33, 36].map(|answer| (Row::LogInEntry, answer)));
+        // What is lent for the bytes may have another length.
+        pairs.extend([0, 32, 33, 35, 36].map(|answer| (Row::FaultEntry, answer)));
+        pairs.extend([0, 32, 33, 35, 255].map(|answer| (Row::FileEntry, answer)));
     }
     pairs
 }

@@ -1,4 +1,5 @@
-//! Many scripts on `replay` and at the seam, and as many chains at the seam.
+//! Many scripts on `replay` and at the seam, and as many chains and tellings at
+//! the seam.
 
 use std::collections::BTreeMap;
 use std::path::Path;
@@ -13,6 +14,7 @@ use super::table::Tally;
 use super::{side_by_side, transcripts, ways};
 use crate::choose::chains::{chain, long_chain};
 use crate::choose::scripts::script_bytes;
+use crate::choose::tellings::telling;
 use crate::doors::chain::Chain;
 use crate::doors::replay::{expected, Line};
 use crate::doors::script::{Script, TOUCH};
@@ -30,7 +32,7 @@ pub struct Plan<'a> {
     pub scripts: u64,
     pub replay: &'a Program,
     pub seam: &'a dyn Seam,
-    /// Where failing scripts and chains are kept.
+    /// Where failing scripts, chains and tellings are kept.
     pub folder: &'a Path,
     /// Whether a possible pair of call and answer that never occurred is a
     /// failure; of few scripts it is not.
@@ -44,15 +46,17 @@ enum Comparison {
     AtSeam,
     PlainWay,
     Chain,
+    Telling,
 }
 
-const COMPARISONS: [Comparison; 4] =
-    [Comparison::OnReplay, Comparison::AtSeam, Comparison::PlainWay, Comparison::Chain];
+const COMPARISONS: [Comparison; 5] =
+    [Comparison::OnReplay, Comparison::AtSeam, Comparison::PlainWay, Comparison::Chain, Comparison::Telling];
 
 impl Comparison {
     fn thing(&self) -> &'static str {
         match self {
             Comparison::Chain => kept::CHAIN,
+            Comparison::Telling => kept::TELLING,
             _ => kept::SCRIPT,
         }
     }
@@ -61,7 +65,7 @@ impl Comparison {
         match self {
             Comparison::OnReplay => "on replay",
             Comparison::PlainWay => "in the plain way",
-            Comparison::AtSeam | Comparison::Chain => "at the seam",
+            Comparison::AtSeam | Comparison::Chain | Comparison::Telling => "at the seam",
         }
     }
 }
@@ -164,7 +168,7 @@ impl Results {
         }
     }
 
-    /// The script and the chain of this number.
+    /// The script, the chain and the telling of this number.
     fn compare(&mut self, plan: &Plan, number: u64) {
         let bytes = script_bytes(plan.seed, number);
         let script = Script::decode(&bytes);
@@ -179,6 +183,8 @@ impl Results {
         }
         let fault = seam_fault(&chain(plan.seed, number), plan.seam, &mut self.seam);
         self.note(number, Comparison::Chain, fault);
+        let fault = seam_fault(&telling(plan.seed, number), plan.seam, &mut self.seam);
+        self.note(number, Comparison::Telling, fault);
     }
 
     fn count(&mut self, lines: &[Line]) {

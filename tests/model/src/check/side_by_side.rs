@@ -8,6 +8,7 @@ use crate::doors::chain::{Chain, Step};
 use crate::doors::replay::hex;
 use crate::doors::script::lay;
 use crate::doors::seam::{self, Memory, Seam};
+use crate::doors::telling;
 use crate::paper::geometry::Geometry;
 
 /// The first difference, if there is one. The model's answers are counted.
@@ -27,6 +28,14 @@ pub fn first_difference(chain: &Chain, under_test: &dyn Seam, tally: &mut Tally)
                 let answer = seam::call(call.function, call.parameter, &mut model);
                 (Row::of(call.function), answer, under_test.call(call.function, call.parameter, &mut other))
             }
+            Step::Fault(geometry, _) => {
+                let answer = telling::fault(*geometry, &mut model);
+                (Row::FaultEntry, answer, under_test.fault(*geometry, &mut other))
+            }
+            Step::File(from, _) => {
+                let answer = telling::file(*from, &mut model);
+                (Row::FileEntry, answer, under_test.file(*from, &mut other))
+            }
             _ => continue,
         };
         tally.count(row, answer % 65536);
@@ -45,6 +54,7 @@ fn prepare(step: &Step, memory: &mut Memory) {
         Step::Drive(bytes) => memory.drive = bytes.clone(),
         Step::Lay(offset, bytes) => lay(&mut memory.volume, *offset, bytes),
         Step::LogIn(_) => {}
+        Step::Fault(_, lent) | Step::File(_, lent) => memory.buffer = lent.clone(),
         Step::Call(call) => {
             memory.control = call.control.clone();
             memory.buffer = call.buffer.clone();
@@ -71,10 +81,11 @@ fn details(step: &Step, other: &Memory, model: &Memory) -> Vec<String> {
             let (control, buffer) = (hex(&call.control), hex(&call.buffer));
             format!("parameter {}, control block {}, buffer {}", call.parameter, control, buffer)
         }
-        Step::LogIn(geometry) => {
+        Step::LogIn(geometry) | Step::Fault(geometry, _) => {
             let Geometry { block_bytes, blocks, directory_blocks } = geometry;
             format!("B {}, T {}, D {}", block_bytes, blocks, directory_blocks)
         }
+        Step::File(from, _) => format!("from slot {}", from),
         _ => String::new(),
     };
     let lines = [("asked  ", asked), ("it has ", shown(other)), ("model  ", shown(model))];

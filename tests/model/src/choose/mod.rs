@@ -11,6 +11,7 @@
 //! | `goals` | calls that are aimed at one pair of call and answer |
 //! | `scripts`, `bad_scripts` | scripts for both doors |
 //! | `drives`, `chains` | wild drives, and chains with them for the seam alone |
+//! | `tellings` | chains that ask why a volume is refused, and for its files |
 
 pub mod aims;
 pub mod alterations;
@@ -26,3 +27,4 @@ pub mod pool;
 pub mod random;
 pub mod runs;
 pub mod scripts;
+pub mod tellings;

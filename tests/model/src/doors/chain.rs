@@ -30,6 +30,10 @@ pub enum Step {
     Lay(usize, Vec<u8>),
     /// `L`, B, T, D of 32 bits each: `churawel_log_in`.
     LogIn(Geometry),
+    /// `F`, B, T, D of 32 bits each, run of what is lent: `churawel_fault`.
+    Fault(Geometry, Vec<u8>),
+    /// `N`, 32 bits, run of what is lent: `churawel_file`.
+    File(u32, Vec<u8>),
     /// `C`, function, parameter, run of the control block, run of the buffer:
     /// `churawel_call`.
     Call(Call),
@@ -78,6 +82,12 @@ fn put_number(number: u32, bytes: &mut Vec<u8>) {
     bytes.extend(number.to_le_bytes());
 }
 
+fn put_geometry(geometry: &Geometry, bytes: &mut Vec<u8>) {
+    for number in [geometry.block_bytes, geometry.blocks, geometry.directory_blocks] {
+        put_number(number, bytes);
+    }
+}
+
 fn put_run(run: &[u8], bytes: &mut Vec<u8>) {
     put_number(run.len() as u32, bytes);
     bytes.extend(run);
@@ -100,9 +110,17 @@ fn encode_step(step: &Step, bytes: &mut Vec<u8>) {
         }
         Step::LogIn(geometry) => {
             bytes.push(b'L');
-            put_number(geometry.block_bytes, bytes);
-            put_number(geometry.blocks, bytes);
-            put_number(geometry.directory_blocks, bytes);
+            put_geometry(geometry, bytes);
+        }
+        Step::Fault(geometry, lent) => {
+            bytes.push(b'F');
+            put_geometry(geometry, bytes);
+            put_run(lent, bytes);
+        }
+        Step::File(from, lent) => {
+            bytes.push(b'N');
+            put_number(*from, bytes);
+            put_run(lent, bytes);
         }
         Step::Call(call) => {
             bytes.extend([b'C', call.function, call.parameter]);
@@ -112,12 +130,18 @@ fn encode_step(step: &Step, bytes: &mut Vec<u8>) {
     }
 }
 
+fn take_geometry(reader: &mut Reader) -> Option<Geometry> {
+    Some(Geometry::new(reader.number(4)?, reader.number(4)?, reader.number(4)?))
+}
+
 fn decode_step(reader: &mut Reader) -> Option<Step> {
     let step = match reader.byte()? {
         b'V' => Step::Volume(reader.run(4)?),
         b'D' => Step::Drive(reader.run(4)?),
         b'A' => Step::Lay(reader.number(4)? as usize, reader.run(4)?),
-        b'L' => Step::LogIn(Geometry::new(reader.number(4)?, reader.number(4)?, reader.number(4)?)),
+        b'L' => Step::LogIn(take_geometry(reader)?),
+        b'F' => Step::Fault(take_geometry(reader)?, reader.run(4)?),
+        b'N' => Step::File(reader.number(4)?, reader.run(4)?),
         b'C' => {
             let (function, parameter) = (reader.byte()?, reader.byte()?);
             Step::Call(Call { function, parameter, control: reader.run(4)?, buffer: reader.run(4)? })

@@ -1,7 +1,7 @@
 //! The two doors to the calls, as the model has them: the program `replay`
 //! (`script` is what it reads, `replay` what it must print) and the emulator's
-//! seam (`drive_bytes` is the lent state, `seam` the two entries, `chain` a run
-//! of calls there).
+//! seam (`drive_bytes` is the lent state, `seam` and `telling` the entries,
+//! `chain` a run of calls there).
 
 pub mod chain;
 pub mod drive_bytes;
@@ -9,3 +9,4 @@ pub mod reader;
 pub mod replay;
 pub mod script;
 pub mod seam;
+pub mod telling;

@@ -7,7 +7,8 @@ use crate::paper::geometry::Geometry;
 use crate::paper::held::Way;
 use crate::paper::inspection;
 
-/// All that is lent at the seam (to log-in: volume and drive).
+/// All that is lent at the seam (to log-in: volume and drive). The buffer is also
+/// where `churawel_fault` and `churawel_file` lay their bytes.
 #[derive(Clone, Default, PartialEq, Eq, Debug)]
 pub struct Memory {
     pub drive: Vec<u8>,
@@ -16,11 +17,13 @@ pub struct Memory {
     pub buffer: Vec<u8>,
 }
 
-/// Something that stands behind the two entries. An error is a fault that no
+/// Something that stands behind the four entries. An error is a fault that no
 /// lent byte shows.
 pub trait Seam: Sync {
     fn log_in(&self, geometry: Geometry, memory: &mut Memory) -> Result<u32, String>;
     fn call(&self, function: u8, parameter: u8, memory: &mut Memory) -> Result<u32, String>;
+    fn fault(&self, geometry: Geometry, memory: &mut Memory) -> Result<u32, String>;
+    fn file(&self, from: u32, memory: &mut Memory) -> Result<u32, String>;
 }
 
 /// A drive that is closed, malformed or of another length.

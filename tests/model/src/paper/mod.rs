@@ -6,13 +6,14 @@
 //! |---|---|
 //! | The calls we serve | `calls` |
 //! | Volume and entry | `geometry`, `names`, `directory` |
-//! | Inspection at log-in | `inspection`, `held`, `state` |
+//! | Inspection at log-in | `inspection`, `bad_slots`, `held`, `state` |
 //! | Control block and position | `control` |
 //! | What each call does when it succeeds | `files`, `records` |
 //! | Numbers of refusal, in order of test | `refusals`; the rows from 255 on in `files`, `records` |
 //! | (02, ii) Several records a call | `several` |
 //! | Examples to hold it to | `lister`, and `tests/examples.rs` |
 
+pub mod bad_slots;
 pub mod calls;
 pub mod control;
 pub mod directory;

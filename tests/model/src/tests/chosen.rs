@@ -5,6 +5,7 @@ use crate::choose::geometries::{geometry, wild_geometry, wrong_geometry};
 use crate::choose::images::{contents, valid_image};
 use crate::choose::random::Random;
 use crate::choose::scripts::script_bytes;
+use crate::choose::tellings::telling;
 use crate::doors::chain::Chain;
 use crate::doors::script::Script;
 use crate::paper::inspection::lowest_bad_slot;
@@ -47,10 +48,12 @@ fn scripts_are_repeatable_and_read_back() {
 #[test]
 fn chains_are_repeatable_and_read_back() {
     for number in 0..40 {
-        let chosen = chain(5, number);
-        assert_eq!(chosen, chain(5, number));
-        let bytes = chosen.encode();
-        assert_eq!(Chain::decode(&bytes), Some(chosen));
-        assert_eq!(Chain::decode(&bytes[..bytes.len() - 1]), None);
+        for choose in [chain, telling] {
+            let chosen = choose(5, number);
+            assert_eq!(chosen, choose(5, number));
+            let bytes = chosen.encode();
+            assert_eq!(Chain::decode(&bytes), Some(chosen));
+            assert_eq!(Chain::decode(&bytes[..bytes.len() - 1]), None);
+        }
     }
 }

@@ -5,10 +5,16 @@ use crate::check::side_by_side;
 use crate::check::table::Tally;
 use crate::check::transcripts::first_difference;
 use crate::choose::chains::chain;
+use crate::choose::tellings;
 use crate::doors::seam::{self, Memory, Seam};
+use crate::doors::telling;
 use crate::paper::calls::*;
 use crate::paper::control::CR;
 use crate::paper::geometry::Geometry;
+
+/// Numbers for `churawel_fault` and `churawel_file`, which have none.
+const FAULT: u8 = 254;
+const FILE: u8 = 255;
 
 /// Given the function (0 for `churawel_log_in`), the answer and what is lent
 /// after it; a new answer or a fault.
@@ -34,13 +40,23 @@ impl Seam for Mistaken {
         let answer = seam::call(function, parameter, memory);
         (self.mistake)(function, answer, memory)
     }
+
+    fn fault(&self, geometry: Geometry, memory: &mut Memory) -> Result<u32, String> {
+        let answer = telling::fault(geometry, memory);
+        (self.mistake)(FAULT, answer, memory)
+    }
+
+    fn file(&self, from: u32, memory: &mut Memory) -> Result<u32, String> {
+        let answer = telling::file(from, memory);
+        (self.mistake)(FILE, answer, memory)
+    }
 }
 
-/// The first difference in two hundred chains.
+/// The first difference in two hundred chains, half of them tellings.
 fn difference(mistake: Mistake) -> Option<String> {
     let mistaken = Mistaken { mistake };
-    (0..200).find_map(|number| {
-        let difference = side_by_side::first_difference(&chain(3, number), &mistaken, &mut Tally::default());
+    (0..100).flat_map(|number| [chain(3, number), tellings::telling(3, number)]).find_map(|chain| {
+        let difference = side_by_side::first_difference(&chain, &mistaken, &mut Tally::default());
         difference.map(|difference| difference.what)
     })
 }
@@ -150,4 +166,35 @@ fn texts_that_differ() {
     text_differs("RECORD 8", "RECORD 9", "line 2: 'RECORD 9 010203', by the model 'RECORD 8 010203'");
     text_differs("RECORD 8 010203\n", "", "line 2: 'END 2', by the model 'RECORD 8 010203'");
     text_differs("END 2\n", "END 2", "line 4: 'no line, nor a line feed before it', by the model ''");
+}
+
+#[test]
+fn another_rule_or_slot_of_a_fault() {
+    let rule: Mistake = |function, answer, memory| {
+        if function == FAULT && memory.buffer.first() == Some(&10) {
+            memory.buffer[0] = 11;
+        }
+        Ok(answer)
+    };
+    found(rule, "(churawel_fault): byte 0 of the buffer is 0B, by the model 0A");
+    let other: Mistake = |function, answer, memory| {
+        if function == FAULT && memory.buffer.first() == Some(&11) {
+            memory.buffer[6] ^= 1;
+        }
+        Ok(answer)
+    };
+    found(other, "(churawel_fault): byte 6 of the buffer is ");
+}
+
+#[test]
+fn a_wrong_line_of_a_file() {
+    let blocks: Mistake = |function, answer, memory| {
+        if function == FILE && answer % 65536 == 0 {
+            memory.buffer[18] += 1;
+        }
+        Ok(answer)
+    };
+    found(blocks, "(churawel_file): byte 18 of the buffer is ");
+    let slot: Mistake = |function, answer, _| Ok(if function == FILE { answer + (1 << 16) } else { answer });
+    found(slot, "(churawel_file): the count or slot is ");
 }

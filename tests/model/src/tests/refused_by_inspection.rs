@@ -1,7 +1,13 @@
 //! The refusal 36: inspection at log-in.
 
 use super::*;
+use crate::choose::tellings::telling;
+use crate::doors::chain::Step;
+use crate::doors::script::lay;
+use crate::paper::bad_slots::{first_fault, Fault};
 use crate::paper::calls::*;
+use crate::paper::geometry::Geometry;
+use crate::paper::inspection::lowest_bad_slot;
 
 #[test]
 fn number_36_bad_slots() {
@@ -69,4 +75,79 @@ fn number_36_same_file_and_group() {
     // What stands in an empty slot does not count.
     b.set_byte(0, 0, 0xE5);
     assert_eq!(b.log_in(), (0, 7));
+}
+
+/// The first fault of slot 5 where the slots 0 and 5 of `number_36_bad_slots`
+/// stand and these bytes of slot 5 are altered.
+fn fault_of(altered: &[(usize, u8)]) -> Option<(u8, usize, u8, Option<usize>)> {
+    let mut volume = vec![0xE5; 8 * 1024];
+    let entry = |name: &str, blocks: [u8; 2]| {
+        let mut bytes = [0; 32];
+        bytes[1..12].copy_from_slice(&super::name(name));
+        bytes[16..18].copy_from_slice(&blocks);
+        bytes
+    };
+    volume[0..32].copy_from_slice(&entry("ONE.TXT", [2, 3]));
+    volume[160..192].copy_from_slice(&entry("TWO.TXT", [4, 0]));
+    for (byte, value) in altered {
+        volume[160 + byte] = *value;
+    }
+    let fault = first_fault(&Geometry::new(1024, 8, 2), &volume, 5);
+    fault.map(|Fault { rule, place, number, other }| (rule, place, number, other))
+}
+
+#[test]
+fn the_first_rule_broken() {
+    let own = |rule| Some((rule, 0, 0, None));
+    assert_eq!(fault_of(&[]), None);
+    assert_eq!(fault_of(&[(0, 0xE5), (12, 32)]), None);
+    let alone = [
+        (0, 16, 1),
+        (1, 0x20, 2),
+        (3, 0x3F, 2),
+        (10, 0xFF, 2),
+        (11, 0xD4, 3),
+        (12, 32, 4),
+        (13, 1, 5),
+        (14, 16, 6),
+    ];
+    for (byte, value, rule) in alone {
+        assert_eq!(fault_of(&[(byte, value)]), own(rule), "byte {}", byte);
+        // Rules before others: rc, the map, the same group.
+        assert_eq!(fault_of(&[(15, 129), (31, 8), (byte, value)]), own(rule), "byte {}", byte);
+    }
+    assert_eq!(fault_of(&[(15, 129), (31, 8)]), own(7));
+    assert_eq!(fault_of(&[(17, 4), (18, 2), (19, 1), (20, 8)]), Some((8, 3, 1, None)));
+    assert_eq!(fault_of(&[(17, 2), (18, 4)]), Some((9, 2, 4, None)));
+    assert_eq!(fault_of(&[(17, 5), (18, 3)]), Some((10, 2, 3, Some(0))));
+    let same = [(1, b'O'), (2, b'N'), (3, b'E')];
+    assert_eq!(fault_of(&same), Some((11, 0, 0, Some(0))));
+    assert_eq!(fault_of(&[same[0], same[1], same[2], (16, 2)]), Some((10, 0, 2, Some(0))));
+    assert_eq!(fault_of(&[same[0], same[1], same[2], (12, 1)]), None);
+}
+
+/// A slot is bad exactly where it breaks a rule, and tellings break each.
+#[test]
+fn tellings_break_every_rule() {
+    let mut broken = [0; 12];
+    for number in 0..400 {
+        let telling = telling(1, number);
+        let mut volume = telling.volume;
+        for step in telling.steps {
+            match step {
+                Step::Lay(offset, bytes) => lay(&mut volume, offset, &bytes),
+                Step::Fault(geometry, _)
+                    if geometry.within_rules() && volume.len() == geometry.volume_bytes() =>
+                {
+                    let first = (0..geometry.slots())
+                        .find_map(|slot| Some((slot, first_fault(&geometry, &volume, slot)?)));
+                    assert_eq!(first.map(|(slot, _)| slot), lowest_bad_slot(&geometry, &volume));
+                    broken[first.map_or(0, |(_, fault)| fault.rule as usize)] += 1;
+                }
+                Step::Volume(other) => volume = other,
+                _ => {}
+            }
+        }
+    }
+    assert!(broken.iter().all(|&count| count >= 5), "{:?}", broken);
 }

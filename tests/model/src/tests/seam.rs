@@ -1,4 +1,4 @@
-//! The drive's bytes and the seam's two entries.
+//! The drive's bytes, log-in and calls at the seam.
 
 use super::*;
 use crate::choose::random::Random;

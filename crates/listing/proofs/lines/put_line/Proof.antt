@@ -1,7 +1,8 @@
 -- Eight runs of bytes, one after the other; the numbers are those of the definition.
 use denote.Ref.{now}
 use Rattle.text.proofs.TextLaws.{wrote-number}
-use Rattle.listing.specs.Listing.{nameText, blocksOf, line}
+use Rattle.files.specs.Files.{blocksOf}
+use Rattle.listing.specs.Listing.{nameText, line}
 use Rattle.text.proofs.TextLaws.{wrote, wrote-byte, then}
 use Rattle.call_size.specs.Size.{sizeOf}
 use Rattle.disk_volume.specs.Name.{nameAt, nameOf}

@@ -2,7 +2,8 @@
 use mathlib.Core.Path.{_≡_}
 use denote.Ref.{now}
 use borrow.Author.Tests.{not-true, not-false}
-use Rattle.listing.specs.Listing.{isListed, lineAt}
+use Rattle.files.specs.Files.{isListed}
+use Rattle.listing.specs.Listing.{lineAt}
 use Rattle.text.specs.Text.{puts}
 use Rattle.disk_volume.proofs.EntryLaws.{lent-slot}
 use Rattle.disk_volume.specs.Directory.{slotAt}

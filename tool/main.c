@@ -1,0 +1,140 @@
+// The command line: options, and which command is meant.
+#include "tool.h"
+
+#include <fcntl.h>
+#include <getopt.h>
+#include <stdio.h>
+#include <stdlib.h>
+#include <string.h>
+#include <unistd.h>
+
+const struct command COMMANDS[] = {
+    {"list", "IMAGE [PATTERN]", "guh", 1, 2, false,
+     "Lists the files of every user: user, name, records, bytes, blocks, attributes; then the free blocks.\n"
+     "In PATTERN ? stands for any character, and * for any rest of the name or of the type.",
+     list},
+    {"check", "IMAGE", "gh", 1, 1, false,
+     "Says whether the disk is sound; if not, the first bad slot of its directory, its file, and what is wrong with it.", check},
+    {"get", "IMAGE FILE [OUT]", "gtRGh", 2, 3, false,
+     "Copies a file of the disk to a file of this machine.\n"
+     "Without OUT that has the file's own name; - is standard output. One that is there is replaced only with --replace.\n"
+     "A record that was never written is an error, but not with --gaps zero.",
+     get},
+    {"type", "IMAGE FILE", "gGh", 2, 2, false,
+     "Shows a file as text, to its first 1AH.\n"
+     "A record before that which was never written is an error, but not with --gaps zero.",
+     type},
+    {"put", "IMAGE IN [FILE]", "gtRh", 2, 3, true,
+     "Copies a file of this machine to the disk, whole or not at all.\n"
+     "Without FILE it keeps its name, in capitals; - is standard input. One that is there is replaced only with --replace, and\n"
+     "stays a system file if it was one. The last record is filled up with zeros, or with 1AH as text.",
+     put},
+    {"rename", "IMAGE FILE NEW", "gh", 3, 3, true, "Gives a file another name.", rename_file},
+    {"erase", "IMAGE PATTERN", "gh", 2, 2, true,
+     "Erases one user's files that match, all or none: a file that is read-only stops it.\n"
+     "In PATTERN ? stands for any character, and * for any rest of the name or of the type.",
+     erase},
+    {"attributes", "IMAGE FILE SIGN ..", "gh", 3, 6, true,
+     "Makes a file read-only (+r) or not (-r), and a system file (+s) or not (-s).\n"
+     "Options stand before IMAGE.",
+     attributes},
+    {"new", "IMAGE", "gh", 1, 1, true,
+     "Makes an empty disk; IMAGE must not be there yet.\n"
+     "Without a geometry that of 40960 bytes is taken.",
+     new_image},
+};
+const int COMMANDS_COUNT = sizeof COMMANDS / sizeof *COMMANDS;
+
+static const struct option LONG[] = {
+    {"geometry", required_argument, NULL, GEOMETRY}, {"user", required_argument, NULL, USER},
+    {"text", no_argument, NULL, TEXT},               {"replace", no_argument, NULL, REPLACE},
+    {"gaps", required_argument, NULL, GAPS},         {"help", no_argument, NULL, HELP},
+    {"version", no_argument, NULL, VERSION},         {NULL, 0, NULL, 0},
+};
+
+// An option that getopt_long does not take: unknown, or not as it is spelled.
+static _Noreturn void refuse_option(const char *word)
+{
+    if (option_spelled(optopt) != NULL)
+        wrong_use("it is: %s", option_spelled(optopt));
+    if (optopt != 0)
+        wrong_use("there is no option '-%c'", optopt);
+    wrong_use("there is no option '%s'", word);
+}
+
+// Takes the options of a command, or those before it; one that it does not have is wrong use. Hands back the place of the first
+// other word. Options before the command end with it, and the signs -r and -s of attributes are no options; other commands take
+// their options behind operands too.
+static int take_options(const struct command *command, int count, char **words, struct options *options)
+{
+    const char *about = command == NULL ? "churawel, before its command," : command->name;
+    const char *letters = command == NULL ? "ghV" : command->takes;
+    const char *text = command == NULL || command->run == attributes ? "+g:u:thV" : "g:u:thV";
+    opterr = 0;
+    optind = 0;
+    for (int letter; (letter = getopt_long(count, words, text, LONG, NULL)) != -1;) {
+        if (letter == '?')
+            refuse_option(words[optind - 1]);
+        if (strchr(letters, letter) == NULL)
+            wrong_use("%s has no option %s", about, option_spelled(letter));
+        switch (letter) {
+        case GEOMETRY: options->geometry = optarg; break;
+        case USER: options->user = user_of(optarg); break;
+        case TEXT: options->text = true; break;
+        case REPLACE: options->replace = true; break;
+        case GAPS: options->gaps = optarg; break;
+        case VERSION: show_version();
+        case HELP:
+            if (command == NULL)
+                show_help();
+            show_command_help(command);
+        }
+    }
+    return optind;
+}
+
+static const struct command *command_of(const char *word)
+{
+    for (int k = 0; k < COMMANDS_COUNT; k++)
+        if (strcmp(COMMANDS[k].name, word) == 0)
+            return &COMMANDS[k];
+    wrong_use("there is no command '%s'", word);
+}
+
+// Standard input, output and error are there, so that no other file takes their numbers.
+static void hold_standard_files(void)
+{
+    int file = 0;
+    while (file >= 0 && file <= STDERR_FILENO)
+        file = open("/dev/null", O_RDWR);
+    if (file >= 0)
+        close(file);
+}
+
+// What could not be printed is a refusal, but of a command that has changed the image: that is done.
+static int ended(const struct command *command)
+{
+    if (fflush(stdout) == 0 && !ferror(stdout))
+        return DONE;
+    if (!command->changes)
+        refuse("standard output can't be written");
+    note("it is done, but standard output can't be written");
+    return DONE;
+}
+
+int main(int count, char **words)
+{
+    struct options options = {NULL, NULL, ANY_USER, false, false};
+    hold_standard_files();
+    int at = take_options(NULL, count, words, &options);
+    if (at >= count)
+        wrong_use("a command is missing");
+    const struct command *command = command_of(words[at]);
+    count -= at;
+    words += at;
+    at = take_options(command, count, words, &options);
+    if (count - at < command->least || count - at > command->most)
+        wrong_use("it is: churawel %s %s", command->name, command->operands);
+    command->run(&options, words + at, count - at);
+    return ended(command);
+}
