@@ -8,10 +8,13 @@
 #include <string.h>
 #include <unistd.h>
 
+#define PATTERN_WORDS \
+    "In PATTERN ? stands for any character, and * for the rest of the name or of the type; SIG*.* is each file whose name begins with SIG."
+
 const struct command COMMANDS[] = {
     {"list", "IMAGE [PATTERN]", "guh", 1, 2, false,
      "Lists the files of every user: user, name, records, bytes, blocks, attributes; then the free blocks.\n"
-     "In PATTERN ? stands for any character, and * for any rest of the name or of the type.",
+     PATTERN_WORDS,
      list},
     {"check", "IMAGE", "gh", 1, 1, false,
      "Says whether the disk is sound; if not, the first bad slot of its directory, its file, and what is wrong with it.", check},
@@ -32,7 +35,7 @@ const struct command COMMANDS[] = {
     {"rename", "IMAGE FILE NEW", "gh", 3, 3, true, "Gives a file another name.", rename_file},
     {"erase", "IMAGE PATTERN", "gh", 2, 2, true,
      "Erases one user's files that match, all or none: a file that is read-only stops it.\n"
-     "In PATTERN ? stands for any character, and * for any rest of the name or of the type.",
+     PATTERN_WORDS,
      erase},
     {"attributes", "IMAGE FILE SIGN ..", "gh", 3, 6, true,
      "Makes a file read-only (+r) or not (-r), and a system file (+s) or not (-s).\n"
