@@ -31,7 +31,7 @@ extern "C" {
 
 /*
  * The two halves of an answer: its number, and a log-in's count of free blocks or its lowest bad slot, or of several records
- * how many were done.
+ * how many were done, or of a cut how many stores were made.
  */
 #define CHURAWEL_NUMBER(answer) ((answer) & 0xFFFFu)
 #define CHURAWEL_VALUE(answer) ((answer) >> 16)
@@ -113,6 +113,21 @@ uint32_t churawel_call(
     uint8_t *volume, size_t volume_bytes,
     uint8_t *fcb, size_t fcb_bytes,
     uint8_t *buffer, size_t buffer_bytes);
+
+/*
+ * Does one call with at most so many stores, and leaves what a crash would: to try what is on the disk if the emulator is
+ * closed halfway. A changing call (19, 21, 22, 23, 30, 34, 40, 221) stores whole records of 128 bytes, data records first and
+ * then directory records in rising order, 221 as its single writes one after another; any other function stores nothing. The
+ * number is the call's refusal, 0 where it is not refused (also where 221 stops after its first record), and the value is how
+ * many stores were made. The machine is gone: the drive becomes 64 zero bytes, after a refusal too, and control block and
+ * buffer stay as they are. A drive of another length: 32, and nothing changes.
+ */
+uint32_t churawel_cut(
+    uint32_t most, uint8_t function, uint8_t parameter,
+    uint8_t *drive, size_t drive_bytes,
+    uint8_t *volume, size_t volume_bytes,
+    const uint8_t *fcb, size_t fcb_bytes,
+    const uint8_t *buffer, size_t buffer_bytes);
 
 /*
  * Log-in's answer, with no drive left, and why: 0 with the number of free blocks, 32, 33, or 36 with the lowest bad slot.

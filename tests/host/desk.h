@@ -133,6 +133,7 @@ void malformed_drives(void);
 void typing(void);
 void why_bad(void);
 void each_line(void);
+void cut_calls(void);
 void stack_used(void);
 
 #endif

@@ -187,20 +187,27 @@ def difference(has, wants):
     return ""
 
 
-LOG_IN, CALL, FAULT, FILE = (signature(f"churawel_{name}") for name in ("log_in", "call", "fault", "file"))
+LOG_IN, CALL, CUT, FAULT, FILE = (signature(f"churawel_{name}") for name in ("log_in", "call", "cut", "fault", "file"))
 
 # What is wrong, the text to alter (there once), what it becomes, and the case that must find it.
 WRONG = [
-    ("a byte that is 32 bits wide", r"uint8_t parameter", "uint32_t parameter", CALL),
-    ("a length of 32 bits", r"size_t fcb_bytes", "uint32_t fcb_bytes", CALL),
+    ("a byte that is 32 bits wide", r"(_call\([^;]*)uint8_t parameter", r"\1uint32_t parameter", CALL),
+    ("a length of 32 bits", r"(_call\([^;]*)size_t fcb_bytes", r"\1uint32_t fcb_bytes", CALL),
     ("a result of 16 bits", r"uint32_t churawel_log_in", "uint16_t churawel_log_in", LOG_IN),
     ("a lent slice that is not const", r"(?s)(\w+_log_in\(.*?)const (uint8_t \*volume)", r"\1\2", LOG_IN),
-    ("a changed slice that is const", r"uint8_t \*buffer", "const uint8_t *buffer", CALL),
+    ("a changed slice that is const", r"(_call\([^;]*)(uint8_t \*buffer)", r"\1const \2", CALL),
     ("two numbers in the other order", r"(?s)(\w+_log_in\(\s*)(uint32_t \w+), (uint32_t \w+)", r"\1\3, \2", LOG_IN),
     ("two slices in the other order", r"(uint8_t \*fcb.*),(\s*)(uint8_t \*buffer, \w+ \w+)", r"\3,\2\1", CALL),
-    ("a length before its pointer", r"(uint8_t \*buffer), (size_t buffer_bytes)", r"\2, \1", CALL),
-    ("a parameter that is missing", r"uint8_t function, (?=uint8_t)", "", CALL),
-    ("a parameter too many", r"uint8_t function, (?=uint8_t)", "uint8_t function, uint8_t drive_code, ", CALL),
+    ("a length before its pointer", r"(_call\([^;]*)(uint8_t \*buffer), (size_t buffer_bytes)", r"\1\3, \2", CALL),
+    ("a parameter that is missing", r"(_call\(\s*)uint8_t function, ", r"\1", CALL),
+    ("a parameter too many", r"(_call\(\s*uint8_t function, )", r"\1uint8_t drive_code, ", CALL),
+    ("a cut's most stores in 16 bits", r"uint32_t most", "uint16_t most", CUT),
+    ("a cut without its most stores", r"uint32_t most, ", "", CUT),
+    ("a cut's most stores behind the function", r"(uint32_t most), (uint8_t function)(?=, uint8_t p)", r"\2, \1", CUT),
+    ("a cut that changes the control block", r"const (uint8_t \*fcb)", r"\1", CUT),
+    ("a cut that changes the buffer", r"const (uint8_t \*buffer)", r"\1", CUT),
+    ("a cut that leaves the drive", r"(_cut\([^;]*)(uint8_t \*drive)", r"\1const \2", CUT),
+    ("a cut that leaves the volume", r"(_cut\([^;]*)(uint8_t \*volume)", r"\1const \2", CUT),
     ("a fault that is not changed", r"(uint8_t \*fault)", r"const \1", FAULT),
     ("a fault without its length", r", size_t fault_bytes", "", FAULT),
     ("a drive that is not const", r"const (uint8_t \*drive)", r"\1", FILE),

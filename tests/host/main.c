@@ -16,6 +16,7 @@ int main(void)
     typing();
     why_bad();
     each_line();
+    cut_calls();
     stack_used();
     return summary() == 0 ? 0 : 1;
 }

@@ -25,6 +25,12 @@ static void call_there(void)
     churawel_call(asked, parameter, drive, sizeof drive, volume, sizeof volume, fcb, sizeof fcb, buffer, bytes);
 }
 
+static void cut_there(void)
+{
+    size_t bytes = asked >= 220 ? sizeof buffer : RECORD;
+    churawel_cut(UINT32_MAX, asked, parameter, drive, sizeof drive, volume, sizeof volume, fcb, sizeof fcb, buffer, bytes);
+}
+
 static void fault_there(void)
 {
     churawel_fault(B, T, D, volume, sizeof volume, buffer, CHURAWEL_FAULT_BYTES);
@@ -97,6 +103,16 @@ void stack_used(void)
     }
     snprintf(what, sizeof what, "and so does each function: %zu bytes at most", most);
     verdict(what, most < PROMISED);
+    size_t cut = 0;
+    for (size_t i = 0; i < COUNT(functions); i++) {
+        start();
+        asked = functions[i];
+        parameter = asked >= 220 ? PIECES : 0;
+        size_t used = used_by(cut_there);
+        cut = used > cut ? used : cut;
+    }
+    snprintf(what, sizeof what, "and so does each function that is cut: %zu bytes at most", cut);
+    verdict(what, cut < PROMISED);
     volume[(SLOTS - 1) * ENTRY + 15] = 129;
     size_t told = used_by(fault_there);
     start();

@@ -1,2 +1,4 @@
--- A number that is not served, evaluated.
+-- A number that is not served, evaluated; and the door with a number of stores.
 pub mod Examples
+pub mod LentLaws
+pub mod DoorLaws

@@ -1,16 +1,16 @@
 // Delete: the tests that look at the directory, and the blocks of the entries that match.
 ghost use mathlib.Core.Path.{_≡_};
 ghost use mathlib.Core.Bool.{cond};
-ghost use mathlib.Core.List.{[]};
-ghost use Prim.Native.Nat.{_<_, _≤_};
+ghost use Prim.Native.Nat.{_-_, _<_, _≤_};
+ghost use lib.ListN.{length};
 ghost use Rattle.disk_volume.specs.declared.Wanted.the-variants.{Match};
 ghost use Rattle.disk_geometry.specs.Geometry.{slots, places};
 ghost use Rattle.disk_volume.specs.Name.{strip};
-ghost use Rattle.disk_volume.specs.Directory.{findSlot, mapSlots};
+ghost use Rattle.disk_volume.specs.Directory.{findSlot};
 ghost use Rattle.disk_volume.specs.CodeLent.{IsVolume, VolumeAnd, IsName, IsEntry};
 ghost use Rattle.call_answers.specs.Refusal.{isNone, first, firstMet};
-ghost use Rattle.call_sweep.specs.declared.Edit.the-variants.{Erase};
-ghost use Rattle.call_sweep.specs.CodeEdit.{lentChange};
+ghost use Rattle.disk_stores.specs.Stores.{cut};
+ghost use Rattle.call_sweep.specs.CodeEdit.{eraseStores};
 ghost use Rattle.call_delete.specs.Delete.{deleteTests, freePlace, freeEntry, freeSlot, freeMatches};
 use call_answers::Refusal;
 use call_sweep::Edit;
@@ -123,7 +123,8 @@ fn free_matches(
     rest
 }
 
-// Deletes the entries that match and frees their blocks; or refuses, by an earlier refusal first, and alters nothing.
+// Deletes the entries that match, as long as a store is left, and frees their blocks; or refuses, by an earlier refusal
+// first, and alters nothing.
 pub fn delete_matches(
     g: Geometry,
     volume: &mut [u8],
@@ -131,6 +132,7 @@ pub fn delete_matches(
     pattern: &[u8],
     held: [u64; 4],
     before: Refusal,
+    left: &mut usize,
 ) -> Deleted
     requires { ⌜ VolumeAnd g (now volume) (IsName (now pattern)) ⌝ }
     ensures { λ r. ⌜
@@ -146,8 +148,14 @@ pub fn delete_matches(
     ensures { λ r. ⌜
         now (volume .exit)
         ≡ cond (isNone (r .why))
-        (mapSlots g (lentChange Erase user (now (pattern .entry)) []) (now (volume .entry)))
+        (cut g (now (volume .entry)) (now (left .entry)) (eraseStores g user (now (pattern .entry)) (now (volume .entry))))
         (now (volume .entry))
+        ⌝ }
+    ensures { λ r. ⌜
+        now (left .exit)
+        ≡ cond (isNone (r .why))
+        (now (left .entry) - length (eraseStores g user (now (pattern .entry)) (now (volume .entry))))
+        (now (left .entry))
         ⌝ }
 {
     let first = directory::find(g, volume, user, pattern, Wanted::Match);
@@ -156,6 +164,6 @@ pub fn delete_matches(
         return Deleted { why, held };
     }
     let rest = free_matches(g, volume, first, user, pattern, held);
-    call_sweep::change_all(g, volume, first, user, pattern, pattern, Edit::Erase);
+    call_sweep::change_most(g, volume, first, user, pattern, pattern, Edit::Erase, left);
     Deleted { why, held: rest }
 }

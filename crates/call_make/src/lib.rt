@@ -1,12 +1,13 @@
 // Make: the tests of the control block and of the directory, the new entry, and the call itself.
 ghost use mathlib.Core.Path.{_≡_};
 ghost use mathlib.Core.Bool.{true, cond};
-ghost use Prim.Native.Nat.{_<_};
+ghost use Prim.Native.Nat.{_-_, _<_};
 ghost use Rattle.disk_volume.specs.declared.Wanted.the-variants.{Empty};
 ghost use Rattle.disk_geometry.specs.Geometry.{slots};
 ghost use Rattle.disk_volume.specs.Name.{strip, nameOf};
-ghost use Rattle.disk_volume.specs.Directory.{findSlot, putSlot};
+ghost use Rattle.disk_volume.specs.Directory.{findSlot};
 ghost use Rattle.disk_volume.specs.CodeLent.{VolumeAnd, IsName, IsFcb};
+ghost use Rattle.disk_stores.specs.Stores.{cut, entryStores};
 ghost use Rattle.call_fcb.specs.Fcb.{made};
 ghost use Rattle.call_answers.specs.Refusal.{isNone, first, firstMet};
 ghost use Rattle.call_make.specs.Make.{makeTests, freshEntry};
@@ -66,9 +67,16 @@ pub fn fresh_entry(user: u8, name: &[u8]) -> [u8; Geometry::ENTRY_BYTES]
     e
 }
 
-// Makes the file of the control block's name: its entry in the lowest empty slot, and the control block; or refuses, by
-// an earlier refusal first, and alters nothing.
-pub fn make_file(g: Geometry, volume: &mut [u8], fcb: &mut [u8], user: u8, before: Refusal) -> Made
+// Makes the file of the control block's name: its entry in the lowest empty slot, if a store is left, and the control
+// block; or refuses, by an earlier refusal first, and alters nothing.
+pub fn make_file(
+    g: Geometry,
+    volume: &mut [u8],
+    fcb: &mut [u8],
+    user: u8,
+    before: Refusal,
+    left: &mut usize,
+) -> Made
     requires { ⌜ VolumeAnd g (now volume) (IsFcb (now fcb)) ⌝ }
     ensures { λ r. ⌜
         r .why
@@ -78,7 +86,8 @@ pub fn make_file(g: Geometry, volume: &mut [u8], fcb: &mut [u8], user: u8, befor
     ensures { λ r. ⌜
         now (volume .exit)
         ≡ cond (isNone (r .why))
-        (putSlot g (now (volume .entry)) (r .slot) (freshEntry user (nameOf (now (fcb .entry)))))
+        (cut g (now (volume .entry)) (now (left .entry))
+        (entryStores g (now (volume .entry)) (r .slot) (freshEntry user (nameOf (now (fcb .entry))))))
         (now (volume .entry))
         ⌝ }
     ensures { λ r. ⌜
@@ -87,6 +96,7 @@ pub fn make_file(g: Geometry, volume: &mut [u8], fcb: &mut [u8], user: u8, befor
         (made (now (fcb .entry)) (nameOf (now (fcb .entry))))
         (now (fcb .entry))
         ⌝ }
+    ensures { λ r. ⌜ now (left .exit) ≡ cond (isNone (r .why)) (now (left .entry) - 1) (now (left .entry)) ⌝ }
 {
     let mut name = [0u8; fields::NAME_BYTES];
     call_sweep::lay_name(&mut name, &fcb[fields::NAME..fields::NAME_END]);
@@ -94,7 +104,7 @@ pub fn make_file(g: Geometry, volume: &mut [u8], fcb: &mut [u8], user: u8, befor
     let why = plan.why;
     if call_answers::is_none(why) {
         let e = fresh_entry(user, &name);
-        directory::put_slot(g, volume, plan.slot, &e);
+        disk_stores::put_slot(g, volume, plan.slot, &e, left);
         call_fcb::set_made(fcb, &name);
     }
     plan

@@ -1,15 +1,17 @@
 // Rename and attributes: the tests of the new name and of the directory, and the changes in the file's entries.
 ghost use mathlib.Core.Path.{_≡_};
 ghost use mathlib.Core.Bool.{cond};
-ghost use Prim.Native.Nat.{_≤_};
+ghost use Prim.Native.Nat.{_-_, _≤_};
+ghost use lib.ListN.{length};
 ghost use Rattle.disk_geometry.specs.Geometry.{slots};
 ghost use Rattle.disk_volume.specs.declared.Wanted.the-variants.{File};
 ghost use Rattle.disk_volume.specs.Name.{strip};
-ghost use Rattle.disk_volume.specs.Directory.{findSlot, mapSlots};
+ghost use Rattle.disk_volume.specs.Directory.{findSlot};
 ghost use Rattle.disk_volume.specs.CodeLent.{IsVolume, VolumeAnd, IsName, IsFcb};
+ghost use Rattle.disk_stores.specs.Stores.{cut};
 ghost use Rattle.call_answers.specs.Refusal.{isNone, first, firstMet};
 ghost use Rattle.call_sweep.specs.declared.Edit.the-variants.{Rename, Attributes};
-ghost use Rattle.call_sweep.specs.CodeEdit.{lentChange};
+ghost use Rattle.call_sweep.specs.CodeEdit.{editStores};
 ghost use Rattle.call_rename.specs.Rename.{renameTests, attributeTests};
 ghost use Rattle.call_rename.specs.CodeNewName.{newNameTests};
 use call_answers::Refusal;
@@ -61,7 +63,8 @@ fn rename_why(
     call_answers::first_of(no_match, call_answers::first_of(read_only, exists))
 }
 
-// Gives all entries of the file the new name; or refuses, by an earlier refusal first, and alters nothing.
+// Gives all entries of the file the new name, as long as a store is left; or refuses, by an earlier refusal first, and
+// alters nothing.
 pub fn rename_file(
     g: Geometry,
     volume: &mut [u8],
@@ -69,6 +72,7 @@ pub fn rename_file(
     name: &[u8],
     new: &[u8],
     before: Refusal,
+    left: &mut usize,
 ) -> Refusal
     requires { ⌜ IsVolume g (now volume) ⌝ }
     requires { ⌜ IsName (now name) × IsName (now new) ⌝ }
@@ -80,26 +84,35 @@ pub fn rename_file(
     ensures { λ r. ⌜
         now (volume .exit)
         ≡ cond (isNone r)
-        (mapSlots g (lentChange Rename user (now (name .entry)) (now (new .entry))) (now (volume .entry)))
+        (cut g (now (volume .entry)) (now (left .entry))
+        (editStores g Rename user (now (name .entry)) (now (new .entry)) (now (volume .entry))))
         (now (volume .entry))
+        ⌝ }
+    ensures { λ r. ⌜
+        now (left .exit)
+        ≡ cond (isNone r)
+        (now (left .entry)
+        - length (editStores g Rename user (now (name .entry)) (now (new .entry)) (now (volume .entry))))
+        (now (left .entry))
         ⌝ }
 {
     let first = directory::find(g, volume, user, name, Wanted::File);
     let why = call_answers::first_of(before, rename_why(g, volume, first, user, name, new));
     if call_answers::is_none(why) {
-        call_sweep::change_all(g, volume, first, user, name, new, Edit::Rename);
+        call_sweep::change_most(g, volume, first, user, name, new, Edit::Rename, left);
     }
     why
 }
 
-// Gives all entries of the file the attribute bits of the name's bytes; or refuses, by an earlier refusal first, and
-// alters nothing.
+// Gives all entries of the file the attribute bits of the name's bytes, as long as a store is left; or refuses, by an
+// earlier refusal first, and alters nothing.
 pub fn attribute_file(
     g: Geometry,
     volume: &mut [u8],
     user: u8,
     name: &[u8],
     before: Refusal,
+    left: &mut usize,
 ) -> Refusal
     requires { ⌜ VolumeAnd g (now volume) (IsName (now name)) ⌝ }
     ensures { λ r. ⌜
@@ -109,15 +122,23 @@ pub fn attribute_file(
     ensures { λ r. ⌜
         now (volume .exit)
         ≡ cond (isNone r)
-        (mapSlots g (lentChange Attributes user (now (name .entry)) (now (name .entry))) (now (volume .entry)))
+        (cut g (now (volume .entry)) (now (left .entry))
+        (editStores g Attributes user (now (name .entry)) (now (name .entry)) (now (volume .entry))))
         (now (volume .entry))
+        ⌝ }
+    ensures { λ r. ⌜
+        now (left .exit)
+        ≡ cond (isNone r)
+        (now (left .entry)
+        - length (editStores g Attributes user (now (name .entry)) (now (name .entry)) (now (volume .entry))))
+        (now (left .entry))
         ⌝ }
 {
     let first = directory::find(g, volume, user, name, Wanted::File);
     let no_match = call_answers::refuse(Refusal::NoMatch, g.slots() <= first);
     let why = call_answers::first_of(before, no_match);
     if call_answers::is_none(why) {
-        call_sweep::change_all(g, volume, first, user, name, name, Edit::Attributes);
+        call_sweep::change_most(g, volume, first, user, name, name, Edit::Attributes, left);
     }
     why
 }

@@ -1,2 +1,2 @@
--- The stores of a write, as code lays them.
-pub mod CodeStores
+-- The stores of a write.
+pub mod Stores

@@ -13,7 +13,7 @@ use Rattle.disk_geometry.specs.declared.Geometry.{Geometry}
 use Rattle.disk_volume.specs.Name.{strip}
 use Rattle.disk_volume.specs.Entry.{Entry, ofFile, matches}
 use Rattle.disk_volume.specs.Directory.{fits}
-use Rattle.call_sweep.specs.CodeRecords.{mapPiece}
+use Rattle.disk_stores.specs.Pieces.{mapPiece}
 use Rattle.disk_volume.proofs.NameLaws.{length-strip}
 use Rattle.call_sweep.specs.declared.Edit.{Edit}
 use Rattle.call_sweep.specs.declared.Edit.the-variants.{Erase, Rename, Attributes}
@@ -81,18 +81,24 @@ pub changed-same : (g : Geometry) (edit : Edit) (u : ℕ) (name new : List ℕ) 
 changed-same g edit u name new e h = rw (changed-is g edit u name new e, h)
 
 -- ---- lengths
-renamed-length : (e : Entry) (new : List ℕ) → length e ≡ 32 → length new ≡ 11 → length (renamed e new) ≡ 32
+pub renamed-length : (new : List ℕ) → length new ≡ 11 → (e : Entry) → length e ≡ 32 → length (renamed e new) ≡ 32
 unfolding renamed
-renamed-length e new d h =
+renamed-length new h e d =
     let n : length (strip (take 8 new)) ≡ 8 = length-strip (take 8 new) ∙ length-take-le 8 new (omega arith) in
     let f : 1 + 11 ≤ length e = omega arith in
     length-put e 1 11 f (strip (take 8 new) ++ (withTopBit (byte new 8) (byte e 9) ∷ withTopBit (byte new 9) (byte e 10) ∷ byte new 10 % 128 ∷ [])) (simp length-append (omega arith)) ∙ d
 
-edited-length : (edit : Edit) (new : List ℕ) (e : Entry) → length new ≡ 11 → length e ≡ 32 → length (edited edit new e) ≡ 32
+pub erased-length : (e : Entry) → length e ≡ 32 → length (erased e) ≡ 32
+erased-length e d = simp length-set d
+
+pub attributed-length : (new : List ℕ) (e : Entry) → length e ≡ 32 → length (attributed e new) ≡ 32
 unfolding attributed
-edited-length Erase new e h d = simp length-set d
-edited-length Rename new e h d = renamed-length e new d h
-edited-length Attributes new e h d = simp length-set d
+attributed-length new e d = simp length-set d
+
+pub edited-length : (edit : Edit) (new : List ℕ) → length new ≡ 11 → (e : Entry) → length e ≡ 32 → length (edited edit new e) ≡ 32
+edited-length Erase new h e d = erased-length e d
+edited-length Rename new h e d = renamed-length new h e d
+edited-length Attributes new h e d = attributed-length new e d
 
 either : (t : Bool) (a b : Entry) → length a ≡ 32 → length b ≡ 32 → length (cond t a b) ≡ 32
 either true a b x y = x
@@ -100,9 +106,9 @@ either false a b x y = y
 
 pub changed-keeps : (edit : Edit) (u : ℕ) (name new : List ℕ) → length new ≡ 11 → (e : Entry) → length e ≡ 32 → length (changed edit u name new e) ≡ 32
 unfolding changed
-changed-keeps Erase u name new h e d = either (matches u name e) (erased e) e (edited-length Erase new e h d) d
-changed-keeps Rename u name new h e d = either (ofFile u name e) (renamed e new) e (edited-length Rename new e h d) d
-changed-keeps Attributes u name new h e d = either (ofFile u name e) (attributed e new) e (edited-length Attributes new e h d) d
+changed-keeps Erase u name new h e d = either (matches u name e) (erased e) e (edited-length Erase new h e d) d
+changed-keeps Rename u name new h e d = either (ofFile u name e) (renamed e new) e (edited-length Rename new h e d) d
+changed-keeps Attributes u name new h e d = either (ofFile u name e) (attributed e new) e (edited-length Attributes new h e d) d
 
 -- ---- a piece of a record, lent as `&mut sector[at..at + 32]`
 -- what came back is the piece changed

@@ -1,16 +1,19 @@
 // The sweep over the directory, from one entry that is meant to the next: entries are changed in a copy of their record, which
-// is stored whole. A record that holds no such entry is not touched.
+// is stored whole. A record that holds no such entry is not stored.
 ghost use mathlib.Core.Path.{_≡_};
 ghost use mathlib.Core.Bool.{true};
-ghost use Prim.Native.Nat.{_*_, _<_};
+ghost use mathlib.Core.List.{[], _∷_};
+ghost use Prim.Native.Nat.{_-_, _≤_, _<_};
 ghost use lib.ListN.{length};
-ghost use Rattle.disk_geometry.specs.Geometry.{lawful, records, directoryBlocks};
+ghost use Rattle.lists.specs.Bytes.{part};
+ghost use Rattle.disk_geometry.specs.Geometry.{lawful, start, slots, recordBytes};
 ghost use Rattle.disk_volume.specs.Name.{strip};
-ghost use Rattle.disk_volume.specs.Directory.{findSlot, mapSlots};
+ghost use Rattle.disk_volume.specs.Directory.{findSlot, findFrom};
 ghost use Rattle.disk_volume.specs.CodeLent.{IsVolume, VolumeAnd, IsName, IsEntry, IsRecord};
-ghost use Rattle.call_sweep.specs.CodeRecords.{mapPieces, mapRecord};
+ghost use Rattle.disk_stores.specs.Pieces.{mapPieces};
+ghost use Rattle.disk_stores.specs.Stores.{store, cut, directoryRecords};
 ghost use Rattle.call_sweep.specs.Sweep.{withTopBit, renamed, attributed};
-ghost use Rattle.call_sweep.specs.CodeEdit.{meant, edited, lentChange};
+ghost use Rattle.call_sweep.specs.CodeEdit.{meant, edited, lentChange, editStores};
 use disk_geometry::Geometry;
 use disk_volume::Wanted;
 use disk_volume::directory;
@@ -96,7 +99,7 @@ fn edit_entry(e: &mut [u8], new: &[u8], edit: Edit)
 fn change_one(g: Geometry, e: &mut [u8], user: u8, name: &[u8], new: &[u8], edit: Edit)
     requires { ⌜ (lawful g ≡ true) × IsEntry (now e) ⌝ }
     requires { ⌜ IsName (now name) × IsName (now new) ⌝ }
-    ensures { λ _. ⌜ now (e .exit) ≡ lentChange edit user (now (name .entry)) (now (new .entry)) (now (e .entry)) ⌝ }
+    ensures { λ _. ⌜ now (e .exit) ≡ lentChange g edit user (now (name .entry)) (now (new .entry)) (now (e .entry)) ⌝ }
 {
     let wanted = meant(edit);
     if entry::has(g, e, user, name, wanted) {
@@ -110,7 +113,7 @@ fn change_four(g: Geometry, sector: &mut [u8], user: u8, name: &[u8], new: &[u8]
     requires { ⌜ IsName (now name) × IsName (now new) ⌝ }
     ensures { λ _. ⌜
         now (sector .exit)
-        ≡ mapPieces (lentChange edit user (now (name .entry)) (now (new .entry))) (now (sector .entry))
+        ≡ mapPieces (lentChange g edit user (now (name .entry)) (now (new .entry))) (now (sector .entry))
         ⌝ }
 {
     let mut k = 0;
@@ -128,7 +131,7 @@ fn change_four(g: Geometry, sector: &mut [u8], user: u8, name: &[u8], new: &[u8]
     }
 }
 
-// Changes the entries of directory record r, which is stored whole.
+// Changes the entries of directory record r, which is stored whole if a store is left.
 fn change_record(
     g: Geometry,
     volume: &mut [u8],
@@ -137,23 +140,46 @@ fn change_record(
     name: &[u8],
     new: &[u8],
     edit: Edit,
+    left: &mut usize,
 )
-    requires { ⌜ VolumeAnd g (now volume) (r < directoryBlocks g * records g) ⌝ }
+    requires { ⌜ VolumeAnd g (now volume) (r < directoryRecords g) ⌝ }
     requires { ⌜ IsName (now name) × IsName (now new) ⌝ }
     ensures { λ _. ⌜
         now (volume .exit)
-        ≡ mapRecord g (lentChange edit user (now (name .entry)) (now (new .entry))) (now (volume .entry)) r
+        ≡ cut g (now (volume .entry)) (now (left .entry))
+        (store r
+        (mapPieces (lentChange g edit user (now (name .entry)) (now (new .entry)))
+        (part (now (volume .entry)) (start g r) recordBytes))
+        ∷ [])
         ⌝ }
+    ensures { λ _. ⌜ now (left .exit) ≡ now (left .entry) - 1 ⌝ }
 {
     let at = g.start(r);
     let mut sector = [0u8; Geometry::RECORD_BYTES];
     lists::copy(&mut sector, &volume[at..at + Geometry::RECORD_BYTES]);
     change_four(g, &mut sector, user, name, new, edit);
-    lists::copy(&mut volume[at..at + Geometry::RECORD_BYTES], &sector);
+    disk_stores::store_record(g, volume, r, &sector, left);
 }
 
-// Makes the edit in every entry of the directory that it is meant for, from the first of them on.
-pub fn change_all(
+// The lowest slot from `from` on that the edit is meant for. Each edit has a search of its own, so that what is meant is not asked
+// again at every slot.
+fn next_meant(g: Geometry, volume: &[u8], from: usize, user: u8, name: &[u8], edit: Edit) -> usize
+    requires { ⌜ IsVolume g (now volume) ⌝ }
+    requires { ⌜ (from ≤ slots g) × IsName (now name) ⌝ }
+    ensures { λ r. ⌜
+        (r ≡ findFrom g (now (volume .entry)) user (strip (now (name .entry))) (meant edit) from) × (r ≤ slots g)
+        ⌝ }
+{
+    match edit {
+        Edit::Erase => directory::find_from(g, volume, from, user, name, Wanted::Match),
+        Edit::Rename => directory::find_from(g, volume, from, user, name, Wanted::File),
+        Edit::Attributes => directory::find_from(g, volume, from, user, name, Wanted::File),
+    }
+}
+
+// Makes the edit in every entry of the directory that it is meant for, from the first of them on, as long as a store is
+// left.
+pub fn change_most(
     g: Geometry,
     volume: &mut [u8],
     first: usize,
@@ -161,28 +187,34 @@ pub fn change_all(
     name: &[u8],
     new: &[u8],
     edit: Edit,
+    left: &mut usize,
 )
     requires { ⌜ IsVolume g (now volume) ⌝ }
     requires { ⌜ IsName (now name) × IsName (now new) ⌝ }
     requires { ⌜ first ≡ findSlot g (now volume) user (strip (now name)) (meant edit) ⌝ }
     ensures { λ _. ⌜
         now (volume .exit)
-        ≡ mapSlots g (lentChange edit user (now (name .entry)) (now (new .entry))) (now (volume .entry))
+        ≡ cut g (now (volume .entry)) (now (left .entry))
+        (editStores g edit user (now (name .entry)) (now (new .entry)) (now (volume .entry)))
+        ⌝ }
+    ensures { λ _. ⌜
+        now (left .exit)
+        ≡ now (left .entry)
+        - length (editStores g edit user (now (name .entry)) (now (new .entry)) (now (volume .entry)))
         ⌝ }
 {
-    let wanted = meant(edit);
     let slots = g.slots();
     let mut i = first;
     while i < slots {
         let r = i / Geometry::RECORD_SLOTS;
-        change_record(g, volume, r, user, name, new, edit);
-        i = directory::find_from(
+        change_record(g, volume, r, user, name, new, edit, left);
+        i = next_meant(
             g,
             volume,
             Geometry::RECORD_SLOTS * (r + 1),
             user,
             name,
-            wanted,
+            edit,
         );
     }
 }

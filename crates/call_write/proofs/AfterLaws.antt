@@ -26,11 +26,21 @@ use Rattle.call_entry.specs.Grown.{likeEntry, grown}
 use Rattle.call_entry.proofs.GrowLaws.{length-like, head-like, like-extent, grown-extent, grown-counts, head-written, written-extent, written-count, written-block}
 use Rattle.call_entry.proofs.HeadLaws.{head-ofFile}
 use Rattle.call_store.proofs.FillLaws.{putFilled-length, record-putFilled, record-putFilled-within, record-putFilled-other, slot-putFilled, byte-putFilled}
-use Rattle.call_decide.specs.Write.{hasGroup, writeSlot, baseEntry, fillsBlock, writeBlock, entryAfter, writeTests}
-use Rattle.call_write.specs.CodeAfter.{volumeAfter}
+use Rattle.call_decide.specs.Write.{hasGroup, writeSlot, baseEntry, needsBlock, fillsBlock, writeBlock, entryAfter, writeTests}
+use Rattle.disk_stores.specs.Stores.{laid, recordStores, entryStores}
+use Rattle.disk_stores.proofs.LaidLaws.{laid-append, record-laid, entry-laid}
+use Rattle.call_write.specs.Write.{writeStores, holdIf}
 use Rattle.lists.proofs.BoolLaws.{and-left, and-right}
 use Rattle.disk_volume.proofs.FindLaws.{found-fits, found-first}
 use Rattle.call_decide.proofs.WriteLaws.{length-base, write-passed, length-entryAfter}
+
+-- the volume with all its stores laid down
+abbrev pub written : Geometry → List ℕ → List ℕ → ℕ → List ℕ → ℕ → Bool → List ℕ → List ℕ
+written g held v u name n fills r = laid g v (writeStores g held v u name n fills r)
+
+-- the blocks that are held then
+abbrev pub heldAfter : Geometry → List ℕ → List ℕ → ℕ → List ℕ → ℕ → List ℕ
+heldAfter g held v u name n = holdIf (needsBlock g v u name n) held (writeBlock g held v u name n)
 
 module _ (g : Geometry) (held v : List ℕ) (u : ℕ) (name : List ℕ) (n : ℕ) (good : lawful g ≡ true) (size : length v ≡ bytes g)
     (passed : isNone (firstMet (writeTests g held v u name n)) ≡ true) where
@@ -123,38 +133,47 @@ module _ (g : Geometry) (held v : List ℕ) (u : ℕ) (name : List ℕ) (n : ℕ
         putFilled-length g good (writeBlock g held v u name n) n (write-passed g held v u name n passed .block-high) r r128 v size (fillsBlock g v u name n fills)
         ∙ size
 
-    pub after-size : length (volumeAfter g held v u name n fills r) ≡ bytes g
+    -- all the stores laid down: the data, and then the entry
+    pub written-is : written g held v u name n fills r ≡ putSlot g data-laid (writeSlot g v u name n) (entryAfter g held v u name n)
+    written-is =
+        let b = writeBlock g held v u name n in
+        let t = fillsBlock g v u name n fills in
+        let ds = recordStores g t b n r in
+        laid-append g ds (entryStores g (laid g v ds) (writeSlot g v u name n) (entryAfter g held v u name n)) v
+        ∙ rw (record-laid g b n r t v) (entry-laid g good data-laid stored-size (writeSlot g v u name n) (write-passed g held v u name n passed .slot-in) (entryAfter g held v u name n))
+
+    pub after-size : length (written g held v u name n fills r) ≡ bytes g
     after-size =
-        putSlot-length g good data-laid stored-size (writeSlot g v u name n) (write-passed g held v u name n passed .slot-in)
+        ap length written-is ∙ putSlot-length g good data-laid stored-size (writeSlot g v u name n) (write-passed g held v u name n passed .slot-in)
         (entryAfter g held v u name n) after-32
         ∙ stored-size
 
-    pub after-slot : slotAt g (volumeAfter g held v u name n fills r) (writeSlot g v u name n) ≡ entryAfter g held v u name n
+    pub after-slot : slotAt g (written g held v u name n fills r) (writeSlot g v u name n) ≡ entryAfter g held v u name n
     after-slot =
-        slot-putSlot g good data-laid stored-size (writeSlot g v u name n) (write-passed g held v u name n passed .slot-in)
+        ap (λ (x : List ℕ). slotAt g x (writeSlot g v u name n)) written-is ∙ slot-putSlot g good data-laid stored-size (writeSlot g v u name n) (write-passed g held v u name n passed .slot-in)
         (entryAfter g held v u name n) after-32
 
-    pub after-slot-other : (j : ℕ) → j < slots g → j ≢ writeSlot g v u name n → slotAt g (volumeAfter g held v u name n fills r) j ≡ slotAt g v j
+    pub after-slot-other : (j : ℕ) → j < slots g → j ≢ writeSlot g v u name n → slotAt g (written g held v u name n fills r) j ≡ slotAt g v j
     after-slot-other j h ne =
         let p = write-passed g held v u name n passed in
-        slot-putSlot-other g good data-laid stored-size (writeSlot g v u name n) (p .slot-in) (entryAfter g held v u name n) after-32 j h ne
+        ap (λ (x : List ℕ). slotAt g x j) written-is ∙ slot-putSlot-other g good data-laid stored-size (writeSlot g v u name n) (p .slot-in) (entryAfter g held v u name n) after-32 j h ne
         ∙ slot-putFilled g good (writeBlock g held v u name n) n (p .block-high) r r128 v size (fillsBlock g v u name n fills) (p .block-low) j h
 
     -- the record's bytes, and those of every other
     entry-apart : (b m : ℕ) → g .«directory_blocks» ≤ b → b < g .blocks
-        → recordAt g (volumeAfter g held v u name n fills r) b m ≡ recordAt g data-laid b m
+        → recordAt g (written g held v u name n fills r) b m ≡ recordAt g data-laid b m
     entry-apart b m low high =
-        record-putSlot g good data-laid stored-size (writeSlot g v u name n) (write-passed g held v u name n passed .slot-in)
+        ap (λ (x : List ℕ). recordAt g x b m) written-is ∙ record-putSlot g good data-laid stored-size (writeSlot g v u name n) (write-passed g held v u name n passed .slot-in)
         (entryAfter g held v u name n) after-32 b m low high
 
-    pub after-record : recordAt g (volumeAfter g held v u name n fills r) (writeBlock g held v u name n) n ≡ r
+    pub after-record : recordAt g (written g held v u name n fills r) (writeBlock g held v u name n) n ≡ r
     after-record =
         let p = write-passed g held v u name n passed in
         entry-apart (writeBlock g held v u name n) n (p .block-low) (p .block-high)
         ∙ record-putFilled g good (writeBlock g held v u name n) n (p .block-high) r r128 v size (fillsBlock g v u name n fills)
 
     pub after-record-other : (b m : ℕ) → g .«directory_blocks» ≤ b → b < g .blocks → b ≢ writeBlock g held v u name n
-        → recordAt g (volumeAfter g held v u name n fills r) b m ≡ recordAt g v b m
+        → recordAt g (written g held v u name n fills r) b m ≡ recordAt g v b m
     after-record-other b m low high ne =
         entry-apart b m low high
         ∙ record-putFilled-other g good (writeBlock g held v u name n) n (write-passed g held v u name n passed .block-high) r r128 v size
@@ -162,7 +181,7 @@ module _ (g : Geometry) (held v : List ℕ) (u : ℕ) (name : List ℕ) (n : ℕ
 
     -- in the same block: zeros where it is filled
     pub after-record-within : (m : ℕ) → m % records g ≢ n % records g
-        → recordAt g (volumeAfter g held v u name n fills r) (writeBlock g held v u name n) m
+        → recordAt g (written g held v u name n fills r) (writeBlock g held v u name n) m
         ≡ cond (fillsBlock g v u name n fills) (replicate 128 0) (recordAt g v (writeBlock g held v u name n) m)
     after-record-within m ne =
         let p = write-passed g held v u name n passed in
@@ -171,11 +190,11 @@ module _ (g : Geometry) (held v : List ℕ) (u : ℕ) (name : List ℕ) (n : ℕ
 
     -- a byte outside the block is as if the entry alone were laid
     pub after-byte : (x : ℕ) → OffBlock g (writeBlock g held v u name n) x
-        → byte (volumeAfter g held v u name n fills r) x ≡ byte (putSlot g v (writeSlot g v u name n) (entryAfter g held v u name n)) x
+        → byte (written g held v u name n fills r) x ≡ byte (putSlot g v (writeSlot g v u name n) (entryAfter g held v u name n)) x
     unfolding putSlot
     after-byte x out =
         let p = write-passed g held v u name n passed in
-        byte-both data-laid v (slotStart g (writeSlot g v u name n)) 32 (entryAfter g held v u name n)
+        ap (λ (l : List ℕ). byte l x) written-is ∙ byte-both data-laid v (slotStart g (writeSlot g v u name n)) 32 (entryAfter g held v u name n)
         (slot-inside g good data-laid stored-size (writeSlot g v u name n) (p .slot-in))
         (slot-inside g good v size (writeSlot g v u name n) (p .slot-in)) after-32 x
         (byte-putFilled g good (writeBlock g held v u name n) n (p .block-high) r r128 v size (fillsBlock g v u name n fills) x out)
@@ -190,17 +209,17 @@ module _ (g : Geometry) (held v : List ℕ) (u : ℕ) (name : List ℕ) (n : ℕ
         go true q l s = l
         go false q l s = let m = ltb-false (recordSlot g v u name n) (slots g) q in omega arith
 
-    earlier : (i : ℕ) → i < writeSlot g v u name n → slotFits g (volumeAfter g held v u name n fills r) u name (Group k) i ≡ false
+    earlier : (i : ℕ) → i < writeSlot g v u name n → slotFits g (written g held v u name n fills r) u name (Group k) i ≡ false
     unfolding recordSlot
     earlier i h =
         let p = write-passed g held v u name n passed .slot-in in
         ap (ofGroup g u name k) (after-slot-other i (omega arith) (omega arith)) ∙ found-first g v u name (Group k) i (before-own i h)
 
-    pub after-recordSlot : recordSlot g (volumeAfter g held v u name n fills r) u name n ≡ writeSlot g v u name n
+    pub after-recordSlot : recordSlot g (written g held v u name n fills r) u name n ≡ writeSlot g v u name n
     unfolding recordSlot findSlot
     after-recordSlot =
         let p = write-passed g held v u name n passed .slot-in in
-        low-is (slotFits g (volumeAfter g held v u name n fills r) u name (Group k)) 0 (slots g) (writeSlot g v u name n)
+        low-is (slotFits g (written g held v u name n fills r) u name (Group k)) 0 (slots g) (writeSlot g v u name n)
         (record {
           from = omega arith;
           below = omega arith;
@@ -208,7 +227,7 @@ module _ (g : Geometry) (held v : List ℕ) (u : ℕ) (name : List ℕ) (n : ℕ
           first = λ i a b. earlier i b;
         })
 
-    pub after-present : present g (volumeAfter g held v u name n fills r) u name n ≡ true
+    pub after-present : present g (written g held v u name n fills r) u name n ≡ true
     unfolding present
     after-present =
         rw (after-recordSlot, after-slot, after-counted, lt-ltb (writeSlot g v u name n) (slots g) (write-passed g held v u name n passed .slot-in))

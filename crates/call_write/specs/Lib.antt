@@ -1,2 +1,2 @@
 -- What the write of a record leaves, as code leaves it.
-pub mod CodeAfter
+pub mod Write

@@ -1,14 +1,15 @@
 // The write of a record: decided first, by reading alone, and then carried out by stores with no test in between.
 ghost use mathlib.Core.Path.{_≡_};
 ghost use mathlib.Core.Bool.{cond};
-ghost use Prim.Native.Nat.{_<_};
+ghost use Prim.Native.Nat.{_-_, _<_};
+ghost use lib.ListN.{length};
 ghost use Rattle.disk_volume.specs.Name.{nameOf};
 ghost use Rattle.disk_volume.specs.CodeLent.{IsVolume, IsFcb, IsRecord};
-ghost use Rattle.disk_held.specs.Held.{hold};
+ghost use Rattle.disk_stores.specs.Stores.{cut};
 ghost use Rattle.call_fcb.specs.Fcb.{fileRecords, setTo};
 ghost use Rattle.call_answers.specs.Refusal.{isNone, firstMet};
-ghost use Rattle.call_decide.specs.Write.{entryAfter, writeTests};
-ghost use Rattle.call_write.specs.CodeAfter.{volumeAfter, heldAfter};
+ghost use Rattle.call_decide.specs.Write.{needsBlock, writeBlock, entryAfter, writeTests};
+ghost use Rattle.call_write.specs.Write.{writeStores, holdIf};
 use call_answers::Refusal;
 use disk_geometry::Geometry;
 use disk_volume::fields;
@@ -22,7 +23,7 @@ pub struct Written {
 // Block b is held from now on, if it is newly taken.
 fn hold_if(held: [u64; 4], fresh: bool, b: usize) -> [u64; 4]
     requires { ⌜ b < 256 ⌝ }
-    ensures { λ r. ⌜ r ≡ cond fresh (hold held b) held ⌝ }
+    ensures { λ r. ⌜ r ≡ holdIf fresh held b ⌝ }
 {
     if fresh {
         return disk_held::hold(held, b);
@@ -30,8 +31,8 @@ fn hold_if(held: [u64; 4], fresh: bool, b: usize) -> [u64; 4]
     held
 }
 
-// Writes record n of the file that the control block names, and sets the control block to it, with this cr; or refuses,
-// and alters nothing. If it `fills`, a block that the record's place is given is first filled with zeros.
+// Writes record n of the file that the control block names, as long as a store is left, and sets the control block to it,
+// with this cr; or refuses, and alters nothing. If it `fills`, a block that the record's place is given is first filled with zeros.
 pub fn write_record(
     g: Geometry,
     fills: bool,
@@ -42,6 +43,7 @@ pub fn write_record(
     held: [u64; 4],
     n: usize,
     cr: u8,
+    left: &mut usize,
 ) -> Written
     requires { ⌜ IsVolume g (now volume) ⌝ }
     requires { ⌜ IsFcb (now fcb) × (IsRecord (now buffer) × (n < fileRecords)) ⌝ }
@@ -51,7 +53,8 @@ pub fn write_record(
     ensures { λ r. ⌜
         now (volume .exit)
         ≡ cond (isNone (r .why))
-        (volumeAfter g held (now (volume .entry)) user (nameOf (now (fcb .entry))) n fills (now (buffer .entry)))
+        (cut g (now (volume .entry)) (now (left .entry))
+        (writeStores g held (now (volume .entry)) user (nameOf (now (fcb .entry))) n fills (now (buffer .entry))))
         (now (volume .entry))
         ⌝ }
     ensures { λ r. ⌜
@@ -63,8 +66,17 @@ pub fn write_record(
     ensures { λ r. ⌜
         r .held
         ≡ cond (isNone (r .why))
-        (heldAfter g held (now (volume .entry)) user (nameOf (now (fcb .entry))) n)
+        (holdIf (needsBlock g (now (volume .entry)) user (nameOf (now (fcb .entry))) n) held
+        (writeBlock g held (now (volume .entry)) user (nameOf (now (fcb .entry))) n))
         held
+        ⌝ }
+    ensures { λ r. ⌜
+        now (left .exit)
+        ≡ cond (isNone (r .why))
+        (now (left .entry)
+        - length
+        (writeStores g held (now (volume .entry)) user (nameOf (now (fcb .entry))) n fills (now (buffer .entry))))
+        (now (left .entry))
         ⌝ }
 {
     let mut e = [0u8; Geometry::ENTRY_BYTES];
@@ -94,6 +106,7 @@ pub fn write_record(
         plan.block,
         n,
         cr,
+        left,
     );
     let next = hold_if(held, plan.fresh, plan.block);
     Written { why, held: next }

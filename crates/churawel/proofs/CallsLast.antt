@@ -24,12 +24,13 @@ use Rattle.call_read.specs.Read.{readTests}
 use Rattle.call_decide.specs.Write.{needsBlock, writeBlock}
 use Rattle.filecalls.specs.declared.Drive.{Drive}
 use Rattle.filecalls.specs.State.{goodPattern, goodKept}
-use Rattle.filecalls.specs.Outcome.{keeps, takes, becomes, protects, frees, searches, done, changedState}
+use Rattle.call_write.specs.Write.{holdIf}
+use Rattle.filecalls.specs.Outcome.{keeps, takes, becomes, protects, frees, searches, done, withHeld, changedState}
 use Rattle.filecalls.specs.Open.{openTests, openAct, closeTests, closeAct, sizeTests, sizeAct}
 use Rattle.filecalls.specs.Search.{examined, hit, isKept, keptAt, newSearch, hitAct, firstTests, searchFirstAct, nextTests, searchNextAct}
 use Rattle.filecalls.specs.Names.{deleteLadder, deleteAct, makeLadder, makeAct, renameLadder, renameAct, attributesLadder, attributesAct}
 use Rattle.filecalls.specs.Read.{sequentialTests, randomTests, readDone, readSequentialAct, readRandomAct}
-use Rattle.filecalls.specs.Write.{directoryTests, writeChange, writeDone, writeSequentialAct, writeDirectAct, writeRandomAct, writeZeroFillAct}
+use Rattle.filecalls.specs.Write.{directoryTests, writeDone, writeSequentialAct, writeDirectAct, writeRandomAct, writeZeroFillAct}
 use Rattle.filecalls.specs.Small.{protectTests, protectAct, userTests, userAct, setRandomTests, setRandomAct}
 use Rattle.filecalls.proofs.StateLaws.{is-open}
 use Rattle.filecalls.specs.Leaves.{readSequentialLeaves, writeSequentialLeaves}
@@ -43,13 +44,13 @@ module _ (d : Drive) (v f b : List ℕ) (l : Lasts d) where
   still = l
 
   -- ---- the writes
-  write-lasts : (n : ℕ) → Lasts (changedState d v (writeChange d v f n))
-  unfolding writeChange changedState
+  write-lasts : (n : ℕ) → Lasts (changedState d v (takes (needsBlock (d .geometry) v (d .user) (nameOf f) n) (writeBlock (d .geometry) (d .held) v (d .user) (nameOf f) n)))
+  unfolding changedState
   write-lasts n = go (needsBlock (d .geometry) v (d .user) (nameOf f) n)
     where
-      go : (t : Bool) → Lasts (changedState d v (cond t (takes (writeBlock (d .geometry) (d .held) v (d .user) (nameOf f) n)) keeps))
-      go true = unfold changedState in held-lasts d l _ (words-hold (d .held) (writeBlock (d .geometry) (d .held) v (d .user) (nameOf f) n) (words-of d (l .carried)))
-      go false = still
+      go : (t : Bool) → Lasts (withHeld d (holdIf t (d .held) (writeBlock (d .geometry) (d .held) v (d .user) (nameOf f) n)))
+      go true = held-lasts d l _ (words-hold (d .held) (writeBlock (d .geometry) (d .held) v (d .user) (nameOf f) n) (words-of d (l .carried)))
+      go false = held-lasts d l _ (words-of d (l .carried))
 
   pub write-sequential-lasting : Lasting d v (writeSequentialAct d v f b)
   unfolding writeSequentialAct writeDone

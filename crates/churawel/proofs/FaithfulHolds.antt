@@ -158,7 +158,7 @@ outcome-geometry : (d : Drive) (v f b : List ℕ) (act : Act) → outcome d v f 
 unfolding outcome changedState
 outcome-geometry d v f b (deny why) = refl
 outcome-geometry d v f b (done code keeps stores f′ b′) = refl
-outcome-geometry d v f b (done code (takes x) stores f′ b′) = refl
+outcome-geometry d v f b (done code (takes t x) stores f′ b′) = refl
 outcome-geometry d v f b (done code (frees u pattern) stores f′ b′) = refl
 outcome-geometry d v f b (done code protects stores f′ b′) = refl
 outcome-geometry d v f b (done code (becomes u) stores f′ b′) = refl

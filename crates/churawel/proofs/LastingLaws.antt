@@ -21,10 +21,11 @@ use Rattle.call_answers.specs.Refusal.{Test, isNone, firstMet}
 use Rattle.disk_held.proofs.WordsLaws.{Words, words-release}
 use Rattle.call_delete.specs.Delete.{freePlace, freeEntry, freeSlot, freeMatches}
 use Rattle.call_search.specs.Search.{patternOf}
+use Rattle.disk_stores.specs.Stores.{Store}
 use Rattle.filecalls.specs.declared.KeptSearch.{KeptSearch}
 use Rattle.filecalls.specs.declared.Drive.{Drive}
 use Rattle.filecalls.specs.State.{goodPattern, goodKept, isOpen}
-use Rattle.filecalls.specs.Outcome.{withHeld, withUser, withProtection, withSearch, Change, Store, Act, deny, done, unless, changedState, outcome}
+use Rattle.filecalls.specs.Outcome.{withHeld, withUser, withProtection, withSearch, Change, Act, deny, done, unless, changedState, outcome}
 use Rattle.filecalls.specs.Search.{isKept}
 use Rattle.filecalls.proofs.StateLaws.{is-open}
 use Rattle.drive_bytes.specs.RoundTrip.{Carried}

@@ -3,6 +3,7 @@
 pub mod ValueLaws
 pub mod ClosedLaws
 pub mod SeamLaws
+pub mod CutLaws
 pub mod LastingLaws
 pub mod CallsLast
 pub mod FaithfulHolds

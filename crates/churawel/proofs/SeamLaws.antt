@@ -2,13 +2,14 @@
 use mathlib.Core.Path.{_≡_, refl, sym, ap, _∙_}
 use mathlib.Core.Bool.{Bool, true, false, not, _||_, or-false, true≢false, false≢true}
 use mathlib.Core.List.{List, []}
-use Prim.Native.Nat.{ℕ, _<_}
+use Prim.Native.Nat.{ℕ, _-_, _%_, _≤_, _<_}
 use lib.ListN.{length}
 use borrow.Author.Tests.{not-true, not-false, eq-eqb, ne-eqb}
 use Rattle.disk_geometry.specs.declared.Geometry.{Geometry}
+use Rattle.disk_stores.specs.Stores.{Store, cut}
 use Rattle.call_answers.specs.declared.Refusal.the-variants.{Closed}
 use Rattle.call_answers.specs.declared.Answer.the-variants.{Refused}
-use Rattle.call_answers.specs.Answer.{valueOf, succeeded}
+use Rattle.call_answers.specs.Answer.{numberOf, valueOf, succeeded}
 use Rattle.call_served.specs.declared.Call.{Call}
 use Rattle.call_served.specs.declared.Call.the-variants.{LogIn}
 use Rattle.call_served.specs.Calls.{callOf}
@@ -17,15 +18,17 @@ use Rattle.filecalls.specs.declared.Drive.{Drive}
 use Rattle.filecalls.specs.declared.Reply.{Reply}
 use Rattle.filecalls.specs.State.{isOpen}
 use Rattle.filecalls.specs.Outcome.{Outcome, left}
+use Rattle.filecalls.specs.Stores.{CutAfter, cutLeft, refusedBy}
 use Rattle.filecalls.specs.LogIn.{logIn}
 use Rattle.bdos.specs.Step.{does, step}
+use Rattle.bdos.specs.Stores.{callStores, storesOf}
 use Rattle.call_served.specs.Asked.{asked}
 use Rattle.drive_bytes.specs.Layout.{decoded, encoded, encodedIn}
 use Rattle.drive_bytes.proofs.LoadLaws.{drive-whole}
 use Rattle.drive_bytes.proofs.RoundTripHolds.{open-drive, encode-decode}
 use Rattle.filecalls.proofs.OutcomeLaws.{sameAll}
 use Rattle.churawel.specs.Seam.{answered, sealed, atSeam, logInAtSeam}
-use Rattle.churawel.specs.CodeSeam.{asksOpen, laidBack}
+use Rattle.churawel.specs.CodeSeam.{asksOpen, laidBack, CallMost}
 use Rattle.churawel.proofs.ValueLaws.{step-value}
 use Rattle.churawel.proofs.ClosedLaws.{Shut, call-shut}
 use Rattle.churawel.proofs.FaithfulHolds.{step-refused}
@@ -118,6 +121,37 @@ module _ (n p : ℕ) (s v f b : List ℕ) {d : Drive} {call : Call} {t : Bool} (
         go : (x : Bool) → (succeeded (o .answer) || not (asksOpen (callOf n))) ≡ x → s′ ≡ laidBack (callOf n) (o .answer) (o .drive) s → sealed r s′ v′ f′ b′ ≡ atSeam n p s v f b
         go true q w = laid q (rw q at w)
         go false q w = let z : s′ ≡ s = rw q at w in rw z (kept bytes q)
+
+-- a call with a number of stores
+module _ (most n p : ℕ) (s v f b : List ℕ) {d : Drive} {call : Call} {t : Bool} (is : d ≡ decoded s) (is-call : call ≡ callOf n) (asks : t ≡ (asksOpen call || isOpen d)) where
+  -- a closed state that no call would refuse is refused here
+  pub most-refused : {r : ℕ} → not t ≡ true → r ≡ answered (Refused Closed) → CallMost most n p s v f b (record { answer = r; done = false }) s v f b most
+  most-refused h e =
+      let shut : isOpen (decoded s) ≡ false = ap isOpen (sym is) ∙ or-parts (asksOpen call) (isOpen d) (sym asks ∙ not-true t h) .1 in
+      record { whole = λ w. call-refused n p s v f b is is-call asks h e; cut-open = λ opens. absurd (false≢true (sym shut ∙ opens)) }
+
+  -- the stores and all that is left, of the state in the drive's bytes
+  stores-at : callStores call p d v f b ≡ storesOf (asked n p f b) (decoded s) v
+  stores-at = ap (λ (k : Call). callStores k p d v f b) is-call ∙ ap (λ (x : Drive). callStores (callOf n) p x v f b) is
+
+  left-at : does (d .geometry) call p d v f b ≡ step (decoded s .geometry) (asked n p f b) (decoded s) v
+  left-at = call-steps n p s v f b is is-call asks refl ∙ ap (λ (x : Drive). step (x .geometry) (asked n p f b) x v) is
+
+  pub most-done : {r : ℕ} {done : Bool} {o : Reply} {s′ v′ f′ b′ : List ℕ} {left′ : ℕ} → not t ≡ false → Bytes s
+      → CutAfter most (d .geometry) v (callStores call p d v f b) (does (d .geometry) call p d v f b) (cutLeft o v′ f′ b′ left′)
+      → s′ ≡ laidBack call (o .answer) (o .drive) s → done ≡ succeeded (o .answer)
+      → (r % 65536 ≡ numberOf (o .answer)) × (valueOf (o .answer) < 65536 → r ≡ answered (o .answer))
+      → CallMost most n p s v f b (record { answer = r; done = done }) s′ v′ f′ b′ left′
+  most-done {r} {done} {o} {s′} {v′} {f′} {b′} {left′} h bytes x lays succeeds says = record {
+    whole = λ w.
+        let did = x .whole (rw (sym stores-at) at w) in
+        call-done n p s v f b is is-call asks h did (says .1 (call-value n p s v f b is is-call asks did)) bytes lays;
+    cut-open = λ opens. record {
+      volume-is = x .volume-is ∙ ap (cut (d .geometry) v most) stores-at ∙ ap (λ (y : Drive). cut (y .geometry) v most (storesOf (asked n p f b) (decoded s) v)) is;
+      left-is = x .left-is ∙ ap (λ (l : List Store). most - length l) stores-at;
+      refused-is = rw (succeeds, says .0) (x .refused-is ∙ ap (λ (y : Outcome). refusedBy (y .answer)) left-at);
+    };
+  }
 
 -- a log-in
 module _ (g : Geometry) (v s : List ℕ) where

@@ -1,13 +1,23 @@
--- Which calls ask by themselves whether the state is open, and when the state is laid back: what the seam goes by.
+-- Which calls ask by themselves whether the state is open, when the state is laid back, and what a call over the drive's bytes
+-- leaves with a number of stores: what the seam goes by.
+use mathlib.Core.Path.{_≡_}
 use mathlib.Core.Bool.{Bool, true, false, not, cond, _||_}
 use mathlib.Core.List.{List}
-use Prim.Native.Nat.{ℕ}
+use Prim.Native.Nat.{ℕ, _-_, _%_, _≤_}
+use lib.ListN.{length}
 use Rattle.call_answers.specs.declared.Answer.{Answer}
 use Rattle.call_answers.specs.Answer.{succeeded}
 use Rattle.filecalls.specs.declared.Drive.{Drive}
-use Rattle.drive_bytes.specs.Layout.{encodedIn}
+use Rattle.filecalls.specs.State.{isOpen}
+use Rattle.filecalls.specs.Stores.{refusedBy}
+use Rattle.bdos.specs.Step.{step}
+use Rattle.bdos.specs.Stores.{storesOf, cutVolume}
+use Rattle.drive_bytes.specs.Layout.{encodedIn, decoded}
+use Rattle.call_served.specs.Asked.{Asked, asked}
 use Rattle.call_served.specs.declared.Call.{Call}
 use Rattle.call_served.specs.declared.Call.the-variants.{LogIn, Open, Close, SearchFirst, SearchNext, Delete, Make, Rename, Protect, Attributes, User, Size, SetRandom, Moves, Unserved}
+use Rattle.churawel.specs.declared.Told.{Told}
+use Rattle.churawel.specs.Seam.{sealed, atSeam}
 
 -- every call but a log-in, which takes any state, and a number that is not served
 abbrev pub asksOpen : Call → Bool
@@ -30,3 +40,18 @@ asksOpen Unserved = false
 -- the drive's bytes after a call: the state laid back, unless a call that asks was refused
 abbrev pub laidBack : Call → Answer → Drive → List ℕ → List ℕ
 laidBack call answer next s = cond (succeeded answer || not (asksOpen call)) (encodedIn next s) s
+
+-- the number of the refusal that is told, 0 for a call that succeeded
+abbrev pub refusalTold : Told → ℕ
+refusalTold told = cond (told .done) 0 (told .answer % 65536)
+
+-- a call in an open state whose stores are cut after the first `most`: the volume, how many are left, and the refusal's number
+pub record CutOpen (most : ℕ) (c : Asked) (d : Drive) (v v′ : List ℕ) (left refusal : ℕ) : Type 0 where
+  pub volume-is : v′ ≡ cutVolume (d .geometry) c d v most
+  pub left-is : left ≡ most - length (storesOf c d v)
+  pub refused-is : refusal ≡ refusedBy (step (d .geometry) c d v .answer)
+
+-- the same over the drive's bytes; with stores enough it is the call at the seam
+pub record CallMost (most n p : ℕ) (s v f b : List ℕ) (told : Told) (s′ v′ f′ b′ : List ℕ) (left : ℕ) : Type 0 where
+  pub whole : length (storesOf (asked n p f b) (decoded s) v) ≤ most → sealed (told .answer) s′ v′ f′ b′ ≡ atSeam n p s v f b
+  pub cut-open : isOpen (decoded s) ≡ true → CutOpen most (asked n p f b) (decoded s) v v′ left (refusalTold told)

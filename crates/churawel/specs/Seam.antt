@@ -1,19 +1,22 @@
 -- What an exported call leaves, for every input: its answer as one number, and every lent byte.
 use mathlib.Core.Bool.{cond}
 use mathlib.Core.List.{List, []}
-use Prim.Native.Nat.{ℕ, _+_, _*_}
+use Prim.Native.Nat.{ℕ, _+_, _*_, min}
 use lib.Dec.{eqb}
-use lib.ListN.{length}
+use lib.ListN.{length, replicate}
 use Rattle.disk_geometry.specs.declared.Geometry.{Geometry}
 use Rattle.call_answers.specs.declared.Refusal.the-variants.{Closed}
 use Rattle.call_answers.specs.declared.Answer.{Answer}
 use Rattle.call_answers.specs.declared.Answer.the-variants.{Refused}
 use Rattle.call_answers.specs.Answer.{numberOf, valueOf}
+use Rattle.filecalls.specs.declared.Drive.{Drive}
 use Rattle.filecalls.specs.State.{isOpen}
+use Rattle.filecalls.specs.Stores.{refusedBy}
 use Rattle.filecalls.specs.Outcome.{Outcome}
 use Rattle.filecalls.specs.LogIn.{logIn}
 use Rattle.bdos.specs.Step.{step}
-use Rattle.call_served.specs.Asked.{asked}
+use Rattle.bdos.specs.Stores.{storesOf, cutVolume}
+use Rattle.call_served.specs.Asked.{Asked, asked}
 use Rattle.drive_bytes.specs.Layout.{driveBytes, encoded, decoded}
 
 -- "the answer's number in the low 16 bits, log-in's count or slot in the high 16"
@@ -51,3 +54,21 @@ unfoldable pub logInAtSeam : Geometry → List ℕ → List ℕ → Sealed
 logInAtSeam g v s =
     cond (eqb (length s) driveBytes) (sealed (answered (logIn g v .answer)) (encoded (logIn g v .drive)) v [] [])
     (refusedClosed s v [] [])
+
+-- the drive when the machine is gone: 64 zero bytes, "the closed state"
+abbrev pub zeros : List ℕ
+zeros = replicate driveBytes 0
+
+-- a call with at most so many stores: "the call's refusal number (0 where the call is not refused) in the low 16 bits and how
+-- many stores were made in the high 16"; the volume so cut, control block and buffer as given, the drive closed
+abbrev pub cutOpen : ℕ → Asked → Drive → List ℕ → Sealed
+cutOpen most c d v =
+    sealed (refusedBy (step (d .geometry) c d v .answer) + 65536 * min most (length (storesOf c d v))) zeros
+    (cutVolume (d .geometry) c d v most) (c .fcb) (c .buffer)
+
+-- "a drive of another length is 32 and stays as it is"; one that counts as closed is 32, and no store is made
+unfoldable pub cutAtSeam : ℕ → ℕ → ℕ → List ℕ → List ℕ → List ℕ → List ℕ → Sealed
+cutAtSeam most n p s v fcb b =
+    let asOpen : Sealed = cutOpen most (asked n p fcb b) (decoded s) v in
+    let closes : Sealed = cond (isOpen (decoded s)) asOpen (refusedClosed zeros v fcb b) in
+    cond (eqb (length s) driveBytes) closes (refusedClosed s v fcb b)

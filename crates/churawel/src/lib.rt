@@ -1,24 +1,26 @@
-// The seam to an emulator: log-in, every other call, why a volume is refused and which files it has, exported for C, over lent
-// bytes alone.
+// The seam to an emulator: log-in, every other call, a call that is cut off, why a volume is refused and which files it has,
+// exported for C, over lent bytes alone.
 ghost use mathlib.Core.Path.{_≡_};
 ghost use mathlib.Core.Bool.{_||_};
 ghost use mathlib.Core.List.{[]};
-ghost use Prim.Native.Nat.{_<_};
-ghost use Rattle.call_answers.specs.Answer.{valueOf};
+ghost use Rattle.call_answers.specs.Answer.{numberOf, valueOf, succeeded};
 ghost use Rattle.disk_geometry.specs.Geometry.{geometryOf};
 ghost use Rattle.filecalls.specs.State.{isOpen};
-ghost use Rattle.churawel.specs.Seam.{answered, sealed, atSeam, logInAtSeam};
-ghost use Rattle.churawel.specs.CodeSeam.{asksOpen, laidBack};
+ghost use Rattle.churawel.specs.Seam.{answered, sealed, atSeam, logInAtSeam, cutAtSeam};
+ghost use Rattle.churawel.specs.CodeSeam.{asksOpen, laidBack, CallMost};
 ghost use Rattle.churawel.specs.Fault.{explained, faultAtSeam};
 ghost use Rattle.churawel.specs.File.{shown, fileAtSeam};
+ghost use Prim.Native.Nat.{_%_, _<_};
 use call_answers::Answer;
 use call_answers::Refusal;
 use call_served::Call;
 use disk_geometry::Geometry;
 use drive_bytes::DRIVE_BYTES;
 use filecalls::Drive;
+use filecalls::ENOUGH;
 use files::line;
 
+mod cut;
 mod fault;
 
 // A number of 32 bits as a size.
@@ -37,12 +39,17 @@ fn wide(b: u8) -> u32
 
 // The answer as one number: its number in the low 16 bits, the value beside it in the high 16.
 fn seal(a: Answer) -> u32
-    requires { ⌜ valueOf a < 65536 ⌝ }
-    ensures { λ r. ⌜ r ≡ answered a ⌝ }
+    ensures { λ r. ⌜ (r % 65536 ≡ numberOf a) × (valueOf a < 65536 → r ≡ answered a) ⌝ }
 {
     let number = wide(call_answers::number(a));
-    let value = call_answers::value(a) as u32;
+    let value = (call_answers::value(a) % 65536) as u32;
     number + 65536 * value
+}
+
+// What is told of a call: its answer as one number, and whether it succeeded.
+struct Told {
+    answer: u32,
+    done: bool,
 }
 
 // Does the call ask by itself whether the state is open?
@@ -78,13 +85,17 @@ fn may_enter(kind: Call, d: Drive) -> bool
     d.is_open()
 }
 
-// Lays the state back where a call may have changed it: one that succeeded, or that asks for no open state, as a log-in.
-fn lay_back(kind: Call, answer: Answer, next: Drive, drive: &mut [u8])
+// Lays the state back where a call may have changed it: one that succeeded, or that asks for no open state, as a log-in. Answers
+// whether the call succeeded.
+fn lay_back(kind: Call, answer: Answer, next: Drive, drive: &mut [u8]) -> bool
     ensures { λ _. ⌜ now (drive .exit) ≡ laidBack kind answer next (now (drive .entry)) ⌝ }
+    ensures { λ r. ⌜ r ≡ succeeded answer ⌝ }
 {
-    if call_answers::succeeded(answer) | !asks_open(kind) {
+    let done = call_answers::succeeded(answer);
+    if done | !asks_open(kind) {
         drive_bytes::encode(next, drive);
     }
+    done
 }
 
 // Logs the volume in: the drive becomes the state that calls take, or 64 zero bytes where the log-in is refused.
@@ -116,8 +127,43 @@ pub extern "C" fn churawel_log_in(
     seal(answer)
 }
 
-// Does the call of this function's number over the drive's bytes; a drive that counts as closed is refused by 32. Calls ask
-// that by themselves, and where one is refused the drive's bytes stay.
+// Does the call of this function's number over the drive's bytes as long as a store is left; a drive that counts as closed is
+// refused by 32. Calls ask that by themselves, and where one is refused the drive's bytes stay.
+fn call_most(
+    function: u8,
+    parameter: u8,
+    drive: &mut [u8],
+    volume: &mut [u8],
+    fcb: &mut [u8],
+    buffer: &mut [u8],
+    left: &mut usize,
+) -> Told
+    ensures { λ r. ⌜
+        CallMost (now (left .entry)) function parameter (now (drive .entry)) (now (volume .entry)) (now (fcb .entry))
+        (now (buffer .entry)) r (now (drive .exit)) (now (volume .exit)) (now (fcb .exit)) (now (buffer .exit)) (now (left .exit))
+        ⌝ }
+{
+    let d = drive_bytes::decode(drive);
+    let kind = call_served::call_of(function);
+    if !may_enter(kind, d) {
+        let answer = seal(Answer::Refused(Refusal::Closed));
+        return Told {
+            answer,
+            done: false,
+        };
+    }
+    let g = d.geometry;
+    let reply = bdos::serve(g, kind, parameter, d, volume, fcb, buffer, left);
+    let next = reply.drive;
+    let answer = reply.answer;
+    let done = lay_back(kind, answer, next, drive);
+    Told {
+        answer: seal(answer),
+        done,
+    }
+}
+
+// Does the call of this function's number over the drive's bytes.
 #[no_mangle]
 pub extern "C" fn churawel_call(
     function: u8,
@@ -132,17 +178,39 @@ pub extern "C" fn churawel_call(
         ≡ atSeam function parameter (now (drive .entry)) (now (volume .entry)) (now (fcb .entry)) (now (buffer .entry))
         ⌝ }
 {
-    let d = drive_bytes::decode(drive);
-    let kind = call_served::call_of(function);
-    if !may_enter(kind, d) {
+    let mut left = ENOUGH;
+    let told = call_most(function, parameter, drive, volume, fcb, buffer, &mut left);
+    told.answer
+}
+
+// Does the call of this function's number with at most so many stores, and closes the drive: the machine is gone. What is left
+// is the volume, cut there.
+#[no_mangle]
+pub extern "C" fn churawel_cut(
+    most: u32,
+    function: u8,
+    parameter: u8,
+    drive: &mut [u8],
+    volume: &mut [u8],
+    fcb: &[u8],
+    buffer: &[u8],
+) -> u32
+    ensures { λ r. ⌜
+        sealed r (now (drive .exit)) (now (volume .exit)) (now (fcb .entry)) (now (buffer .entry))
+        ≡ cutAtSeam most function parameter (now (drive .entry)) (now (volume .entry)) (now (fcb .entry)) (now (buffer .entry))
+        ⌝ }
+{
+    if drive.len() != DRIVE_BYTES {
         return seal(Answer::Refused(Refusal::Closed));
     }
-    let g = d.geometry;
-    let reply = bdos::serve(g, kind, parameter, d, volume, fcb, buffer);
-    let next = reply.drive;
-    let answer = reply.answer;
-    lay_back(kind, answer, next, drive);
-    seal(answer)
+    let d = drive_bytes::decode(drive);
+    if !d.is_open() {
+        lists::fill(drive, 0);
+        return seal(Answer::Refused(Refusal::Closed));
+    }
+    let r = cut::cut_open(size(most), function, parameter, drive, volume, fcb, buffer);
+    lists::fill(drive, 0);
+    r
 }
 
 // Logs the volume in as `churawel_log_in` does, and says of a bad slot why it is bad; no drive is left.

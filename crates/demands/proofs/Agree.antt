@@ -20,7 +20,7 @@ use Rattle.filecalls.specs.Open.{openTests, openAct, closeTests, closeAct, size
 use Rattle.filecalls.specs.Search.{firstTests, searchFirstAct, newSearch, hitAct, nextTests, searchNextAct}
 use Rattle.filecalls.specs.Names.{deleteLadder, deleteAct, makeLadder, makeAct, renameLadder, renameAct, attributesLadder, attributesAct}
 use Rattle.filecalls.specs.Read.{sequentialTests, randomTests, readDone, readSequentialAct, readRandomAct}
-use Rattle.filecalls.specs.Write.{writeEntry, writeChange, writeDone, writeSequentialAct, writeRandomAct, writeZeroFillAct}
+use Rattle.filecalls.specs.Write.{writeEntry, writeDone, writeSequentialAct, writeRandomAct, writeZeroFillAct}
 use Rattle.filecalls.specs.Small.{protectTests, protectAct, userTests, userAct, setRandomTests, setRandomAct}
 use Rattle.filecalls.specs.Outcome.{Change, keeps, takes, frees, protects, becomes, searches, Act, deny, done, changedState, withHeld, Outcome, outcome}
 use Rattle.filecalls.specs.Several.{several}
@@ -39,7 +39,7 @@ module _ (d : Drive) (k : List ℕ) where
   state-alike : (v : List ℕ) (ch : Change) → changedState (withHeld d k) v ch ≡ withHeld (changedState d v ch) (changedState (withHeld d k) v ch .held)
   unfolding changedState
   state-alike v keeps = refl
-  state-alike v (takes b) = refl
+  state-alike v (takes t b) = refl
   state-alike v (frees u pattern) = refl
   state-alike v protects = refl
   state-alike v (becomes u) = refl
@@ -68,7 +68,7 @@ module _ (d : Drive) (k v : List ℕ) (same : (b : ℕ) → d .geometry .«direc
   tests-alike u name n = rw (given (baseEntry (d .geometry) v u name n) (placeOf (d .geometry) n))
 
   done-alike : (f : List ℕ) (n cr : ℕ) (fills : Bool) (b : List ℕ) → writeDone (withHeld d k) v f n cr fills b ≡ writeDone d v f n cr fills b
-  unfolding writeDone writeEntry writeChange
+  unfolding writeDone writeEntry
   done-alike f n cr fills b = rw (block-alike (d .user) (nameOf f) n)
 
   sequential-alike : (f b : List ℕ) → writeSequentialAct (withHeld d k) v f b ≡ writeSequentialAct d v f b

@@ -196,7 +196,7 @@ pub is-log-in : callOf (logsIn .function) ≡ LogIn
 unfolding callOf
 is-log-in = refl
 
-bytes-lent : (cs : List Asked) → FromC cs → BytesLent cs
+pub bytes-lent : (cs : List Asked) → FromC cs → BytesLent cs
 bytes-lent [] small = tt
 bytes-lent (c ∷ cs) small = (small .1, bytes-lent cs (small .2))
 

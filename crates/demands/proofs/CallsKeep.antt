@@ -27,7 +27,8 @@ use Rattle.filecalls.specs.Open.{openTests, openAct, closeTests, closeAct, size
 use Rattle.filecalls.specs.Search.{firstTests, searchFirstAct, hitAct, nextTests, searchNextAct}
 use Rattle.filecalls.specs.Read.{sequentialTests, randomTests, readDone, readSequentialAct, readRandomAct}
 use Rattle.filecalls.specs.Small.{protectTests, protectAct, userTests, userAct, setRandomTests, setRandomAct}
-use Rattle.filecalls.specs.Outcome.{keeps, protects, becomes, Store, Act, deny, done, unless, changedState, Outcome, outcome, left}
+use Rattle.disk_stores.specs.Stores.{Store}
+use Rattle.filecalls.specs.Outcome.{keeps, protects, becomes, Act, deny, done, unless, changedState, Outcome, outcome, left}
 use Rattle.filecalls.specs.Leaves.{readSequentialLeaves}
 use Rattle.filecalls.proofs.SeveralLaws.{read-refuses}
 use Rattle.call_served.specs.declared.Call.{Call}

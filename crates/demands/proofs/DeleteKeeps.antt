@@ -1,15 +1,13 @@
 -- Delete keeps state and volume consistent and leaves every file that its pattern does not match.
 use mathlib.Core.Path.{_≡_, refl, sym, ap, _∙_}
 use mathlib.Core.Logic.{_≢_}
-use mathlib.Core.Bool.{Bool, true, false, not, _&&_, true≢false}
-use mathlib.Core.List.{List, []}
+use mathlib.Core.Bool.{Bool, true, false, not, cond, _&&_, true≢false}
+use mathlib.Core.List.{List}
 use Prim.Native.Nat.{ℕ, _≤_, _<_}
 use native.Mathlib.Omega.{arith}
 use lib.Dec.{eqb}
-use lib.ListN.{length, set, length-set}
-use lib.Seq.{getD-set-same}
-use borrow.Author.Tests.{not-true, not-false, eq-eqb}
-use Rattle.lists.specs.Bytes.{byte}
+use lib.ListN.{length}
+use borrow.Author.Tests.{not-true, not-false}
 use Rattle.lists.specs.Bounded.{anyFrom}
 use Rattle.lists.proofs.BoolLaws.{and-parts}
 use Rattle.lists.proofs.BoundedLaws.{any-false, any-none}
@@ -17,67 +15,46 @@ use Rattle.disk_geometry.specs.declared.Geometry.{Geometry}
 use Rattle.disk_geometry.specs.Geometry.{lawful, bytes, slots}
 use Rattle.disk_volume.specs.Name.{nameOf, like}
 use Rattle.disk_volume.specs.Entry.{Entry, isEmpty, blockIn, matches}
-use Rattle.disk_volume.specs.Directory.{slotAt, mapSlots}
+use Rattle.disk_volume.specs.Directory.{slotAt}
 use Rattle.disk_geometry.proofs.GeometryLaws.{bounds}
 use Rattle.disk_volume.proofs.DirectoryLaws.{slot-length}
-use Rattle.call_sweep.proofs.SweepLaws.{mapSlots-length, mapSlots-slot, mapSlots-record}
+use Rattle.disk_stores.specs.Pieces.{meantOnly}
+use Rattle.disk_stores.proofs.OrderLaws.{sweep-ordered}
 use Rattle.disk_held.specs.Held.{holds}
 use Rattle.call_answers.specs.declared.Refusal.the-variants.{Closed}
 use Rattle.call_answers.specs.Refusal.{isNone, firstMet}
 use Rattle.call_answers.proofs.Ladder.{unmet}
-use Rattle.call_sweep.specs.declared.Edit.the-variants.{Erase}
-use Rattle.call_sweep.specs.Sweep.{erased, changed}
+use Rattle.call_sweep.specs.Sweep.{erased}
+use Rattle.call_sweep.proofs.EditLaws.{erased-length}
 use Rattle.call_delete.specs.Delete.{freeMatches}
 use Rattle.disk_geometry.proofs.InsideLaws.{is-inside}
 use Rattle.filecalls.specs.declared.Drive.{Drive}
 use Rattle.filecalls.specs.State.{isOpen}
-use Rattle.filecalls.specs.Outcome.{stored, storedAll, changedState}
+use Rattle.filecalls.specs.Outcome.{changedState}
 use Rattle.filecalls.specs.Names.{deleteLadder, deleteAct}
 use Rattle.filecalls.proofs.StateLaws.{is-open}
-use Rattle.demands.proofs.Orderly.{Live, Orderly, HeldBy, Held, sound-less}
-use Rattle.demands.proofs.Frame.{Touch, unchanged, foreign, Apart}
-use Rattle.demands.proofs.Acts.{Consistent, Keeps, does, keeps-unless, leaves-apart}
-use Rattle.demands.proofs.Files.{matched, other-match, user-live, file-block, empty-foreign}
+use Rattle.demands.proofs.Orderly.{Live, Orderly, HeldBy, Held}
+use Rattle.demands.proofs.Acts.{Consistent, Keeps, does, keeps-unless}
+use Rattle.demands.proofs.Files.{matched, user-live}
+use Rattle.demands.proofs.Swept.{cut-swept, laid-swept, laid-slots}
+use Rattle.demands.proofs.EntriesGone.{erased-empty, gone-safe}
 use Rattle.call_delete.specs.Freed.{matchNames}
 use Rattle.call_delete.proofs.MatchLaws.{match-at, at-match}
 use Rattle.call_delete.proofs.FreedHolds.{freed}
 
--- ---- an entry afterwards
-module _ (u : ℕ) (pattern : List ℕ) (e : Entry) where
-  erases-hit : matches u pattern e ≡ true → changed Erase u pattern [] e ≡ erased e
-  unfolding changed
-  erases-hit q = rw q
-
-  erases-miss : matches u pattern e ≡ false → changed Erase u pattern [] e ≡ e
-  unfolding changed
-  erases-miss q = rw q
-
-  erases-length : length e ≡ 32 → length (changed Erase u pattern [] e) ≡ 32
-  erases-length l = go (matches u pattern e) refl
-    where
-      go : (t : Bool) → matches u pattern e ≡ t → length (changed Erase u pattern [] e) ≡ 32
-      go true q = ap length (erases-hit q) ∙ length-set e 0 229 ∙ l
-      go false q = ap length (erases-miss q) ∙ l
-
-  erased-empty : length e ≡ 32 → matches u pattern e ≡ true → isEmpty (changed Erase u pattern [] e) ≡ true
-  erased-empty l q = ap isEmpty (erases-hit q) ∙ eq-eqb (byte (set e 0 229) 0) 229 (getD-set-same e 0 229 0 (omega arith))
-
+-- ---- the held blocks, where every entry that matches is gone
 module _ (g : Geometry) (law : lawful g ≡ true) (v : List ℕ) (size : length v ≡ bytes g) (sound : Orderly g (slotAt g v)) (h : List ℕ) (held : Held g h (slotAt g v))
-    (u : ℕ) (u15 : u ≤ 15) (pattern : List ℕ) where
-  abbrev v′ : List ℕ
-  v′ = mapSlots g (changed Erase u pattern []) v
-
+    (u : ℕ) (u15 : u ≤ 15) (pattern v′ : List ℕ)
+    (after : (j : ℕ) → j < slots g → slotAt g v′ j ≡ meantOnly (matches u pattern) erased (slotAt g v j)) where
   abbrev h′ : List ℕ
   h′ = freeMatches g v u pattern h
 
-  after : (j : ℕ) → j < slots g → slotAt g v′ j ≡ changed Erase u pattern [] (slotAt g v j)
-  after = mapSlots-slot g law (changed Erase u pattern []) (erases-length u pattern) v size
-
   after-miss : (j : ℕ) → j < slots g → matches u pattern (slotAt g v j) ≡ false → slotAt g v′ j ≡ slotAt g v j
-  after-miss j j< q = after j j< ∙ erases-miss u pattern (slotAt g v j) q
+  after-miss j j< q = after j j< ∙ ap (λ (s : Bool). cond s (erased (slotAt g v j)) (slotAt g v j)) q
 
   after-hit : (j : ℕ) → j < slots g → matches u pattern (slotAt g v j) ≡ true → isEmpty (slotAt g v′ j) ≡ true
-  after-hit j j< q = ap isEmpty (after j j<) ∙ erased-empty u pattern (slotAt g v j) (slot-length g law v size j j<) q
+  after-hit j j< q =
+      ap isEmpty (after j j< ∙ ap (λ (s : Bool). cond s (erased (slotAt g v j)) (slotAt g v j)) q) ∙ erased-empty (slotAt g v j) (slot-length g law v size j j<)
 
   -- an entry that is left did not match
   missed : (j : ℕ) → j < slots g → Live (slotAt g v′ j) → matches u pattern (slotAt g v j) ≡ false
@@ -89,12 +66,6 @@ module _ (g : Geometry) (law : lawful g ≡ true) (v : List ℕ) (size : length 
 
   hit-live : (j : ℕ) → matches u pattern (slotAt g v j) ≡ true → Live (slotAt g v j)
   hit-live j q = user-live (slotAt g v j) (omega (arith, matched u pattern (slotAt g v j) q .user))
-
-  pub delete-size : length v′ ≡ bytes g
-  delete-size = mapSlots-length g law (changed Erase u pattern []) (erases-length u pattern) v size ∙ size
-
-  pub delete-sound : Orderly g (slotAt g v′)
-  delete-sound = sound-less g (slotAt g v) (slotAt g v′) sound (λ j j< l. after-miss j j< (missed j j< l))
 
   pub delete-held : Held g h′ (slotAt g v′)
   delete-held = record { four = freed g law v u u15 pattern h (held .four) .four; sound = sound-after; whole = whole-after }
@@ -134,30 +105,22 @@ module _ (g : Geometry) (law : lawful g ≡ true) (v : List ℕ) (size : length 
               let s : j ≡ w .slot = sound .alone j (w .slot) (x .place) (w .place) j< (w .slot<) (hit-live j (x .hit)) l (x .in-map) (w .place<) nz (x .is ∙ sym z) in
               absurd (true≢false (sym (x .hit) ∙ ap (λ (y : ℕ). matches u pattern (slotAt g v y)) s ∙ m))
 
-  pub delete-apart : (w : ℕ) (name : List ℕ) → w ≤ 15 → (eqb w u && like name pattern) ≡ false → Apart g w name v v′
-  delete-apart w name w15 other = record {
-    entries = λ j j<. entry j j< (matches u pattern (slotAt g v j)) refl;
-    bytes = λ j p n j< p< own nz.
-        let b = file-block g v sound w name w15 j p j< p< own nz in
-        mapSlots-record g law (changed Erase u pattern []) (erases-length u pattern) v size (blockIn g (slotAt g v j) p) n (b .0) (b .1);
-  }
-    where
-      entry : (j : ℕ) → j < slots g → (t : Bool) → matches u pattern (slotAt g v j) ≡ t → Touch w name (slotAt g v j) (slotAt g v′ j)
-      entry j j< false q = unchanged (after-miss j j< q)
-      entry j j< true q = foreign (other-match u pattern w name (slotAt g v j) other (matched u pattern (slotAt g v j) q)) (empty-foreign w name (slotAt g v′ j) w15 (after-hit j j< q))
-
 pub delete-keeps : (d : Drive) (v f : List ℕ) → Consistent d v → Keeps (λ u name. eqb u (d .user) && like name (nameOf f)) d v (deleteAct d v f)
-unfolding deleteAct stored storedAll changedState
-delete-keeps d v f c = keeps-unless (deleteLadder d v f) _ (λ h. does (record {
-  consistent = record {
-    law = c .law;
-    size = delete-size (d .geometry) (c .law) v (c .size) (c .sound) (d .held) (c .held) (d .user) (user15 h) (nameOf f);
-    sound = delete-sound (d .geometry) (c .law) v (c .size) (c .sound) (d .held) (c .held) (d .user) (user15 h) (nameOf f);
-    held = delete-held (d .geometry) (c .law) v (c .size) (c .sound) (d .held) (c .held) (d .user) (user15 h) (nameOf f);
-  };
-  others = λ u name u15 other. leaves-apart (d .geometry) (c .law) u name v _
-      (delete-apart (d .geometry) (c .law) v (c .size) (c .sound) (d .held) (c .held) (d .user) (user15 h) (nameOf f) u name u15 other);
-}))
+unfolding deleteAct changedState
+delete-keeps d v f c = keeps-unless (deleteLadder d v f) _ (λ h.
+    let g = d .geometry in
+    let meant : Entry → Bool = matches (d .user) (nameOf f) in
+    let all = laid-swept g (c .law) meant erased erased-length v (c .size) in
+    does (record {
+      consistent = record {
+        law = c .law;
+        size = all .size;
+        sound = gone-safe g (c .law) v (c .size) (c .sound) (d .user) (nameOf f) _ all .sound;
+        held = delete-held g (c .law) v (c .size) (c .sound) (d .held) (c .held) (d .user) (user15 h) (nameOf f) _ (laid-slots g (c .law) meant erased erased-length v (c .size));
+      };
+      cuts = λ k. gone-safe g (c .law) v (c .size) (c .sound) (d .user) (nameOf f) _ (cut-swept g (c .law) meant erased erased-length v (c .size) k);
+      ordered = sweep-ordered g (c .law) meant erased erased-length v (c .size);
+    }))
   where
     user15 : isNone (firstMet (deleteLadder d v f)) ≡ true → d .user ≤ 15
     user15 h = is-open d (not-false (isOpen d) (unfold deleteLadder in unmet Closed _ _ refl h .0)) .user15

@@ -20,7 +20,8 @@ use Rattle.call_read.specs.Read.{readTests}
 use Rattle.call_decide.specs.Write.{writeTests}
 use Rattle.filecalls.specs.Leaves.{readSequentialLeaves, writeSequentialLeaves}
 use Rattle.filecalls.specs.declared.Drive.{Drive}
-use Rattle.filecalls.specs.Outcome.{Change, keeps, becomes, Store, Act, deny, done, unless, Outcome, outcome}
+use Rattle.disk_stores.specs.Stores.{Store}
+use Rattle.filecalls.specs.Outcome.{Change, keeps, becomes, Act, deny, done, unless, Outcome, outcome}
 use Rattle.filecalls.specs.State.{isOpen, closed}
 use Rattle.filecalls.specs.LogIn.{logInTests, logIn}
 use Rattle.filecalls.proofs.LogInLaws.{refused-fails, refused-number}

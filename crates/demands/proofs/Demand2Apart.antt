@@ -29,9 +29,8 @@ use Rattle.disk_rules.proofs.AcceptedLaws.{good-entry, place-named, one-place}
 use Rattle.call_decide.specs.Write.{hasGroup, writeSlot, baseEntry, needsBlock, writeBlock, writeTests}
 use Rattle.call_entry.specs.Grown.{likeEntry}
 use Rattle.call_entry.specs.Alloc.{alloc}
-use Rattle.call_write.specs.CodeAfter.{volumeAfter, heldAfter}
+use Rattle.call_write.proofs.AfterLaws.{written, heldAfter, after-block, after-slot, after-slot-other}
 use Rattle.call_entry.proofs.AllocLaws.{alloc-given}
-use Rattle.call_write.proofs.AfterLaws.{after-block, after-slot, after-slot-other}
 use Rattle.call_entry.proofs.GrowLaws.{written-other}
 use Rattle.call_decide.proofs.WriteLaws.{write-passed}
 use Rattle.disk_geometry.proofs.InsideLaws.{inside-is}
@@ -117,7 +116,7 @@ module _ (g : Geometry) (held v : List ℕ) (u : ℕ) (name : List ℕ) (n : ℕ
       let o = has-group e in
       rw e (ap (λ (x : Entry). blockIn g x (placeOf g n)) (o .entry-is) ∙ ap (λ (i : ℕ). blockIn g (slotAt g v i) (placeOf g n)) (sym (o .slot-is)))
 
-  free-block : needsBlock g v u name n ≡ true → holds held (writeBlock g held v u name n) ≡ false
+  pub free-block : needsBlock g v u name n ≡ true → holds held (writeBlock g held v u name n) ≡ false
   unfolding writeBlock
   free-block e =
       let is : writeBlock g held v u name n ≡ alloc g held (baseEntry g v u name n) (placeOf g n) = rw e in
@@ -137,7 +136,7 @@ module _ (g : Geometry) (held v : List ℕ) (u : ℕ) (name : List ℕ) (n : ℕ
     -- ---- after the write
     module _ (fills : Bool) (r : List ℕ) (r128 : length r ≡ 128) where
       abbrev after : List ℕ
-      after = volumeAfter g held v u name n fills r
+      after = written g held v u name n fills r
 
       abbrev before : ℕ → ℕ → ℕ
       before i p = blockIn g (slotAt g v i) p
@@ -256,5 +255,5 @@ module _ (g : Geometry) (held v : List ℕ) (u : ℕ) (name : List ℕ) (n : ℕ
           kept : Kept i p → holds (heldAfter g held v u name n) (now i p) ≡ true
           kept k = still-held (now i p) (kept-apart i p nz k) (ap (holds held) (k .same) ∙ a .held-is i p (k .at) (λ z. nz (k .same ∙ z)))
 
-      pub apart-after : Apart g (heldAfter g held v u name n) (volumeAfter g held v u name n fills r)
+      pub apart-after : Apart g (heldAfter g held v u name n) (written g held v u name n fills r)
       apart-after = record { four = still-four; range = range-after; once = once-after; held-is = held-after }

@@ -23,8 +23,7 @@ use Rattle.disk_geometry.proofs.GeometryLaws.{place-lt}
 use Rattle.call_read.specs.Read.{readBlock, readBytes}
 use Rattle.call_answers.specs.Refusal.{isNone, firstMet}
 use Rattle.call_decide.specs.Write.{hasGroup, writeSlot, baseEntry, needsBlock, writeBlock, entryAfter, writeTests}
-use Rattle.call_write.specs.CodeAfter.{volumeAfter}
-use Rattle.call_write.proofs.AfterLaws.{after-group, after-block, after-slot, after-slot-other, after-record, after-record-other, after-record-within, after-recordSlot}
+use Rattle.call_write.proofs.AfterLaws.{written, after-group, after-block, after-slot, after-slot-other, after-record, after-record-other, after-record-within, after-recordSlot}
 use Rattle.call_entry.proofs.GrowLaws.{written-count, written-other}
 use Rattle.call_decide.proofs.WriteLaws.{write-passed, length-base}
 use Rattle.demands.proofs.Demand2Entries.{count-grows, same-record}
@@ -62,7 +61,7 @@ pub record Stays (g : Geometry) (v w : List ℕ) (u : ℕ) (name : List ℕ) (m 
 module _ (g : Geometry) (held v : List ℕ) (u : ℕ) (name : List ℕ) (n : ℕ) (good : lawful g ≡ true) (size : length v ≡ bytes g) (u15 : u ≤ 15)
     (passed : isNone (firstMet (writeTests g held v u name n)) ≡ true) (fills : Bool) (r : List ℕ) (r128 : length r ≡ 128) where
   abbrev after : List ℕ
-  after = volumeAfter g held v u name n fills r
+  after = written g held v u name n fills r
 
   -- the record that is written
   pub bytes-after : readBytes g after u name n ≡ r

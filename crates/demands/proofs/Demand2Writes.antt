@@ -20,8 +20,7 @@ use Rattle.call_answers.specs.declared.Refusal.the-variants.{Protected}
 use Rattle.call_answers.specs.Refusal.{Test, isNone, firstMet}
 use Rattle.call_answers.proofs.Ladder.{unmet}
 use Rattle.call_decide.specs.Write.{entryAfter, writeTests}
-use Rattle.call_write.specs.CodeAfter.{volumeAfter, heldAfter}
-use Rattle.call_write.proofs.AfterLaws.{after-present}
+use Rattle.call_write.proofs.AfterLaws.{written, heldAfter, after-present}
 use Rattle.call_entry.proofs.HeadLaws.{head, head-set}
 use Rattle.filecalls.specs.declared.Drive.{Drive}
 use Rattle.filecalls.specs.Outcome.{unless, Outcome, outcome}
@@ -56,7 +55,7 @@ module _ (d : Drive) (v f : List ℕ) where
   clear r n l r128 e =
       record { state = l .state; size = l .volume; fcb = l .fcb; record128 = r128; passed = unmet Protected _ _ refl e .1 }
 
-  clear-sequential : (b : List ℕ) → isNone (firstMet (sequentialTests d v f b ++ directoryTests d v f (position f))) ≡ true → Clear d v f b (position f)
+  pub clear-sequential : (b : List ℕ) → isNone (firstMet (sequentialTests d v f b ++ directoryTests d v f (position f))) ≡ true → Clear d v f b (position f)
   unfolding sequentialLent
   clear-sequential b e =
       let p = both-clear (sequentialTests d v f b) (directoryTests d v f (position f)) e in
@@ -77,7 +76,7 @@ pub record Wrote (d : Drive) (v f : List ℕ) (n : ℕ) (fills : Bool) (r : List
   pub geometry-is : o .drive .geometry ≡ d .geometry
   pub user-is : o .drive .user ≡ d .user
   pub held-is : o .drive .held ≡ heldAfter (d .geometry) (d .held) v (d .user) (nameOf f) n
-  pub volume-is : o .volume ≡ volumeAfter (d .geometry) (d .held) v (d .user) (nameOf f) n fills r
+  pub volume-is : o .volume ≡ written (d .geometry) (d .held) v (d .user) (nameOf f) n fills r
 
 module _ (d : Drive) (v f : List ℕ) (n cr : ℕ) (fills : Bool) (b : List ℕ) where
   wrote : (ts : List Test) → isNone (firstMet ts) ≡ true → Wrote d v f n fills b (outcome d v f b (unless ts (writeDone d v f n cr fills b)))

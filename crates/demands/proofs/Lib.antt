@@ -19,6 +19,8 @@ pub mod MakeKeeps
 pub mod WrittenEntry
 pub mod WriteKeeps
 pub mod WritesKeep
+pub mod Swept
+pub mod EntriesGone
 pub mod DeleteKeeps
 pub mod NamedEntry
 pub mod FileEdit
@@ -43,4 +45,15 @@ pub mod RenamingCalls
 pub mod RenamingTwice
 pub mod RenamingHolds
 pub mod ZeroFillHolds
+pub mod DataStored
+pub mod OwnRecord
+pub mod OneStore
+pub mod WriteCut
+pub mod WritesCut
+pub mod SeveralWritesCut
+pub mod StoresInTurn
+pub mod DoneBefore
+pub mod CutsHold
+pub mod CutsAtSeamHold
 pub mod WrongWaysFail
+pub mod WrongOrdersFail

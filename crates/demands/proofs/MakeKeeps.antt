@@ -19,19 +19,22 @@ use Rattle.disk_volume.specs.Record.{recordAt}
 use Rattle.disk_volume.proofs.FindLaws.{found-fits, not-found}
 use Rattle.disk_geometry.proofs.GeometryLaws.{bounds}
 use Rattle.disk_volume.proofs.DirectoryLaws.{putSlot-length, slot-putSlot, slot-putSlot-other, record-putSlot}
+use Rattle.disk_stores.proofs.LaidLaws.{entry-laid}
+use Rattle.disk_stores.proofs.OrderLaws.{entry-ordered}
 use Rattle.call_answers.specs.declared.Refusal.the-variants.{Closed, VolumeLength, FcbLength, DriveCode, Name, Untypeable, Position, Protected, Exists, NoRoom}
 use Rattle.call_answers.specs.Refusal.{isNone, firstMet}
 use Rattle.call_answers.proofs.Ladder.{unmet}
 use Rattle.call_make.specs.Make.{makeTests, freshEntry}
 use Rattle.filecalls.specs.declared.Drive.{Drive}
 use Rattle.filecalls.specs.State.{isOpen}
-use Rattle.filecalls.specs.Outcome.{keeps, stored, storedAll, changedState}
+use Rattle.filecalls.specs.Outcome.{changedState}
 use Rattle.filecalls.specs.Names.{makeLadder, makeAct}
 use Rattle.filecalls.proofs.StateLaws.{is-open}
 use Rattle.demands.proofs.Orderly.{Live, Laid, Fresh, HeldAnew, sound-laid, held-laid}
 use Rattle.demands.proofs.Frame.{Touch, unchanged, foreign, Apart}
-use Rattle.demands.proofs.Acts.{Consistent, Keeps, does, keeps-unless, leaves-apart}
+use Rattle.demands.proofs.Acts.{Consistent, Safe, safe-none, Keeps, does, keeps-unless, leaves-apart}
 use Rattle.demands.proofs.Files.{of-file, other-file, user-live, file-block, empty-foreign}
+use Rattle.demands.proofs.OneStore.{entry-cut}
 use Rattle.demands.proofs.NewEntry.{fresh-32, fresh-user, fresh-name, fresh-block, fresh-in-order}
 
 -- what is known once no test of make is met
@@ -135,10 +138,18 @@ module _ (d : Drive) (v f : List ℕ) (c : Consistent d v) (r : Ready d v f) whe
           record-putSlot g (c .law) v (c .size) i (r .room) e e32 (blockIn g (slotAt g v j) p) n (b .0) (b .1)
 
 pub make-keeps : (d : Drive) (v f : List ℕ) → Consistent d v → Keeps (λ u name. eqb u (d .user) && same name (nameOf f)) d v (makeAct d v f)
-unfolding makeAct stored storedAll changedState
+unfolding makeAct changedState
 make-keeps d v f c = keeps-unless (makeLadder d v f) _ (λ h.
+    let g = d .geometry in
     let r = ready d v f h in
+    let new = consistent d v f c r in
+    let all = entry-laid g (c .law) v (c .size) (i d v f c r) (r .room) (e d v f c r) in
     does (record {
-      consistent = consistent d v f c r;
-      others = λ u name u15 other. leaves-apart (d .geometry) (c .law) u name v _ (apart d v f c r u name u15 other);
+      consistent = rw all new;
+      cuts = entry-cut (Safe (λ u name. eqb u (d .user) && same name (nameOf f)) g v) g v (i d v f c r) (e d v f c r) (safe-none c) (rw all (record {
+        same-size = new .size ∙ sym (c .size);
+        sound = new .sound;
+        others = λ u name u15 other. leaves-apart g (c .law) u name v _ (apart d v f c r u name u15 other);
+      }));
+      ordered = entry-ordered g (c .law) v (c .size) (i d v f c r) (r .room) (e d v f c r) (e32 d v f c r);
     }))

@@ -1,7 +1,7 @@
 -- One rename that no test refuses: what it leaves, and which names exist afterwards. Nothing is asked of inspection.
 use mathlib.Core.Path.{_≡_, refl, sym, ap, _∙_}
 use mathlib.Core.Bool.{Bool, true, false, not, _&&_, and-false, true≢false}
-use mathlib.Core.List.{List, [], _∷_}
+use mathlib.Core.List.{List, []}
 use Prim.Native.Nat.{ℕ, _≤_, _<_}
 use native.Mathlib.Omega.{arith}
 use lib.Dec.{ltb}
@@ -19,16 +19,18 @@ use Rattle.disk_volume.specs.Directory.{slotAt, slotFits, findSlot, mapSlots}
 use Rattle.disk_volume.proofs.NameLaws.{same-refl, byte-strip}
 use Rattle.disk_volume.proofs.FindLaws.{found-fits, not-found, find-low}
 use Rattle.disk_volume.proofs.DirectoryLaws.{slot-length}
-use Rattle.call_sweep.proofs.SweepLaws.{mapSlots-length, mapSlots-slot}
+use Rattle.disk_stores.proofs.SweepLaws.{mapSlots-length, mapSlots-slot}
 use Rattle.call_answers.specs.declared.Refusal.the-variants.{Closed, VolumeLength, FcbLength, DriveCode, Name, Untypeable, Protected, NoMatch, ReadOnly, Exists}
 use Rattle.call_answers.specs.declared.Answer.the-variants.{Done}
 use Rattle.call_sweep.specs.declared.Edit.the-variants.{Rename}
 use Rattle.call_sweep.specs.Sweep.{renamed, changed}
+use Rattle.disk_stores.specs.Stores.{directoryRecords, sweepStores}
+use Rattle.disk_stores.proofs.SweptLaws.{swept-laid}
 use Rattle.call_rename.specs.Rename.{renameTests}
-use Rattle.call_sweep.proofs.EditLaws.{changed-keeps}
+use Rattle.call_sweep.proofs.EditLaws.{changed-keeps, renamed-length}
 use Rattle.filecalls.specs.declared.Drive.{Drive}
 use Rattle.filecalls.specs.State.{isOpen}
-use Rattle.filecalls.specs.Outcome.{keeps, eachEntry, done, stored, storedAll, changedState, outcome}
+use Rattle.filecalls.specs.Outcome.{keeps, done, changedState, outcome}
 use Rattle.filecalls.specs.Names.{renameLadder, renameAct}
 use Rattle.filecalls.proofs.StateLaws.{is-open}
 use Rattle.filecalls.proofs.OutcomeLaws.{goes-by, all-passed}
@@ -75,7 +77,7 @@ abbrev pub after : Drive → List ℕ → List ℕ → List ℕ → List ℕ
 after d v f old = mapSlots (d .geometry) (edit d f old) v
 
 module _ {d : Drive} {v f old new : List ℕ} (r : Granted d v f old new) where
-  goes : renameAct d v f ≡ done 0 keeps (eachEntry (edit d f old) ∷ []) f []
+  goes : renameAct d v f ≡ done 0 keeps (sweepStores (d .geometry) (ofFile (d .user) old) (λ e. renamed e (part f 17 11)) v 0 (directoryRecords (d .geometry))) f []
   unfolding renameAct renameLadder renameTests
   goes =
       let found : findSlot (d .geometry) v (d .user) old File < slots (d .geometry) = ltb-true _ _ (r .old-exists) in
@@ -93,21 +95,21 @@ module _ {d : Drive} {v f old new : List ℕ} (r : Granted d v f old new) where
       ∙ goes-by Exists _ _ _ (r .new-free)
       ∙ all-passed _)
 
-  -- all that it leaves
-  pub leaves : rename d v f ≡ record { answer = Done 0; drive = d; volume = after d v f old; fcb = f; buffer = [] }
-  unfolding outcome changedState stored storedAll
-  leaves = rw goes
-
   -- the eleven bytes that go into the entries
   pub eleven : length (part f 17 11) ≡ 11
   eleven = length-part f 17 11 (omega (arith, r .asks .length-36))
 
+  pub law : lawful (d .geometry) ≡ true
+  law = is-open d (r .state-open) .law
+
+  -- all that it leaves
+  pub leaves : rename d v f ≡ record { answer = Done 0; drive = d; volume = after d v f old; fcb = f; buffer = [] }
+  unfolding outcome changedState changed
+  leaves = rw (goes, swept-laid (d .geometry) law (ofFile (d .user) old) (λ e. renamed e (part f 17 11)) (renamed-length (part f 17 11) eleven) v (r .volume-length))
+
   pub new-bytes : strip (part f 17 11) ≡ new
   unfolding nameAt
   new-bytes = r .asks .new-name
-
-  pub law : lawful (d .geometry) ≡ true
-  law = is-open d (r .state-open) .law
 
   pub edit-keeps : (e : Entry) → length e ≡ 32 → length (edit d f old e) ≡ 32
   edit-keeps = changed-keeps Rename (d .user) old (part f 17 11) eleven

@@ -16,7 +16,7 @@ use Rattle.disk_volume.specs.Entry.{Entry}
 use Rattle.disk_volume.specs.Directory.{slotAt, putSlot, mapSlot, mapSlots}
 use Rattle.disk_geometry.proofs.GeometryLaws.{slots-apart}
 use Rattle.disk_volume.proofs.DirectoryLaws.{slot-inside, slot-length, putSlot-same, slot-putSlot, slot-putSlot-other}
-use Rattle.call_sweep.proofs.SweepLaws.{mapSlot-length, mapSlot-other}
+use Rattle.disk_stores.proofs.SweepLaws.{mapSlot-length, mapSlot-other}
 use Rattle.demands.proofs.RenamingParts.{put-either}
 
 -- ---- two entries laid

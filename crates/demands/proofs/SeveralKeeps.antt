@@ -21,7 +21,7 @@ use Rattle.demands.proofs.Acts.{Consistent, Leaves, leaves-all, StepKee
 use Rattle.demands.proofs.WritesKeep.{write-sequential-keeps}
 use Rattle.demands.proofs.Demand2Sequence.{next-call}
 
-leaves-then : {g : Geometry} {u : ℕ} {name v w x : List ℕ} → Leaves g v w u name → Leaves g w x u name → Leaves g v x u name
+pub leaves-then : {g : Geometry} {u : ℕ} {name v w x : List ℕ} → Leaves g v w u name → Leaves g w x u name → Leaves g v x u name
 leaves-then k l = record {
   presence = λ n. l .presence n ∙ k .presence n;
   contents = λ n h. l .contents n (k .presence n ∙ h) ∙ k .contents n h;

@@ -29,12 +29,11 @@ use Rattle.disk_rules.proofs.TwinLaws.{Twins}
 use Rattle.call_decide.specs.Write.{hasGroup, writeSlot, baseEntry, needsBlock, writeBlock, entryAfter, writeTests}
 use Rattle.call_entry.specs.Grown.{likeEntry}
 use Rattle.call_entry.specs.Alloc.{alloc}
-use Rattle.call_write.specs.CodeAfter.{volumeAfter, heldAfter}
+use Rattle.call_write.proofs.AfterLaws.{written, heldAfter, after-file, after-group, after-size, after-slot, after-slot-other, after-record-other}
 use Rattle.call_entry.proofs.AllocLaws.{alloc-given}
 use Rattle.call_entry.proofs.GrowLaws.{written-block, written-other}
 use Rattle.call_decide.proofs.WriteLaws.{length-base, write-passed}
 use Rattle.disk_geometry.proofs.InsideLaws.{is-inside}
-use Rattle.call_write.proofs.AfterLaws.{after-file, after-group, after-size, after-slot, after-slot-other, after-record-other}
 use Rattle.demands.proofs.Orderly.{Live, InOrder, Orderly, Laid, Fresh, Held, InMap, HeldAnew, sound-laid, held-laid}
 use Rattle.demands.proofs.Frame.{Touch, unchanged, foreign, Apart}
 use Rattle.demands.proofs.Files.{IsOf, is-of, of-file, other-file, user-live, file-live, file-block, empty-foreign}
@@ -80,11 +79,11 @@ module _ (g : Geometry) (h v : List ℕ) (u : ℕ) (name : List ℕ) (n : ℕ) w
   place-zero q = eqb-true _ _ q
 
 module _ (g : Geometry) (u : ℕ) (name : List ℕ) (k : ℕ) (e : Entry) where
-  group-file : ofGroup g u name k e ≡ true → ofFile u name e ≡ true
+  pub group-file : ofGroup g u name k e ≡ true → ofFile u name e ≡ true
   unfolding ofGroup
   group-file q = and-left (ofFile u name e) (eqb (groupOf g (extent e)) k) q
 
-  group-is : ofGroup g u name k e ≡ true → groupOf g (extent e) ≡ k
+  pub group-is : ofGroup g u name k e ≡ true → groupOf g (extent e) ≡ k
   unfolding ofGroup
   group-is q = eqb-true (groupOf g (extent e)) k (and-right (ofFile u name e) (eqb (groupOf g (extent e)) k) q)
 
@@ -334,7 +333,7 @@ module _ (g : Geometry) (law : lawful g ≡ true) (v : List ℕ) (size : length 
   -- ---- the volume
   module _ (fills : Bool) (r : List ℕ) (r128 : length r ≡ 128) where
     abbrev v′ : List ℕ
-    v′ = volumeAfter g h v u name n fills r
+    v′ = written g h v u name n fills r
 
     laid : Laid g (slotAt g v) (slotAt g v′) i e
     laid = record { here = after-slot g h v u name n law size passed fills r r128; there = after-slot-other g h v u name n law size passed fills r r128 }

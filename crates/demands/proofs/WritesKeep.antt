@@ -8,65 +8,55 @@ use lib.Dec.{eqb}
 use lib.ListN.{length}
 use Rattle.disk_volume.specs.Name.{nameOf, same}
 use Rattle.call_fcb.specs.Fcb.{position, random}
-use Rattle.call_answers.specs.declared.Refusal.the-variants.{Protected}
 use Rattle.call_answers.specs.Refusal.{isNone, firstMet}
-use Rattle.call_answers.proofs.Ladder.{unmet}
-use Rattle.call_decide.specs.Write.{needsBlock, writeBlock, writeTests}
-use Rattle.call_write.specs.CodeAfter.{volumeAfter}
 use Rattle.filecalls.specs.declared.Drive.{Drive}
-use Rattle.filecalls.specs.CodeReady.{OpenState}
-use Rattle.filecalls.specs.Outcome.{stored, storedAll, changedState}
+use Rattle.filecalls.specs.Outcome.{changedState}
 use Rattle.filecalls.specs.Read.{sequentialTests, randomTests}
-use Rattle.filecalls.specs.Write.{writeEntry, writeChange, writeDone, directoryTests, writeSequentialAct, writeDirectAct, writeRandomAct, writeZeroFillAct}
-use Rattle.filecalls.proofs.LentLaws.{sequential-lent, random-lent, sequential-passed, random-passed}
+use Rattle.filecalls.specs.Write.{writeEntry, writeDone, directoryTests, writeSequentialAct, writeDirectAct, writeRandomAct, writeZeroFillAct}
+use Rattle.filecalls.proofs.LentLaws.{sequential-lent, sequential-passed}
 use Rattle.filecalls.proofs.StateLaws.{both-clear}
-use Rattle.filecalls.proofs.WriteLaws.{taken}
 use Rattle.numbers.specs.Numbers.{Bytes}
-use Rattle.demands.proofs.Acts.{Consistent, Keeps, does, keeps-unless, leaves-apart}
-use Rattle.demands.proofs.WriteKeeps.{write-size, write-sound, write-held, write-apart}
+use Rattle.demands.proofs.Acts.{Consistent, Keeps, does, keeps-unless}
+use Rattle.demands.proofs.Demand2Writes.{Clear, clear-sequential, clear-random}
+use Rattle.demands.proofs.WriteKeeps.{write-size, write-sound, write-held}
+use Rattle.demands.proofs.WriteCut.{write-cut, write-ordered}
 
-module _ (d : Drive) (v f : List ℕ) (c : Consistent d v) (o : OpenState d) where
-  -- record n is written with the bytes r
-  module _ (n : ℕ) (fills : Bool) (r : List ℕ) (n< : n < 65536) (r128 : length r ≡ 128) (h : isNone (firstMet (directoryTests d v f n)) ≡ true) where
-    passed : isNone (firstMet (writeTests (d .geometry) (d .held) v (d .user) (nameOf f) n)) ≡ true
-    passed = unmet Protected _ _ refl h .1
-
-    written : Consistent (changedState d v (writeChange d v f n)) (volumeAfter (d .geometry) (d .held) v (d .user) (nameOf f) n fills r)
-    unfolding writeChange
-    written =
-        let g = d .geometry in
-        rw (taken d v (needsBlock g v (d .user) (nameOf f) n) (writeBlock g (d .held) v (d .user) (nameOf f) n)) (record {
-          law = c .law;
-          size = write-size g (c .law) v (c .size) (c .sound) (d .held) (c .held) (d .user) (o .user15) (nameOf f) n n< passed fills r r128;
-          sound = write-sound g (c .law) v (c .size) (c .sound) (d .held) (c .held) (d .user) (o .user15) (nameOf f) n n< passed fills r r128;
-          held = write-held g (c .law) v (c .size) (c .sound) (d .held) (c .held) (d .user) (o .user15) (nameOf f) n n< passed fills r r128;
-        })
-
-    done-keeps : (cr : ℕ) → Keeps (λ u name. eqb u (d .user) && same name (nameOf f)) d v (writeDone d v f n cr fills r)
-    unfolding writeDone writeEntry stored storedAll
-    done-keeps cr = does (record {
-      consistent = written;
-      others = λ u name u15 other. leaves-apart (d .geometry) (c .law) u name v _
-          (write-apart (d .geometry) (c .law) v (c .size) (c .sound) (d .held) (c .held) (d .user) (o .user15) (nameOf f) n n< passed fills r r128 u name u15 other);
-    })
-
-random-low : (f : List ℕ) → Bytes f → random f < 65536
+-- ---- the record that is written is below 65,536
+pub random-low : (f : List ℕ) → Bytes f → random f < 65536
 unfolding random
 random-low f h = omega (arith, h 33, h 34)
 
+pub position-low : (d : Drive) (v f b : List ℕ) → isNone (firstMet (sequentialTests d v f b ++ directoryTests d v f (position f))) ≡ true → position f < 65536
+position-low d v f b h =
+    let p = both-clear (sequentialTests d v f b) (directoryTests d v f (position f)) h in
+    sequential-passed d v f (length b) refl refl (ap (λ t. not (isNone (firstMet t))) (sym (sequential-lent d v f b)) ∙ ap not (p .0)) .low
+
 module _ (d : Drive) (v f b : List ℕ) (c : Consistent d v) where
+  -- record n is written with the buffer's bytes
+  done-keeps : (n cr : ℕ) (fills : Bool) → n < 65536 → Clear d v f b n → Keeps (λ u name. eqb u (d .user) && same name (nameOf f)) d v (writeDone d v f n cr fills b)
+  unfolding writeDone writeEntry changedState
+  done-keeps n cr fills n< l =
+      let g = d .geometry in
+      let u15 = l .state .user15 in
+      does (record {
+        consistent = record {
+          law = c .law;
+          size = write-size g (c .law) v (c .size) (c .sound) (d .held) (c .held) (d .user) u15 (nameOf f) n n< (l .passed) fills b (l .record128);
+          sound = write-sound g (c .law) v (c .size) (c .sound) (d .held) (c .held) (d .user) u15 (nameOf f) n n< (l .passed) fills b (l .record128);
+          held = write-held g (c .law) v (c .size) (c .sound) (d .held) (c .held) (d .user) u15 (nameOf f) n n< (l .passed) fills b (l .record128);
+        };
+        cuts = λ k. write-cut d v f c (l .state) n fills b n< (l .record128) (l .passed) k .safe;
+        ordered = write-ordered d v f c (l .state) n fills b n< (l .record128) (l .passed);
+      })
+
   pub write-sequential-keeps : Keeps (λ u name. eqb u (d .user) && same name (nameOf f)) d v (writeSequentialAct d v f b)
   unfolding writeSequentialAct
-  write-sequential-keeps = keeps-unless (sequentialTests d v f b ++ directoryTests d v f (position f)) _ (λ h.
-      let p = both-clear (sequentialTests d v f b) (directoryTests d v f (position f)) h in
-      let l = sequential-passed d v f (length b) refl refl (ap (λ t. not (isNone (firstMet t))) (sym (sequential-lent d v f b)) ∙ ap not (p .0)) in
-      done-keeps d v f c (l .lent .state) (position f) false b (l .low) (l .lent .buffer) (p .1) (position f % 128 + 1))
+  write-sequential-keeps = keeps-unless (sequentialTests d v f b ++ directoryTests d v f (position f)) _
+      (λ h. done-keeps (position f) (position f % 128 + 1) false (position-low d v f b h) (clear-sequential d v f b h))
 
   write-direct-keeps : (fills : Bool) → Bytes f → Keeps (λ u name. eqb u (d .user) && same name (nameOf f)) d v (writeDirectAct fills d v f b)
-  write-direct-keeps fills small = keeps-unless (randomTests d v f b ++ directoryTests d v f (random f)) _ (λ h.
-      let p = both-clear (randomTests d v f b) (directoryTests d v f (random f)) h in
-      let l = random-passed d v f (length b) refl refl (ap (λ t. not (isNone (firstMet t))) (sym (random-lent d v f b)) ∙ ap not (p .0)) in
-      done-keeps d v f c (l .lent .state) (random f) fills b (random-low f small) (l .lent .buffer) (p .1) (random f % 128))
+  write-direct-keeps fills small = keeps-unless (randomTests d v f b ++ directoryTests d v f (random f)) _
+      (λ h. done-keeps (random f) (random f % 128) fills (random-low f small) (clear-random d v f b h))
 
   pub write-random-keeps : Bytes f → Keeps (λ u name. eqb u (d .user) && same name (nameOf f)) d v (writeRandomAct d v f b)
   unfolding writeRandomAct

@@ -30,12 +30,14 @@ use Rattle.call_decide.specs.Write.{writeSlot, baseEntry, needsBlock, writeBloc
 use Rattle.call_entry.specs.Grown.{likeEntry, grown, writtenEntry}
 use Rattle.call_entry.specs.Alloc.{alloc}
 use Rattle.filecalls.specs.declared.Drive.{Drive}
-use Rattle.filecalls.specs.Outcome.{unless, outcome, stored, storedAll, changedState}
+use Rattle.disk_stores.specs.Pieces.{mapPiece}
+use Rattle.disk_stores.specs.Stores.{laid, fillStores, recordStores, entryStores, sweepStores}
+use Rattle.filecalls.specs.Outcome.{unless, outcome, changedState}
 use Rattle.filecalls.specs.State.{isOpen, closed, loggedIn}
 use Rattle.filecalls.specs.LogIn.{logInTests, refusedLogIn, logIn}
 use Rattle.filecalls.specs.Names.{deleteLadder, deleteAct}
 use Rattle.filecalls.specs.Read.{sequentialTests, randomTests, readDone, readRandomAct}
-use Rattle.filecalls.specs.Write.{writeEntry, writeChange, writeDone, writeSequentialAct, writeRandomAct, writeZeroFillAct}
+use Rattle.filecalls.specs.Write.{writeEntry, writeDone, writeSequentialAct, writeRandomAct, writeZeroFillAct}
 use Rattle.call_served.specs.declared.Call.the-variants.{LogIn, Moves}
 use Rattle.call_served.specs.declared.Transfer.the-variants.{ReadRandom}
 use Rattle.bdos.specs.Step.{carries, does, step}
@@ -51,29 +53,29 @@ use Rattle.demands.specs.AtSeam.{logsIn}
 use Rattle.demands.specs.WrongWays.{refusesEvery, readsNothing, storesNothing, storesFirst, inventsCount, movesCr, keepsOldBytes, throwsAway, overlooksTwice, fillsNothing, fillsAlways, heldNotUpdated, freesTooMany, takesHeld, storesElsewhere, ShutOut}
 
 -- what has to compute where a call is evaluated
-unfoldable computes : Unit {0}
-unfolding lowFrom anyFrom everyFrom countFrom fold part put all lawful start slotStart recordStart groupOf placeOf inside strip nameAt same like goodName places blockIn withBlock countOf ofFile ofGroup matches slotAt putSlot findSlot mapSlot recordSlot counted present recordAt putRecord fillRecord putFilled digit holds hold release wordOf wordsOf lowestFree freeCount position random setTo firstMet goodFields goodTopBits inPlaces namesBlock namedBelow goodPlace seenBelow goodSlot lowestBad named heldOf readBlock readTests readBytes changed deleteTests freePlace freeEntry freeSlot freeMatches alloc likeEntry grown writeSlot baseEntry needsBlock writeBlock writtenEntry writeTests isOpen outcome unless stored storedAll changedState logIn logInTests refusedLogIn deleteLadder deleteAct sequentialTests randomTests readDone readRandomAct writeEntry writeChange writeDone writeSequentialAct writeRandomAct writeZeroFillAct callOf does carries step
+unfoldable pub computes : Unit {0}
+unfolding lowFrom anyFrom everyFrom countFrom fold part put all lawful start slotStart recordStart groupOf placeOf inside strip nameAt same like goodName places blockIn withBlock countOf ofFile ofGroup matches slotAt putSlot findSlot mapSlot recordSlot counted present recordAt putRecord fillRecord putFilled digit holds hold release wordOf wordsOf lowestFree freeCount position random setTo firstMet goodFields goodTopBits inPlaces namesBlock namedBelow goodPlace seenBelow goodSlot lowestBad named heldOf readBlock readTests readBytes changed deleteTests freePlace freeEntry freeSlot freeMatches alloc likeEntry grown writeSlot baseEntry needsBlock writeBlock writtenEntry writeTests isOpen outcome unless laid fillStores recordStores entryStores mapPiece sweepStores changedState logIn logInTests refusedLogIn deleteLadder deleteAct sequentialTests randomTests readDone readRandomAct writeEntry writeDone writeSequentialAct writeRandomAct writeZeroFillAct callOf does carries step
 computes = tt
 
 -- ---- the volume: B 1,024, T 4, D 1, three files. A has record 0 in block 1; B and C have no block; block 2 has old bytes
-abbrev small : Geometry
+abbrev pub small : Geometry
 small = geometryOf 1024 4 1
 
 abbrev nameOfFile : ℕ → List ℕ
 nameOfFile letter = letter ∷ replicate 10 32
 
-abbrev entryOf : ℕ → ℕ → ℕ → List ℕ
+abbrev pub entryOf : ℕ → ℕ → ℕ → List ℕ
 entryOf letter rc block = (0 ∷ nameOfFile letter) ++ ((0 ∷ 0 ∷ 0 ∷ rc ∷ block ∷ []) ++ replicate 15 0)
 
-abbrev bytesOf : ℕ → List ℕ
+abbrev pub bytesOf : ℕ → List ℕ
 bytesOf x = replicate 128 x
 
-abbrev disk : List ℕ
+abbrev pub disk : List ℕ
 disk =
     entryOf 65 1 1 ++ (entryOf 66 0 0 ++ (entryOf 67 0 0 ++ (replicate 928 0xE5 ++ (bytesOf 7 ++ (replicate 896 0 ++ (replicate 1024 5 ++ replicate 1024 0))))))
 
 -- the state after its log-in: block 1 is held
-abbrev ready : Drive
+abbrev pub ready : Drive
 ready = loggedIn small (2 ∷ 0 ∷ 0 ∷ 0 ∷ [])
 
 -- one in which block 1 stands in the entries of A and B
@@ -81,13 +83,13 @@ abbrev shared : List ℕ
 shared = entryOf 65 1 1 ++ (entryOf 66 1 1 ++ (replicate 960 0xE5 ++ replicate 3072 0))
 
 -- the control block of record n, below 256, of a file; and calls with it
-abbrev fcbOf : ℕ → ℕ → List ℕ
+abbrev pub fcbOf : ℕ → ℕ → List ℕ
 fcbOf letter n = (0 ∷ nameOfFile letter) ++ (replicate 21 0 ++ (n ∷ 0 ∷ 0 ∷ []))
 
 abbrev reads : ℕ → ℕ → Asked
 reads letter n = asked 33 0 (fcbOf letter n) (bytesOf 0)
 
-abbrev writes : ℕ → ℕ → Asked
+abbrev pub writes : ℕ → ℕ → Asked
 writes letter n = asked 34 0 (fcbOf letter n) (bytesOf 9)
 
 abbrev fills : ℕ → ℕ → Asked
@@ -164,7 +166,7 @@ fills-always d =
     absurd (omega arith)
 
 -- ---- demand 3
-bytes-below : (l : List ℕ) → all (λ b. ltb b 256) l ≡ true → Bytes l
+pub bytes-below : (l : List ℕ) → all (λ b. ltb b 256) l ≡ true → Bytes l
 unfolding all
 bytes-below [] e k = omega arith
 bytes-below (x ∷ xs) e k = go (ltb x 256) refl e (λ rest. bytes-below xs rest) k

@@ -22,8 +22,7 @@ use Rattle.call_answers.specs.Refusal.{Test, isNone, firstMet}
 use Rattle.call_answers.specs.Answer.{succeeded}
 use Rattle.call_read.specs.Read.{readBlock, readBytes}
 use Rattle.call_decide.specs.Write.{writeSlot, entryAfter}
-use Rattle.call_write.specs.CodeAfter.{volumeAfter, heldAfter}
-use Rattle.call_write.proofs.AfterLaws.{after-size, after-byte, after-block, after-slot, after-recordSlot, after-record-within}
+use Rattle.call_write.proofs.AfterLaws.{written, heldAfter, after-size, after-byte, after-block, after-slot, after-recordSlot, after-record-within}
 use Rattle.filecalls.specs.declared.Drive.{Drive}
 use Rattle.filecalls.specs.Outcome.{Outcome, outcome, withHeld}
 use Rattle.filecalls.specs.Read.{randomTests}
@@ -52,7 +51,7 @@ module _ (d : Drive) (v f b : List ℕ) where
       record {
         answer = Done 0;
         drive = withHeld d (heldAfter (d .geometry) (d .held) v (d .user) (nameOf f) n);
-        volume = volumeAfter (d .geometry) (d .held) v (d .user) (nameOf f) n fills b;
+        volume = written (d .geometry) (d .held) v (d .user) (nameOf f) n fills b;
         fcb = setTo f (entryAfter (d .geometry) (d .held) v (d .user) (nameOf f) n) n (n % 128);
         buffer = b;
       }
@@ -93,7 +92,7 @@ module _ (d : Drive) (v f b : List ℕ) where
   sizes false e = refl
   sizes true e = size-of true ∙ sym (size-of false)
     where
-      size-of : (fills : Bool) → length (volumeAfter (d .geometry) (d .held) v (d .user) (nameOf f) n fills b) ≡ bytes (d .geometry)
+      size-of : (fills : Bool) → length (written (d .geometry) (d .held) v (d .user) (nameOf f) n fills b) ≡ bytes (d .geometry)
       size-of fills = let c = clear e in after-size (d .geometry) (d .held) v (d .user) (nameOf f) n (c .state .law) (c .size) (c .passed) fills b (c .record128)
 
   elsewhere : (x : ℕ) → OffBlock (d .geometry) (blockOf d v f) x → (t : Bool) → isNone (firstMet tests) ≡ t → byte (result t true .volume) x ≡ byte (result t false .volume) x
@@ -109,7 +108,7 @@ module _ (d : Drive) (v f b : List ℕ) where
     g = d .geometry
 
     abbrev after : List ℕ
-    after = volumeAfter g (d .held) v (d .user) (nameOf f) n true b
+    after = written g (d .held) v (d .user) (nameOf f) n true b
 
     zeros : (m : ℕ) → m % records g ≢ n % records g → recordAt g after (blockOf d v f) m ≡ replicate 128 0
     zeros m ne =
@@ -144,7 +143,7 @@ module _ (d : Drive) (v f b : List ℕ) where
       go false e = absurd (true≢false (sym h ∙ ap (λ (o : Outcome). succeeded (o .answer)) (result-is true false e)))
 
   volume-is : isNone (firstMet tests) ≡ true
-      → outcome d v f b (writeZeroFillAct d v f b) .volume ≡ volumeAfter (d .geometry) (d .held) v (d .user) (nameOf f) n true b
+      → outcome d v f b (writeZeroFillAct d v f b) .volume ≡ written (d .geometry) (d .held) v (d .user) (nameOf f) n true b
   unfolding writeZeroFillAct
   volume-is e = ap (λ (o : Outcome). o .volume) (result-is true true e)
 

@@ -12,4 +12,7 @@ pub mod Several
 pub mod Renaming
 pub mod RenamingOnV
 pub mod ZeroFill
+pub mod Cuts
+pub mod CutsAtSeam
 pub mod WrongWays
+pub mod WrongOrders

@@ -25,7 +25,9 @@ use Rattle.call_sweep.specs.Sweep.{renamed, changed}
 use Rattle.call_rename.specs.Rename.{renameTests}
 use Rattle.filecalls.specs.declared.Drive.{Drive}
 use Rattle.filecalls.specs.State.{isOpen, loggedIn}
-use Rattle.filecalls.specs.Outcome.{Outcome, outcome, unless, stored, storedAll, changedState}
+use Rattle.disk_stores.specs.Pieces.{mapPiece}
+use Rattle.disk_stores.specs.Stores.{laid, fillStores, recordStores, entryStores, sweepStores}
+use Rattle.filecalls.specs.Outcome.{Outcome, outcome, unless, changedState}
 use Rattle.filecalls.specs.LogIn.{logInTests, logIn}
 use Rattle.filecalls.specs.Names.{renameLadder, renameAct}
 use Rattle.demands.specs.Renaming.{rename, thenRename, Drafts, PassesInspection, Asks}
@@ -146,7 +148,7 @@ pub record OnV : Type 0 where
   pub back-is : rename stateV (volumeV temporary) back ≡ done stateV back (volumeV draft)
 
 pub on-v : OnV
-unfolding outcome unless firstMet stored storedAll changedState renameAct renameLadder renameTests renamed changed isOpen lawful goodName typeable typeableByte blankBefore all same findSlot lowFrom fold mapSlot putSlot put ofFile strip nameAt part slotAt slotStart start
+unfolding outcome unless firstMet laid fillStores recordStores entryStores mapPiece sweepStores changedState renameAct renameLadder renameTests renamed changed isOpen lawful goodName typeable typeableByte blankBefore all same findSlot lowFrom anyFrom fold mapSlot putSlot put ofFile strip nameAt part slotAt slotStart start
 on-v = record { there-is = refl; on-is = refl; direct-is = refl; back-is = refl }
 
 -- ---- an altered volume: B 1,024, T 2, D 1, and an entry with a top bit on byte 1. All is met but inspection, and renaming
@@ -185,5 +187,5 @@ drafts-altered = record {
 }
 
 pub altered-trace : thenRename (rename stateAltered (volumeAltered topped1) there) back ≡ done stateAltered back (volumeAltered (entry 0 draft 0 0 0 0))
-unfolding outcome unless firstMet stored storedAll changedState renameAct renameLadder renameTests renamed changed isOpen lawful goodName typeable typeableByte blankBefore all same findSlot lowFrom fold mapSlot putSlot put ofFile strip nameAt part slotAt slotStart start
+unfolding outcome unless firstMet laid fillStores recordStores entryStores mapPiece sweepStores changedState renameAct renameLadder renameTests renamed changed isOpen lawful goodName typeable typeableByte blankBefore all same findSlot lowFrom anyFrom fold mapSlot putSlot put ofFile strip nameAt part slotAt slotStart start
 altered-trace = refl

@@ -66,9 +66,13 @@ slots g = recordSlots * (directoryBlocks g * records g)
 unfoldable pub slotStart : Geometry → ℕ → ℕ
 slotStart g i = start g (i / recordSlots) + i % recordSlots * entryBytes
 
--- "Its bytes begin at block times B plus (n mod R) times 128": record n in block b
+-- the logical record of record n in block b, and where it begins: "Its bytes begin at block times B plus (n mod R) times
+-- 128"
+abbrev pub recordOf : Geometry → ℕ → ℕ → ℕ
+recordOf g b n = b * records g + n % records g
+
 unfoldable pub recordStart : Geometry → ℕ → ℕ → ℕ
-recordStart g b n = start g (b * records g + n % records g)
+recordStart g b n = start g (recordOf g b n)
 
 -- the group of extent x
 unfoldable pub groupOf : Geometry → ℕ → ℕ

@@ -2,7 +2,7 @@
 ghost use mathlib.Core.Path.{_≡_};
 ghost use mathlib.Core.Bool.{true};
 ghost use Prim.Native.Nat.{_+_, _*_, _/_, _%_, _≤_, _<_};
-ghost use Rattle.disk_geometry.specs.Geometry.{recordBytes, entryBytes, recordSlots, lawful, bytes, records, extents, start, slots, slotStart, recordStart, groupOf, places, placeOf, inside, blocks};
+ghost use Rattle.disk_geometry.specs.Geometry.{recordBytes, entryBytes, recordSlots, lawful, bytes, records, extents, start, slots, slotStart, recordOf, recordStart, groupOf, places, placeOf, inside, blocks};
 ghost use Rattle.disk_geometry.specs.Shift.{bsh, blm};
 
 // How the volume is cut up: B, T and D of the paper.
@@ -24,6 +24,9 @@ impl Geometry {
     pub const RECORD_SLOTS: usize = 4;
 
     pub const EXTENT_BLOCK_BYTES: usize = 1024;
+
+    // More extents than an entry has.
+    const EXTENTS_BELOW: usize = 8;
 
     // Is the geometry within the rules?
     pub fn is_lawful(self) -> bool
@@ -117,20 +120,28 @@ impl Geometry {
         self.slot_record(i) + i % Geometry::RECORD_SLOTS * Geometry::ENTRY_BYTES
     }
 
+    // The logical record of record n in block b.
+    pub fn record_of(self, b: usize, n: usize) -> usize
+        requires { ⌜ (lawful self ≡ true) × (b < blocks self) ⌝ }
+        ensures { λ r. ⌜ (r ≡ recordOf self b n) × (r < blocks self * records self) ⌝ }
+    {
+        (b << self.bsh()) + (n & self.blm())
+    }
+
     // Where record n begins that lies in block b.
     pub fn record_start(self, b: usize, n: usize) -> usize
         requires { ⌜ (lawful self ≡ true) × (b < blocks self) ⌝ }
         ensures { λ r. ⌜ (r ≡ recordStart self b n) × (r + recordBytes ≤ bytes self) ⌝ }
     {
-        self.start((b << self.bsh()) + (n & self.blm()))
+        self.start(self.record_of(b, n))
     }
 
-    // The group of extent x.
+    // The group of extent x. That an entry has few extents is said here, since a division by a small number is shorter.
     pub fn group(self, x: usize) -> usize
         requires { ⌜ lawful self ≡ true ⌝ }
         ensures { λ r. ⌜ r ≡ groupOf self x ⌝ }
     {
-        x / self.extents()
+        x / (self.extents() % Geometry::EXTENTS_BELOW)
     }
 
     // How many places an entry's map has.

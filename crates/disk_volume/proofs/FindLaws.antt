@@ -84,6 +84,10 @@ module _ (g : Geometry) (v : List ℕ) (u : ℕ) (name : List ℕ) where
           let all = low-le (slotFits g v u name w) i (slots g - i) in
           low-miss (slotFits g v u name w) i (slots g - i) (ltb-false _ _ e) m low (omega arith)
 
+  -- the entry in the slot where it ends has what is wanted
+  pub from-fits : (w : Wanted) (i : ℕ) → i ≤ slots g → findFrom g v u name w i < slots g → slotFits g v u name w (findFrom g v u name w i) ≡ true
+  from-fits w i h l = low-hit (slotFits g v u name w) i (slots g - i) (findFrom g v u name w i) refl (omega arith) .passes
+
 -- ---- steps that change nothing are passed over
 fold-over : {A : Type 0} (step : A → ℕ → A) (a : A) (i k : ℕ) → ((m : ℕ) → i ≤ m → m < i + k → step a m ≡ a) → fold step a i k ≡ a
 unfolding fold

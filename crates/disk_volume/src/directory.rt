@@ -1,12 +1,10 @@
-// The directory: the lowest slot that has what is wanted, and an entry laid into its slot.
+// The directory: the lowest slot that has what is wanted.
 ghost use mathlib.Core.Path.{_≡_};
-ghost use Prim.Native.Nat.{_+_, _-_, _*_, _%_, _≤_, _<_};
-ghost use lib.ListN.{length};
-ghost use Rattle.lists.specs.Bytes.{put};
-ghost use Rattle.disk_geometry.specs.Geometry.{entryBytes, slots};
+ghost use Prim.Native.Nat.{_≤_};
+ghost use Rattle.disk_geometry.specs.Geometry.{slots};
 ghost use Rattle.disk_volume.specs.Name.{strip};
-ghost use Rattle.disk_volume.specs.Directory.{findFrom, findSlot, putSlot};
-ghost use Rattle.disk_volume.specs.CodeLent.{IsVolume, VolumeAnd, IsName, IsEntry};
+ghost use Rattle.disk_volume.specs.Directory.{findFrom, findSlot};
+ghost use Rattle.disk_volume.specs.CodeLent.{IsVolume, VolumeAnd, IsName};
 use crate::Wanted;
 use crate::entry;
 use disk_geometry::Geometry;
@@ -52,29 +50,4 @@ pub fn find(g: Geometry, volume: &[u8], user: u8, name: &[u8], wanted: Wanted) -
         ⌝ }
 {
     find_from(g, volume, 0, user, name, wanted)
-}
-
-// Lays an entry over the bytes of a directory record from o on.
-fn lay(sector: &mut [u8], o: usize, e: &[u8])
-    requires { ⌜ (o + entryBytes ≤ length (now sector)) × IsEntry (now e) ⌝ }
-    ensures { λ _. ⌜ now (sector .exit) ≡ put (now (sector .entry)) o entryBytes (now (e .entry)) ⌝ }
-{
-    lists::copy(&mut sector[o..o + Geometry::ENTRY_BYTES], e);
-}
-
-// Lays an entry into slot i, by one store of the directory record that holds it.
-pub fn put_slot(g: Geometry, volume: &mut [u8], i: usize, e: &[u8])
-    requires { ⌜ IsVolume g (now volume) ⌝ }
-    requires { ⌜ (i < slots g) × IsEntry (now e) ⌝ }
-    ensures { λ _. ⌜ now (volume .exit) ≡ putSlot g (now (volume .entry)) i (now (e .entry)) ⌝ }
-{
-    let at = g.slot_record(i);
-    let mut sector = [0u8; Geometry::RECORD_BYTES];
-    lists::copy(&mut sector, &volume[at..at + Geometry::RECORD_BYTES]);
-    lay(
-        &mut sector,
-        i % Geometry::RECORD_SLOTS * Geometry::ENTRY_BYTES,
-        e,
-    );
-    lists::copy(&mut volume[at..at + Geometry::RECORD_BYTES], &sector);
 }

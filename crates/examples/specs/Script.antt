@@ -37,13 +37,15 @@ use Rattle.call_entry.specs.Alloc.{alloc}
 use Rattle.filecalls.specs.Leaves.{readSequentialLeaves, writeSequentialLeaves}
 use Rattle.filecalls.specs.declared.Drive.{Drive}
 use Rattle.filecalls.specs.State.{isOpen, closed}
-use Rattle.filecalls.specs.Outcome.{Outcome, outcome, left, unless, stored, storedAll, changedState}
+use Rattle.disk_stores.specs.Pieces.{mapPiece}
+use Rattle.disk_stores.specs.Stores.{laid, fillStores, recordStores, entryStores, sweepStores}
+use Rattle.filecalls.specs.Outcome.{Outcome, outcome, left, unless, changedState}
 use Rattle.filecalls.specs.LogIn.{logIn as logInReply, logInTests, refusedLogIn}
 use Rattle.filecalls.specs.Open.{openTests, openAct, closeTests, closeAct, sizeTests, sizeAct}
 use Rattle.filecalls.specs.Search.{keptAt, newSearch, hitAct, firstTests, searchFirstAct, nextTests, searchNextAct}
 use Rattle.filecalls.specs.Names.{deleteLadder, deleteAct, makeLadder, makeAct, renameLadder, renameAct, attributesLadder, attributesAct}
 use Rattle.filecalls.specs.Read.{sequentialTests, randomTests, readDone, readSequentialAct, readRandomAct}
-use Rattle.filecalls.specs.Write.{writeEntry, writeChange, writeDone, writeSequentialAct, writeRandomAct, writeZeroFillAct}
+use Rattle.filecalls.specs.Write.{writeEntry, writeDone, writeSequentialAct, writeRandomAct, writeZeroFillAct}
 use Rattle.filecalls.specs.Small.{protectTests, protectAct, userTests, userAct, setRandomTests, setRandomAct}
 use Rattle.filecalls.specs.Several.{onPiece, singles, several}
 use Rattle.filecalls.specs.Several.{severalTests}
@@ -192,7 +194,7 @@ before v = record { answer = Refused Closed; drive = closed; volume = v; fcb = [
 
 -- Both sides of a statement: what the scripts show, and what they say. To unfold `seen` is to unfold every definition.
 unfoldable pub seen : List Script → List (List (List ℕ))
-unfolding seenAfter perform lowFrom anyFrom everyFrom countFrom fold part put all lawful start slotStart recordStart groupOf placeOf inside strip nameAt same like goodName typeable typeableByte blankBefore places blockIn withBlock countOf ofFile ofGroup matches slotAt putSlot findSlot mapSlot recordSlot counted present recordAt putRecord fillRecord putFilled slotRecord digit holds hold release wordOf wordsOf lowestFree freeCount position random setTo opened made withRandom firstMet goodFields goodTopBits inPlaces namesBlock namedBelow goodPlace seenBelow goodSlot lowestBad named heldOf openSlot closeSlot patternOf hitFrom entryEnd larger sizeOf readBlock readTests readBytes renamed attributed changed deleteTests freePlace freeEntry freeSlot freeMatches makeTests freshEntry renameTests alloc likeEntry grown writeSlot baseEntry needsBlock writeBlock writtenEntry writeTests isOpen outcome unless stored storedAll changedState logInReply logInTests refusedLogIn openTests openAct closeTests closeAct sizeTests sizeAct keptAt newSearch hitAct firstTests searchFirstAct nextTests searchNextAct deleteLadder deleteAct makeLadder makeAct renameLadder renameAct attributesLadder attributesAct sequentialTests randomTests readDone readSequentialAct readRandomAct writeEntry writeChange writeDone writeSequentialAct writeRandomAct writeZeroFillAct protectTests protectAct userTests userAct setRandomTests setRandomAct onPiece singles severalTests several
+unfolding seenAfter perform lowFrom anyFrom everyFrom countFrom fold part put all lawful start slotStart recordStart groupOf placeOf inside strip nameAt same like goodName typeable typeableByte blankBefore places blockIn withBlock countOf ofFile ofGroup matches slotAt putSlot findSlot mapSlot recordSlot counted present recordAt putRecord fillRecord putFilled slotRecord digit holds hold release wordOf wordsOf lowestFree freeCount position random setTo opened made withRandom firstMet goodFields goodTopBits inPlaces namesBlock namedBelow goodPlace seenBelow goodSlot lowestBad named heldOf openSlot closeSlot patternOf hitFrom entryEnd larger sizeOf readBlock readTests readBytes renamed attributed changed deleteTests freePlace freeEntry freeSlot freeMatches makeTests freshEntry renameTests alloc likeEntry grown writeSlot baseEntry needsBlock writeBlock writtenEntry writeTests isOpen outcome unless laid fillStores recordStores entryStores mapPiece sweepStores changedState logInReply logInTests refusedLogIn openTests openAct closeTests closeAct sizeTests sizeAct keptAt newSearch hitAct firstTests searchFirstAct nextTests searchNextAct deleteLadder deleteAct makeLadder makeAct renameLadder renameAct attributesLadder attributesAct sequentialTests randomTests readDone readSequentialAct readRandomAct writeEntry writeDone writeSequentialAct writeRandomAct writeZeroFillAct protectTests protectAct userTests userAct setRandomTests setRandomAct onPiece singles severalTests several
 seen [] = []
 seen (s ∷ ss) = seenAfter (before (s .volume)) (s .lines) ∷ seen ss
 

@@ -9,7 +9,8 @@ use Rattle.call_answers.specs.Refusal.{Test, isNone, first, firstMet}
 use Rattle.call_answers.proofs.Ladder.{ladder-append}
 use Rattle.filecalls.specs.declared.Drive.{Drive}
 use Rattle.filecalls.specs.declared.Reply.{Reply}
-use Rattle.filecalls.specs.Outcome.{Change, Store, Act, done, unless, outcome, left, withHeld, changedState, storedAll}
+use Rattle.disk_stores.specs.Stores.{Store, laid}
+use Rattle.filecalls.specs.Outcome.{Change, Act, done, unless, outcome, left, withHeld, changedState}
 use Rattle.filecalls.specs.CodeLadder.{namedTests, plainTests}
 use Rattle.filecalls.proofs.OutcomeLaws.{passes, either, refused-at, decided}
 use Rattle.filecalls.proofs.StateLaws.{Named, no-buffer}
@@ -33,7 +34,7 @@ module _ (d : Drive) (v f : List ℕ) where
   -- what is lent passes, and the tests that follow decide
   pub named-decided : {p : Bool} {why : Refusal} {r : Reply} {d′ : Drive} {v′ f′ : List ℕ} → Named d v f p
       → (k : ℕ) (c : Change) (ss : List Store) (f₂ : List ℕ) (ys : List Test)
-      → why ≡ firstMet ys → d′ ≡ cond (isNone why) (changedState d v c) d → v′ ≡ cond (isNone why) (storedAll (d .geometry) v ss) v
+      → why ≡ firstMet ys → d′ ≡ cond (isNone why) (changedState d v c) d → v′ ≡ cond (isNone why) (laid (d .geometry) v ss) v
       → f′ ≡ cond (isNone why) f₂ f → r ≡ record { answer = cond (isNone why) (Done k) (Refused why); drive = d′ }
       → left r v′ f′ [] ≡ outcome d v f [] (unless (plainTests d v f p ++ ys) (done k c ss f₂ []))
   named-decided {p} {why} lent k c ss f₂ ys e ed ev ef q =

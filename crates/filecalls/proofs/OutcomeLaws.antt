@@ -11,7 +11,8 @@ use Rattle.call_answers.specs.Answer.{succeeded}
 use Rattle.call_answers.proofs.Ladder.{ladder-stop, ladder-pass}
 use Rattle.filecalls.specs.declared.Drive.{Drive}
 use Rattle.filecalls.specs.declared.Reply.{Reply}
-use Rattle.filecalls.specs.Outcome.{Change, keeps, Store, Act, deny, done, unless, Outcome, outcome, left, changedState, storedAll}
+use Rattle.disk_stores.specs.Stores.{Store, laid}
+use Rattle.filecalls.specs.Outcome.{Change, keeps, Act, deny, done, unless, Outcome, outcome, left, changedState}
 
 -- a first group of tests refuses
 pub stops : (xs ys : List Test) (act : Act) → isNone (firstMet xs) ≡ false → unless (xs ++ ys) act ≡ deny (firstMet xs)
@@ -92,7 +93,7 @@ module _ (d : Drive) (v f b : List ℕ) where
 
   pub says-done : {r : Reply} {k : ℕ} {u : Act} (f′ b′ : List ℕ) → u ≡ done k keeps [] f′ b′ → r ≡ record { answer = Done k; drive = d }
       → left r v f′ b′ ≡ outcome d v f b u
-  unfolding outcome changedState storedAll
+  unfolding outcome changedState laid
   says-done {r} {k} {u} f′ b′ e p = rw (p, e)
 
   -- a first group of tests refuses, as code learns it
@@ -104,7 +105,7 @@ module _ (d : Drive) (v f b : List ℕ) where
 
   -- the last group of tests decides, and all that is left was changed only where it does not refuse
   pub decided : {why : Refusal} {r : Reply} {d′ : Drive} {v′ f′ b′ : List ℕ} (k : ℕ) (c : Change) (ss : List Store) (f₂ b₂ : List ℕ) (ys : List Test)
-      → why ≡ firstMet ys → d′ ≡ cond (isNone why) (changedState d v c) d → v′ ≡ cond (isNone why) (storedAll (d .geometry) v ss) v
+      → why ≡ firstMet ys → d′ ≡ cond (isNone why) (changedState d v c) d → v′ ≡ cond (isNone why) (laid (d .geometry) v ss) v
       → f′ ≡ cond (isNone why) f₂ f → b′ ≡ cond (isNone why) b₂ b → r ≡ record { answer = cond (isNone why) (Done k) (Refused why); drive = d′ }
       → left r v′ f′ b′ ≡ outcome d v f b (unless ys (done k c ss f₂ b₂))
   unfolding unless outcome

@@ -20,7 +20,8 @@ use Rattle.filecalls.specs.declared.Drive.{Drive}
 use Rattle.filecalls.specs.declared.Reply.{Reply}
 use Rattle.filecalls.specs.State.{goodPattern, goodKept}
 use Rattle.filecalls.specs.Tests.{closedState, volumeLength, bufferLength}
-use Rattle.filecalls.specs.Outcome.{unless, outcome, left, withSearch, changedState, storedAll}
+use Rattle.disk_stores.specs.Stores.{laid}
+use Rattle.filecalls.specs.Outcome.{unless, outcome, left, withSearch, changedState}
 use Rattle.filecalls.specs.CodeReady.{Lent}
 use Rattle.filecalls.specs.CodeLadder.{lentTests, firstLent}
 use Rattle.filecalls.specs.Search.{isKept, keptAt, hitAct}
@@ -73,7 +74,7 @@ module _ (d : Drive) (v f b : List ℕ) (q : KeptSearch) (i : ℕ) where
       → b′ ≡ cond (ltb j (slots (d .geometry))) (slotRecord (d .geometry) v j) b → k ≡ keptAt q j
       → r ≡ record { answer = Done (j % 4); drive = withSearch d k }
       → left r v f b′ ≡ outcome d v f b (unless (test NoMatch (leb (slots (d .geometry)) i) ∷ []) (hitAct d v f q i))
-  unfolding outcome unless firstMet hitAct changedState storedAll
+  unfolding outcome unless firstMet hitAct changedState laid
   hits {r} {k} {j} {b′} s h eb ek er =
       rw (er, ek, eb, ← s, lt-ltb j (slots (d .geometry)) h, lt-leb (slots (d .geometry)) j h)
 

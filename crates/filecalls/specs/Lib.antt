@@ -11,5 +11,7 @@ pub mod Write
 pub mod Small
 pub mod Leaves
 pub mod Several
+pub mod Stores
 pub mod CodeReady
 pub mod CodeLadder
+pub mod CodeCut

@@ -9,18 +9,19 @@ use Rattle.disk_volume.specs.declared.Wanted.the-variants.{Empty, File}
 use Rattle.disk_geometry.specs.Geometry.{slots, recordSlots}
 use Rattle.disk_volume.specs.Fields.{NAME, EX, nameBytes}
 use Rattle.disk_volume.specs.Name.{nameOf}
+use Rattle.disk_volume.specs.Entry.{ofFile, matches}
 use Rattle.disk_volume.specs.Directory.{findSlot}
+use Rattle.disk_stores.specs.Stores.{entryStores, directoryRecords, sweepStores}
 use Rattle.call_fcb.specs.Fcb.{NEWNAME, newName, made}
 use Rattle.call_answers.specs.declared.Refusal.the-variants.{NoMatch}
 use Rattle.call_answers.specs.Refusal.{Test, test}
-use Rattle.call_sweep.specs.declared.Edit.the-variants.{Erase, Rename, Attributes}
-use Rattle.call_sweep.specs.Sweep.{changed}
+use Rattle.call_sweep.specs.Sweep.{erased, renamed, attributed}
 use Rattle.call_delete.specs.Delete.{deleteTests}
 use Rattle.call_make.specs.Make.{makeTests, freshEntry}
 use Rattle.call_rename.specs.Rename.{renameTests}
 use Rattle.filecalls.specs.declared.Drive.{Drive}
 use Rattle.filecalls.specs.Tests.{closedState, volumeLength, fcbLength, driveCode, badName, untypeable, tooLarge, protectedDrive}
-use Rattle.filecalls.specs.Outcome.{keeps, frees, entryTo, eachEntry, Act, done, unless}
+use Rattle.filecalls.specs.Outcome.{keeps, frees, Act, done, unless}
 
 -- "byte 0 of all matching entries of the user (3FH allowed) becomes E5H, their blocks are free"
 unfoldable pub deleteLadder : Drive → List ℕ → List ℕ → List Test
@@ -31,7 +32,7 @@ deleteLadder d v fcb =
 unfoldable pub deleteAct : Drive → List ℕ → List ℕ → Act
 deleteAct d v fcb =
     unless (deleteLadder d v fcb)
-    (done 0 (frees (d .user) (nameOf fcb)) (eachEntry (changed Erase (d .user) (nameOf fcb) []) ∷ []) fcb [])
+    (done 0 (frees (d .user) (nameOf fcb)) (sweepStores (d .geometry) (matches (d .user) (nameOf fcb)) erased v 0 (directoryRecords (d .geometry))) fcb [])
 
 -- "the lowest empty slot gets user, name without top bits, all else 0. Control block 1..11 likewise, 12..31 become 0."
 unfoldable pub makeLadder : Drive → List ℕ → List ℕ → List Test
@@ -44,7 +45,7 @@ unfoldable pub makeAct : Drive → List ℕ → List ℕ → Act
 makeAct d v fcb =
     unless (makeLadder d v fcb)
     (done (findSlot (d .geometry) v (d .user) (nameOf fcb) Empty % recordSlots) keeps
-    (entryTo (findSlot (d .geometry) v (d .user) (nameOf fcb) Empty) (freshEntry (d .user) (nameOf fcb)) ∷ [])
+    (entryStores (d .geometry) v (findSlot (d .geometry) v (d .user) (nameOf fcb) Empty) (freshEntry (d .user) (nameOf fcb)))
     (made fcb (nameOf fcb)) [])
 
 -- "old name in 1..11, new in 17..27; all entries of the file take the new one"
@@ -57,7 +58,10 @@ renameLadder d v fcb =
 unfoldable pub renameAct : Drive → List ℕ → List ℕ → Act
 renameAct d v fcb =
     unless (renameLadder d v fcb)
-    (done 0 keeps (eachEntry (changed Rename (d .user) (nameOf fcb) (part fcb NEWNAME nameBytes)) ∷ []) fcb [])
+    (done 0 keeps
+    (sweepStores (d .geometry) (ofFile (d .user) (nameOf fcb)) (λ e. renamed e (part fcb NEWNAME nameBytes)) v 0
+    (directoryRecords (d .geometry)))
+    fcb [])
 
 -- "top bits of control block bytes 9 and 10 go to all entries of the file"
 unfoldable pub attributesLadder : Drive → List ℕ → List ℕ → List Test
@@ -69,4 +73,7 @@ attributesLadder d v fcb =
 unfoldable pub attributesAct : Drive → List ℕ → List ℕ → Act
 attributesAct d v fcb =
     unless (attributesLadder d v fcb)
-    (done 0 keeps (eachEntry (changed Attributes (d .user) (nameOf fcb) (part fcb NAME nameBytes)) ∷ []) fcb [])
+    (done 0 keeps
+    (sweepStores (d .geometry) (ofFile (d .user) (nameOf fcb)) (λ e. attributed e (part fcb NAME nameBytes)) v 0
+    (directoryRecords (d .geometry)))
+    fcb [])

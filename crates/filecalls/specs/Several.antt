@@ -39,10 +39,13 @@ Single = Drive → List ℕ → List ℕ → List ℕ → Outcome
 abbrev pub ended : ℕ → Refusal → Drive → List ℕ → List ℕ → List ℕ → Outcome
 ended n why d v fcb b = record { answer = answer.Several n why; drive = d; volume = v; fcb = fcb; buffer = b }
 
--- "each record goes to its own piece of that buffer": the single call that is lent piece i
+-- "each record goes to its own piece of that buffer": piece i, and the single call that is lent it
+abbrev pub pieceAt : List ℕ → ℕ → List ℕ
+pieceAt b i = part b (recordBytes * i) recordBytes
+
 unfoldable pub onPiece : Single → ℕ → Drive → List ℕ → List ℕ → List ℕ → Outcome
 onPiece single i d v fcb b =
-    let o : Outcome = single d v fcb (part b (recordBytes * i) recordBytes) in
+    let o : Outcome = single d v fcb (pieceAt b i) in
     let pieces : List ℕ = put b (recordBytes * i) recordBytes (o .buffer) in
     record { answer = o .answer; drive = o .drive; volume = o .volume; fcb = o .fcb; buffer = pieces }
 

@@ -15,6 +15,10 @@ mod state;
 mod tests;
 mod writes;
 
+// More stores than any call makes: sixteen writes, each of a block's 32 records at most and of a directory record; a directory
+// has at most 512 records.
+pub const ENOUGH: usize = 16 * 33;
+
 // A search that is kept between calls: its kind, the user and the pattern of its first call, and its last hit.
 pub struct KeptSearch {
     pub kind: SearchKind,

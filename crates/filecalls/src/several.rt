@@ -8,8 +8,12 @@ ghost use Rattle.call_answers.specs.Refusal.{firstMet};
 ghost use Rattle.call_answers.specs.declared.Answer.the-variants.{Several};
 ghost use Rattle.filecalls.specs.Outcome.{left};
 ghost use Rattle.filecalls.specs.Leaves.{readSequentialLeaves, writeSequentialLeaves};
-ghost use Rattle.filecalls.specs.Several.{severalTests, onPiece, singles, several};
+ghost use Rattle.filecalls.specs.Several.{severalTests, pieceAt, onPiece, singles, several};
+ghost use Rattle.filecalls.specs.Write.{writeSequentialAct};
+ghost use Rattle.filecalls.specs.Stores.{cutOutcome, cutLeft, SeveralCut};
+ghost use Rattle.filecalls.specs.CodeCut.{SinglesCut};
 use crate::Drive;
+use crate::ENOUGH;
 use crate::Reply;
 use call_answers::Answer;
 use call_answers::Refusal;
@@ -87,30 +91,50 @@ impl Drive {
         d.ended(i, Refusal::None)
     }
 
-    // The single write of piece i.
-    fn write_piece(self, volume: &mut [u8], fcb: &mut [u8], buffer: &[u8], i: usize) -> Reply
+    // The single write of piece i, as long as a store is left.
+    fn write_piece(
+        self,
+        volume: &mut [u8],
+        fcb: &mut [u8],
+        buffer: &[u8],
+        i: usize,
+        left: &mut usize,
+    ) -> Reply
         requires { ⌜ recordBytes * i + recordBytes ≤ length (now buffer) ⌝ }
         ensures { λ r. ⌜
-            left r (now (volume .exit)) (now (fcb .exit)) (now (buffer .entry))
-            ≡ onPiece writeSequentialLeaves i self (now (volume .entry)) (now (fcb .entry)) (now (buffer .entry))
+            cutLeft r (now (volume .exit)) (now (fcb .exit)) (pieceAt (now (buffer .entry)) i) (now (left .exit))
+            ≡ cutOutcome (now (left .entry)) self (now (volume .entry)) (now (fcb .entry)) (pieceAt (now (buffer .entry)) i)
+            (writeSequentialAct self (now (volume .entry)) (now (fcb .entry)) (pieceAt (now (buffer .entry)) i))
             ⌝ }
     {
         let from = Geometry::RECORD_BYTES * i;
-        self.write_sequential(volume, fcb, &buffer[from..from + Geometry::RECORD_BYTES])
+        self.write_sequential_most(
+            volume,
+            fcb,
+            &buffer[from..from + Geometry::RECORD_BYTES],
+            left,
+        )
     }
 
-    // k single writes in order, up to the first that is refused.
-    fn write_pieces(self, volume: &mut [u8], fcb: &mut [u8], buffer: &[u8], k: usize) -> Reply
+    // k single writes in order, up to the first that is refused, as long as a store is left.
+    fn write_pieces(
+        self,
+        volume: &mut [u8],
+        fcb: &mut [u8],
+        buffer: &[u8],
+        k: usize,
+        left: &mut usize,
+    ) -> Reply
         requires { ⌜ length (now buffer) ≡ recordBytes * k ⌝ }
         ensures { λ r. ⌜
-            left r (now (volume .exit)) (now (fcb .exit)) (now (buffer .entry))
-            ≡ singles writeSequentialLeaves 0 k self (now (volume .entry)) (now (fcb .entry)) (now (buffer .entry))
+            SinglesCut (now (left .entry)) self (now (volume .entry)) (now (fcb .entry)) (now (buffer .entry)) k
+            (cutLeft r (now (volume .exit)) (now (fcb .exit)) (now (buffer .entry)) (now (left .exit)))
             ⌝ }
     {
         let mut d = self;
         let mut i = 0;
         while i < k {
-            let written = d.write_piece(volume, fcb, buffer, i);
+            let written = d.write_piece(volume, fcb, buffer, i, left);
             let answer = written.answer;
             let after = written.drive;
             if !call_answers::succeeded(answer) {
@@ -136,6 +160,27 @@ impl Drive {
         self.read_pieces(volume, fcb, buffer, lists::wide(k))
     }
 
+    // Function 221 as long as a store is left.
+    pub fn write_several_most(
+        self,
+        volume: &mut [u8],
+        fcb: &mut [u8],
+        buffer: &[u8],
+        k: u8,
+        left: &mut usize,
+    ) -> Reply
+        ensures { λ r. ⌜
+            SeveralCut (now (left .entry)) self (now (volume .entry)) (now (fcb .entry)) (now (buffer .entry)) k
+            (cutLeft r (now (volume .exit)) (now (fcb .exit)) (now (buffer .entry)) (now (left .exit)))
+            ⌝ }
+    {
+        let why = self.several_why(volume, fcb, buffer, k);
+        if !call_answers::is_none(why) {
+            return self.ended(0, why);
+        }
+        self.write_pieces(volume, fcb, buffer, lists::wide(k), left)
+    }
+
     // Function 221: writes k records at the sequential position, and moves it on.
     pub fn write_several(self, volume: &mut [u8], fcb: &mut [u8], buffer: &[u8], k: u8) -> Reply
         ensures { λ r. ⌜
@@ -143,10 +188,7 @@ impl Drive {
             ≡ several writeSequentialLeaves self (now (volume .entry)) (now (fcb .entry)) (now (buffer .entry)) k
             ⌝ }
     {
-        let why = self.several_why(volume, fcb, buffer, k);
-        if !call_answers::is_none(why) {
-            return self.ended(0, why);
-        }
-        self.write_pieces(volume, fcb, buffer, lists::wide(k))
+        let mut left = ENOUGH;
+        self.write_several_most(volume, fcb, buffer, k, &mut left)
     }
 }

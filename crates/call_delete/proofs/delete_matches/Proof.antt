@@ -1,9 +1,6 @@
 -- An earlier refusal or one of the directory's alters nothing; else blocks and entries go as the definitions say.
-use Rattle.call_sweep.proofs.EditLaws.{erases}
 use Rattle.call_answers.specs.Refusal.{first}
-use Rattle.disk_volume.specs.Name.{strip}
 use borrow.Author.Tests.{not-true, not-false}
-use denote.Ref.{now}
 use mathlib.Core.Path.{sym, ap, _∙_}
 use borrow.Author.Needs.{needs}
 use Rattle.call_delete.proofs.delete_matches.Statement.{statement}
@@ -27,22 +24,22 @@ same-length c = search needs
 returns : tie.Need-returns
 returns c =
     let n = sym (c .before .is-none .ensures) ∙ not-true _ (c .if1 .taken) in
-    (c .before .before .first-of .ensures ∙ ap (first (c .before .before .before .before .before .before .before .before .before .args .before)) (c .before .before .before .delete-why .ensures), (rw n, rw n))
+    (c .before .before .first-of .ensures ∙ ap (first (c .before .before .before .before .before .before .before .before .before .args .before)) (c .before .before .before .delete-why .ensures), (rw n, (rw n, rw n)))
 
 free-matches-requires : tie.Need-free-matches-requires
 free-matches-requires c κs = search needs
 
-change-all-requires : tie.Need-change-all-requires
-change-all-requires c κs = search needs
+change-most-requires : tie.Need-change-most-requires
+change-most-requires c κs = let s = c .before .before .before .before .before .before .before .before .before .before .before .before .before in ((s .pre .0, s .pre .1 .0), ((s .pre .1 .1, s .pre .1 .1), c .before .before .before .before .before .before .before .before .before .find .ensures .0))
 
 same-length-2 : tie.Need-same-length-2
 same-length-2 c = search needs
 
 returns-2 : tie.Need-returns-2
 returns-2 c =
-    let a = c .before .before .before .before .before .before .before .before .before .before .before .before .before .before .before .args in
-    let n = sym (c .before .before .before .before .before .before .before .is-none .ensures) ∙ not-false _ (c .before .before .before .before .before .before .if1 .left) in
-    (c .before .before .before .before .before .before .before .before .first-of .ensures ∙ ap (first (a .before)) (c .before .before .before .before .before .before .before .before .before .delete-why .ensures), (rw n (c .before .before .before .before .free-matches .ensures), rw (n, ← erases (a .user) (strip (now (a .pattern))) (now (a .pattern))) (c .before .before .change-all .ensures)))
+    let n = sym (c .before .before .before .before .before .before .before .before .is-none .ensures) ∙ not-false _ (c .before .before .before .before .before .before .before .if1 .left) in
+    let o = c .before .before .change-most in
+    (c .before .before .before .before .before .before .before .before .before .first-of .ensures ∙ ap (first (c .before .before .before .before .before .before .before .before .before .before .before .before .before .before .before .before .args .before)) (c .before .before .before .before .before .before .before .before .before .before .delete-why .ensures), (rw n (c .before .before .before .before .before .free-matches .ensures), (rw n (o .ensures .0), rw n (o .ensures .1))))
 
 pub delete-matches-spec : {M : Type 1} → statement M
 delete-matches-spec =
@@ -55,6 +52,6 @@ delete-matches-spec =
     same-length
     returns
     free-matches-requires
-    change-all-requires
+    change-most-requires
     same-length-2
     returns-2)

@@ -50,9 +50,8 @@ slice-aggregate-put-slot c = search needs
 
 put-slot-requires : tie.Need-put-slot-requires
 put-slot-requires c κs =
-    let s = c .before .before .before .before .before .before .before .before .before .before .before .before .before .before .before .before in
-    let w = c .before .before .before .before .before .before .make-why in
-    ((s .pre .0, s .pre .1 .0), (w .ensures .1 .1 (sym (c .before .before .before .before .before .is-none .ensures) ∙ c .before .before .before .before .if1 .taken), search needs))
+    let s = c .before .before .before .before .before .before .before .before .before .before .before .before .before .before .before .before .before in
+    ((s .pre .0, s .pre .1 .0), (c .before .before .before .before .before .before .before .make-why .ensures .1 .1 (sym (c .before .before .before .before .before .before .is-none .ensures) ∙ c .before .before .before .before .before .if1 .taken), search needs))
 
 slice-aggregate-set-made : tie.Need-slice-aggregate-set-made
 slice-aggregate-set-made c = search needs
@@ -68,10 +67,16 @@ same-length-2 c = search needs
 
 returns : tie.Need-returns
 returns c =
-    let w = c .before .before .before .before .before .before .before .before .before .before .before .before .before .before .make-why in
-    let t = sym (c .before .before .before .before .before .before .before .before .before .before .before .before .before .is-none .ensures) ∙ c .before .before .before .before .before .before .before .before .before .before .before .before .if1 .taken in
-    let n = once (c .before .before .before .before .before .before .before .before .before .before .before .before .before .before .before .before .before) in
-    (rw n at (w .ensures .0), (rw n at (w .ensures .1 .0), (rw (t, ← n, ← c .before .before .before .before .before .before .before .before .before .before .fresh-entry .ensures) (c .before .before .before .before .before .before .before .put-slot .ensures), rw (t, ← named (c .before .before .before .before .before .before .before .before .before .before .before .before .before .before .before .before .before)) (c .before .before .set-made .ensures))))
+    let w = c .before .before .before .before .before .before .before .before .before .before .before .before .before .before .before .make-why in
+    let t = sym (c .before .before .before .before .before .before .before .before .before .before .before .before .before .before .is-none .ensures) ∙ c .before .before .before .before .before .before .before .before .before .before .before .before .before .if1 .taken in
+    let n = once (c .before .before .before .before .before .before .before .before .before .before .before .before .before .before .before .before .before .before) in
+    let o = c .before .before .before .before .before .before .before .put-slot in (
+      rw n at (w .ensures .0),
+      (
+        rw n at (w .ensures .1 .0),
+        (rw (t, ← n, ← c .before .before .before .before .before .before .before .before .before .before .before .fresh-entry .ensures) (o .ensures .0), (rw (t, ← named (c .before .before .before .before .before .before .before .before .before .before .before .before .before .before .before .before .before .before)) (c .before .before .set-made .ensures), rw t (o .ensures .1))),
+      ),
+    )
 
 same-length-3 : tie.Need-same-length-3
 same-length-3 c = search needs
@@ -84,7 +89,7 @@ returns-2 c =
     let w = c .before .before .make-why in
     let t = sym (c .before .is-none .ensures) ∙ c .if1 .left in
     let n = once (c .before .before .before .before .before) in
-    (rw n at (w .ensures .0), (rw n at (w .ensures .1 .0), (rw t, rw t)))
+    (rw n at (w .ensures .0), (rw n at (w .ensures .1 .0), (rw t, (rw t, rw t))))
 
 pub make-file-spec : {M : Type 1} → statement M
 make-file-spec =

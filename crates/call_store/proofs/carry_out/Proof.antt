@@ -3,8 +3,8 @@ use borrow.Author.Needs.{needs}
 use Rattle.call_store.proofs.carry_out.Statement.{statement}
 use Rattle.call_store.proofs.carry_out.Tie as tie
 
-store-requires : tie.Need-store-requires
-store-requires c κs = (search needs, (search needs, (search needs, search needs)))
+store-most-requires : tie.Need-store-most-requires
+store-most-requires c κs = search needs
 
 set-to-requires : tie.Need-set-to-requires
 set-to-requires c κs = search needs
@@ -16,7 +16,8 @@ same-length-2 : tie.Need-same-length-2
 same-length-2 c = search needs
 
 returns : tie.Need-returns
-returns c = search needs
+returns c = (c .before .before .before .before .before .before .store-most .ensures .0, (search needs, c .before .before .before .before .before .before .store-most .ensures .1))
 
 pub carry-out-spec : {M : Type 1} → statement M
-carry-out-spec = tie.close (tie.spec store-requires set-to-requires same-length same-length-2 returns)
+carry-out-spec =
+    tie.close (tie.spec store-most-requires set-to-requires same-length same-length-2 returns)

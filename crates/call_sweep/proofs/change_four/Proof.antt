@@ -1,20 +1,20 @@
 -- Each piece passed is changed, so what is still to be changed gives the whole.
 use Prim.Native.Nat.{_-_, _≤_}
 use mathlib.Core.Path.{_≡_, sym, ap, _∙_}
-use Rattle.call_sweep.proofs.EditLaws.{changed-keeps, lent-piece}
+use Rattle.call_sweep.proofs.EditLaws.{edited-length, lent-piece}
 use native.Mathlib.Omega.{arith}
 use lib.ListN.{length-take, length-drop, length}
 use borrow.Author.Needs.{needs}
 use Rattle.lists.proofs.FoldLaws.{Folded, folded-start, folded-next, folded-end}
-use Rattle.call_sweep.proofs.SweepLaws.{mapPiece-length}
-use Rattle.call_sweep.specs.CodeRecords.{mapPiece}
-use Rattle.disk_volume.specs.Name.{strip}
-use Rattle.call_sweep.specs.Sweep.{changed}
+use Rattle.disk_stores.proofs.SweepLaws.{mapPiece-length}
+use Rattle.disk_stores.specs.Pieces.{mapPiece}
+use Rattle.disk_stores.proofs.SweptLaws.{meant-keeps}
+use Rattle.call_sweep.specs.CodeEdit.{edited, lentMeant, lentChange}
 use Rattle.call_sweep.proofs.change_four.Statement.{statement}
 use Rattle.call_sweep.proofs.change_four.Tie as tie
 
 abbrev Inv-loop : tie.InvT-loop
-Inv-loop g sector₀ user name new edit k₀ sector k = (k ≤ 4) × ((length sector ≡ 128) × Folded (mapPiece (changed edit user (strip name) new)) sector₀ 4 sector k)
+Inv-loop g sector₀ user name new edit k₀ sector k = (k ≤ 4) × ((length sector ≡ 128) × Folded (mapPiece (lentChange g edit user name new)) sector₀ 4 sector k)
 
 abbrev μ-loop : tie.MeasureT-loop
 μ-loop g sector₀ user name new edit k₀ sector k = 4 - k
@@ -51,11 +51,12 @@ loop-again c =
     let a = c .before .before .before .before .before .before .before .before .before .args in
     let l = c .before .before .before .before .before .loop in
     let o = c .before .before .change-one in
-    let f = changed (a .edit) (a .user) (strip (a .name .now)) (a .new .now) in
+    let f = lentChange (a .g) (a .edit) (a .user) (a .name .now) (a .new .now) in
+    let keeps = meant-keeps (a .g) (search needs) (lentMeant (a .g) (a .edit) (a .user) (a .name .now)) (edited (a .edit) (a .new .now)) (edited-length (a .edit) (a .new .now) (search needs)) in
     let e = lent-piece f (l .sector) (o .last .1 .0) (l .k) (o .ensures) in (
       search needs,
       (
-        ap length e ∙ mapPiece-length (a .g) (search needs) f (changed-keeps (a .edit) (a .user) (strip (a .name .now)) (a .new .now) (search needs)) (l .sector) (l .k) (l .inv .1 .0) (search needs),
+        ap length e ∙ mapPiece-length (a .g) (search needs) f keeps (l .sector) (l .k) (l .inv .1 .0) (search needs),
         folded-next (l .inv .1 .1) (search needs) e,
       ),
     )

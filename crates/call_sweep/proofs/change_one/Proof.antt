@@ -1,8 +1,6 @@
 -- An edit is made where it is meant, and else nothing changes.
 use denote.Ref.{now}
 use borrow.Author.Needs.{needs}
-use Rattle.disk_volume.specs.Name.{strip}
-use Rattle.call_sweep.proofs.EditLaws.{changed-is}
 use Rattle.call_sweep.proofs.change_one.Statement.{statement}
 use Rattle.call_sweep.proofs.change_one.Tie as tie
 
@@ -20,16 +18,14 @@ same-length c = search needs
 
 returns : tie.Need-returns
 returns c =
-    let a = c .before .before .before .before .before .before .before .before .before .before .before .args in
-    rw (changed-is (a .g) (a .edit) (a .user) (strip (now (a .name))) (now (a .new)) (now (a .e)), ← c .before .before .before .before .before .before .before .meant .ensures, ← c .before .before .before .before .before .has .ensures, c .before .before .before .before .if1 .taken) (c .before .before .edit-entry .ensures)
+    rw (← c .before .before .before .before .before .before .before .meant .ensures, ← c .before .before .before .before .before .has .ensures, c .before .before .before .before .if1 .taken) (c .before .before .edit-entry .ensures)
 
 same-length-2 : tie.Need-same-length-2
 same-length-2 c = search needs
 
 returns-2 : tie.Need-returns-2
 returns-2 c =
-    let a = c .before .before .before .before .before .before .before .args in
-    rw (changed-is (a .g) (a .edit) (a .user) (strip (now (a .name))) (now (a .new)) (now (a .e)), ← c .before .before .before .meant .ensures, ← c .before .has .ensures, c .if1 .left)
+    rw (← c .before .before .before .meant .ensures, ← c .before .has .ensures, c .if1 .left)
 
 pub change-one-spec : {M : Type 1} → statement M
 change-one-spec =

@@ -1,11 +1,10 @@
 -- The record changed in a copy and stored.
-use mathlib.Core.Path.{_≡_}
+use mathlib.Core.Path.{_≡_, _∙_}
 use Prim.Native.Nat.{_+_, _-_}
 use native.Mathlib.Omega.{arith}
 use borrow.Author.Needs.{needs}
-use Rattle.lists.specs.Bytes.{part, put}
+use Rattle.lists.specs.Bytes.{part}
 use Rattle.disk_geometry.proofs.GeometryLaws.{bounds}
-use Rattle.call_sweep.specs.CodeRecords.{mapRecord}
 use Rattle.call_sweep.proofs.change_record.Statement.{statement}
 use Rattle.call_sweep.proofs.change_record.Tie as tie
 
@@ -36,33 +35,24 @@ slice-aggregate-change-four c = search needs
 change-four-requires : tie.Need-change-four-requires
 change-four-requires c κs = search needs
 
-add-copy-2 : tie.Need-add-copy-2
-add-copy-2 c = search needs
+slice-aggregate-store-record : tie.Need-slice-aggregate-store-record
+slice-aggregate-store-record c = search needs
 
-sub-copy-2 : tie.Need-sub-copy-2
-sub-copy-2 c = search needs
-
-part-copy-start-2 : tie.Need-part-copy-start-2
-part-copy-start-2 c = search needs
-
-part-copy-end-2 : tie.Need-part-copy-end-2
-part-copy-end-2 c = search needs
-
-slice-aggregate-copy-2 : tie.Need-slice-aggregate-copy-2
-slice-aggregate-copy-2 c = search needs
-
-copy-requires-2 : tie.Need-copy-requires-2
-copy-requires-2 c κs = search needs
+store-record-requires : tie.Need-store-record-requires
+store-record-requires c κs =
+    let s = c .before .before .before .before .before .before .before .before .before .before .before .before .before .before .before in
+    ((s .pre .0 .0, s .pre .0 .1 .0), (omega (arith, bounds (s .args .g) (s .pre .0 .0)), search needs))
 
 same-length : tie.Need-same-length
 same-length c = search needs
 
 returns : tie.Need-returns
-unfolding mapRecord part put
+unfolding part
 returns c =
-    let at = c .before .before .before .before .before .before .before .before .before .before .before .before .before .start in
+    let at = c .before .before .before .before .before .before .before .before .before .before .before .before .before .before .start in
     let z : at .result + 128 - at .result ≡ 128 = omega arith in
-    rw (c .before .before .copy2 .ensures, c .before .before .before .before .before .before .change-four .ensures, c .before .before .before .before .before .before .before .before .before .copy .ensures, z, at .ensures .0)
+    let o = c .before .before .store-record in
+    (o .ensures .0 ∙ rw (c .before .before .before .before .before .before .before .change-four .ensures, c .before .before .before .before .before .before .before .before .before .before .copy .ensures, z, at .ensures .0), o .ensures .1)
 
 pub change-record-spec : {M : Type 1} → statement M
 change-record-spec =
@@ -77,11 +67,7 @@ change-record-spec =
     copy-requires
     slice-aggregate-change-four
     change-four-requires
-    add-copy-2
-    sub-copy-2
-    part-copy-start-2
-    part-copy-end-2
-    slice-aggregate-copy-2
-    copy-requires-2
+    slice-aggregate-store-record
+    store-record-requires
     same-length
     returns)

@@ -1,40 +1,17 @@
--- A drive that counts as closed is refused; any other goes through the door, and is laid back where it may have changed.
-use Rattle.churawel.proofs.SeamLaws.{call-refused, call-done, call-value}
-use native.Mathlib.Omega.{arith}
+-- The stores are enough for every call.
+use denote.Ref.{now}
+use Rattle.call_served.specs.Asked.{asked}
+use Rattle.drive_bytes.specs.Layout.{decoded}
+use Rattle.churawel.proofs.CutLaws.{stores-most}
 use borrow.Author.Needs.{needs}
 use Rattle.churawel.proofs.churawel_call.Statement.{statement}
 use Rattle.churawel.proofs.churawel_call.Tie as tie
 
-decode-requires : tie.Need-decode-requires
-decode-requires c κs = search needs
-
-call-of-requires : tie.Need-call-of-requires
-call-of-requires c κs = search needs
-
-may-enter-requires : tie.Need-may-enter-requires
-may-enter-requires c κs = search needs
-
-seal-requires : tie.Need-seal-requires
-seal-requires c κs = search needs
+call-most-requires : tie.Need-call-most-requires
+call-most-requires c κs = search needs
 
 same-length : tie.Need-same-length
 same-length c = search needs
-
-returns : tie.Need-returns
-returns c =
-    let a = c .before .before .before .before .before .before .before .before .before .before .args in
-    call-refused (a .function) (a .parameter) (a .drive .now) (a .volume .now) (a .fcb .now) (a .buffer .now) (c .before .before .before .before .decode .ensures) (c .before .before .before .call-of .ensures) (c .before .before .may-enter .ensures) (c .before .if1 .taken) (c .seal .ensures)
-
-serve-requires : tie.Need-serve-requires
-serve-requires c κs = search needs
-
-lay-back-requires : tie.Need-lay-back-requires
-lay-back-requires c κs = search needs
-
-seal-requires-2 : tie.Need-seal-requires-2
-seal-requires-2 c κs =
-    let a = c .before .before .before .before .before .before .before .before .before .before .before .before .before .before .before .before .before .before .before .before .before .before .before .before .before .args in
-    call-value (a .function) (a .parameter) (a .drive .now) (a .volume .now) (a .fcb .now) (a .buffer .now) (c .before .before .before .before .before .before .before .before .before .before .before .before .before .before .before .before .before .before .before .decode .ensures) (c .before .before .before .before .before .before .before .before .before .before .before .before .before .before .before .before .before .before .call-of .ensures) (c .before .before .before .before .before .before .before .before .before .before .before .before .before .before .before .before .before .may-enter .ensures) (c .before .before .before .before .before .before .before .before .before .before .before .serve .ensures)
 
 same-length-2 : tie.Need-same-length-2
 same-length-2 c = search needs
@@ -45,29 +22,12 @@ same-length-3 c = search needs
 same-length-4 : tie.Need-same-length-4
 same-length-4 c = search needs
 
-same-length-5 : tie.Need-same-length-5
-same-length-5 c = search needs
-
-returns-2 : tie.Need-returns-2
-returns-2 c =
-    let a = c .before .before .before .before .before .before .before .before .before .before .before .before .before .before .before .before .before .before .before .before .before .before .before .before .before .before .args in
-    call-done (a .function) (a .parameter) (a .drive .now) (a .volume .now) (a .fcb .now) (a .buffer .now) (c .before .before .before .before .before .before .before .before .before .before .before .before .before .before .before .before .before .before .before .before .decode .ensures) (c .before .before .before .before .before .before .before .before .before .before .before .before .before .before .before .before .before .before .before .call-of .ensures) (c .before .before .before .before .before .before .before .before .before .before .before .before .before .before .before .before .before .before .may-enter .ensures) (c .before .before .before .before .before .before .before .before .before .before .before .before .before .before .before .before .before .if1 .left) (c .before .before .before .before .before .before .before .before .before .before .before .before .serve .ensures) (c .seal2 .ensures) (λ k. omega (arith, c .before .before .before .before .before .before .before .before .before .before .before .before .before .before .before .before .before .before .before .before .before .before .before .before .before .slice-known .given k)) (c .before .before .before .lay-back .ensures)
+returns : tie.Need-returns
+returns c =
+    let a = c .before .before .before .before .before .before .before .before .before .before .before .before .before .before .before .before .before .before .args in
+    c .before .before .before .before .before .before .before .before .call-most .ensures .whole (stores-most (asked (a .function) (a .parameter) (now (a .fcb)) (now (a .buffer))) (decoded (now (a .drive))) (now (a .volume)))
 
 pub churawel-call-spec : {M : Type 1} → statement M
 churawel-call-spec =
     tie.close
-    (tie.spec
-    decode-requires
-    call-of-requires
-    may-enter-requires
-    seal-requires
-    same-length
-    returns
-    serve-requires
-    lay-back-requires
-    seal-requires-2
-    same-length-2
-    same-length-3
-    same-length-4
-    same-length-5
-    returns-2)
+    (tie.spec call-most-requires same-length same-length-2 same-length-3 same-length-4 returns)

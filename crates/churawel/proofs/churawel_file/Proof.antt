@@ -1,6 +1,7 @@
 -- The definition's refusals in its order; then the line of the file that was found.
 use Rattle.churawel.proofs.FileLaws.{open-lawful, file-closed, file-volume, file-length, file-none, file-done}
 use mathlib.Core.Path.{_∙_}
+use native.Mathlib.Omega.{arith}
 use borrow.Author.Needs.{needs}
 use Rattle.churawel.proofs.churawel_file.Statement.{statement}
 use Rattle.churawel.proofs.churawel_file.Tie as tie
@@ -17,7 +18,7 @@ seal-requires c κs = search needs
 returns : tie.Need-returns
 returns c =
     let a = c .before .before .before .before .before .before .before .args in
-    file-closed (a .drive .now) (a .volume .now) (a .from) (a .file .now) (c .before .before .before .decode .ensures) (c .before .before .is-open .ensures) (c .before .if1 .taken) (c .seal .ensures)
+    file-closed (a .drive .now) (a .volume .now) (a .from) (a .file .now) (c .before .before .before .decode .ensures) (c .before .before .is-open .ensures) (c .before .if1 .taken) (c .seal .ensures .1 (omega arith))
 
 bytes-requires : tie.Need-bytes-requires
 bytes-requires c κs = open-lawful (c .before .before .before .decode .result) (c .before .before .is-open .ensures) (c .before .if1 .left)
@@ -28,7 +29,7 @@ seal-requires-2 c κs = search needs
 returns-2 : tie.Need-returns-2
 returns-2 c =
     let a = c .before .before .before .before .before .before .before .before .before .before .args in
-    file-volume (a .drive .now) (a .volume .now) (a .from) (a .file .now) (c .before .before .before .before .before .before .decode .ensures) (c .before .before .before .before .before .is-open .ensures) (c .before .before .before .before .if1 .left) (c .before .before .bytes .ensures) (c .before .if2 .taken) (c .seal2 .ensures)
+    file-volume (a .drive .now) (a .volume .now) (a .from) (a .file .now) (c .before .before .before .before .before .before .decode .ensures) (c .before .before .before .before .before .is-open .ensures) (c .before .before .before .before .if1 .left) (c .before .before .bytes .ensures) (c .before .if2 .taken) (c .seal2 .ensures .1 (omega arith))
 
 seal-requires-3 : tie.Need-seal-requires-3
 seal-requires-3 c κs = search needs
@@ -36,7 +37,7 @@ seal-requires-3 c κs = search needs
 returns-3 : tie.Need-returns-3
 returns-3 c =
     let a = c .before .before .before .before .before .before .before .before .before .before .before .args in
-    file-length (a .drive .now) (a .volume .now) (a .from) (a .file .now) (c .before .before .before .before .before .before .before .decode .ensures) (c .before .before .before .before .before .before .is-open .ensures) (c .before .before .before .before .before .if1 .left) (c .before .before .before .bytes .ensures) (c .before .before .if2 .left) (c .before .if3 .taken) (c .seal3 .ensures)
+    file-length (a .drive .now) (a .volume .now) (a .from) (a .file .now) (c .before .before .before .before .before .before .before .decode .ensures) (c .before .before .before .before .before .before .is-open .ensures) (c .before .before .before .before .before .if1 .left) (c .before .before .before .bytes .ensures) (c .before .before .if2 .left) (c .before .if3 .taken) (c .seal3 .ensures .1 (omega arith))
 
 size-requires : tie.Need-size-requires
 size-requires c κs = search needs
@@ -54,7 +55,7 @@ returns-4 : tie.Need-returns-4
 returns-4 c =
     let a = c .before .before .before .before .before .before .before .before .before .before .before .before .before .before .before .args in
     rw (← c .before .before .before .before .size .ensures)
-    (file-none (a .drive .now) (a .volume .now) _ (a .file .now) (c .before .before .before .before .before .before .before .before .before .before .before .decode .ensures) (c .before .before .before .before .before .before .before .before .before .before .is-open .ensures) (c .before .before .before .before .before .before .before .before .before .if1 .left) (c .before .before .before .before .before .before .before .bytes .ensures) (c .before .before .before .before .before .before .if2 .left) (c .before .before .before .before .before .if3 .left) (c .before .before .before .next-file .ensures) (c .before .before .slots .ensures .0) (c .before .if4 .taken) (c .seal4 .ensures))
+    (file-none (a .drive .now) (a .volume .now) _ (a .file .now) (c .before .before .before .before .before .before .before .before .before .before .before .decode .ensures) (c .before .before .before .before .before .before .before .before .before .before .is-open .ensures) (c .before .before .before .before .before .before .before .before .before .if1 .left) (c .before .before .before .before .before .before .before .bytes .ensures) (c .before .before .before .before .before .before .if2 .left) (c .before .before .before .before .before .if3 .left) (c .before .before .before .next-file .ensures) (c .before .before .slots .ensures .0) (c .before .if4 .taken) (c .seal4 .ensures .1 (omega arith)))
 
 put-file-requires : tie.Need-put-file-requires
 put-file-requires c κs =
@@ -70,7 +71,7 @@ returns-5 : tie.Need-returns-5
 returns-5 c =
     let a = c .before .before .before .before .before .before .before .before .before .before .before .before .before .before .before .before .before .before .before .args in
     rw (← c .before .before .before .before .before .before .before .before .size .ensures)
-    (file-done (a .drive .now) (a .volume .now) _ (a .file .now) (c .before .before .before .before .before .before .before .before .before .before .before .before .before .before .before .decode .ensures) (c .before .before .before .before .before .before .before .before .before .before .before .before .before .before .is-open .ensures) (c .before .before .before .before .before .before .before .before .before .before .before .before .before .if1 .left) (c .before .before .before .before .before .before .before .before .before .before .before .bytes .ensures) (c .before .before .before .before .before .before .before .before .before .before .if2 .left) (c .before .before .before .before .before .before .before .before .before .if3 .left) (c .before .before .before .before .before .before .before .next-file .ensures) (c .before .before .before .before .before .before .slots .ensures .0) (c .before .before .before .before .before .if4 .left) (c .before .before .before .put-file .ensures) (c .seal5 .ensures))
+    (file-done (a .drive .now) (a .volume .now) _ (a .file .now) (c .before .before .before .before .before .before .before .before .before .before .before .before .before .before .before .decode .ensures) (c .before .before .before .before .before .before .before .before .before .before .before .before .before .before .is-open .ensures) (c .before .before .before .before .before .before .before .before .before .before .before .before .before .if1 .left) (c .before .before .before .before .before .before .before .before .before .before .before .bytes .ensures) (c .before .before .before .before .before .before .before .before .before .before .if2 .left) (c .before .before .before .before .before .before .before .before .before .if3 .left) (c .before .before .before .before .before .before .before .next-file .ensures) (c .before .before .before .before .before .before .slots .ensures .0) (c .before .before .before .before .before .if4 .left) (c .before .before .before .put-file .ensures) (c .seal5 .ensures .1 (omega arith)))
 
 pub churawel-file-spec : {M : Type 1} → statement M
 churawel-file-spec =

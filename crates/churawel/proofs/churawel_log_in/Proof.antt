@@ -5,6 +5,7 @@ use Rattle.disk_geometry.specs.Geometry.{geometryOf}
 use Rattle.filecalls.specs.declared.Reply.{Reply}
 use Rattle.call_answers.specs.Answer.{valueOf}
 use mathlib.Core.Path.{ap}
+use native.Mathlib.Omega.{arith}
 use borrow.Author.Needs.{needs}
 use Rattle.churawel.proofs.churawel_log_in.Statement.{statement}
 use Rattle.churawel.proofs.churawel_log_in.Tie as tie
@@ -15,7 +16,7 @@ seal-requires c κs = search needs
 returns : tie.Need-returns
 returns c =
     let a = c .before .before .before .before .args in
-    log-in-refused (geometryOf (a .block-bytes) (a .blocks) (a .directory-blocks)) (a .volume .now) (a .drive .now) (c .before .if1 .taken) (c .seal .ensures)
+    log-in-refused (geometryOf (a .block-bytes) (a .blocks) (a .directory-blocks)) (a .volume .now) (a .drive .now) (c .before .if1 .taken) (c .seal .ensures .1 (omega arith))
 
 size-requires : tie.Need-size-requires
 size-requires c κs = search needs
@@ -33,7 +34,7 @@ encode-requires : tie.Need-encode-requires
 encode-requires c κs = search needs
 
 seal-requires-2 : tie.Need-seal-requires-2
-seal-requires-2 c κs = rw (ap (λ (r : Reply). valueOf (r .answer)) (c .before .before .before .before .before .log-in .ensures)) (log-in-value _ _)
+seal-requires-2 c κs = search needs
 
 same-length : tie.Need-same-length
 same-length c = search needs
@@ -42,7 +43,7 @@ returns-2 : tie.Need-returns-2
 returns-2 c =
     let a = c .before .before .before .before .before .before .before .before .before .before .before .before .before .args in
     rw (← c .before .before .before .before .before .before .before .before .before .size .ensures, ← c .before .before .before .before .before .before .before .before .size2 .ensures, ← c .before .before .before .before .before .before .before .size3 .ensures)
-    (log-in-done _ (a .volume .now) (a .drive .now) (c .before .before .before .before .before .before .before .before .before .before .if1 .left) (c .before .before .before .before .before .before .log-in .ensures) (c .before .before .before .encode .ensures) (c .seal2 .ensures))
+    (log-in-done _ (a .volume .now) (a .drive .now) (c .before .before .before .before .before .before .before .before .before .before .if1 .left) (c .before .before .before .before .before .before .log-in .ensures) (c .before .before .before .encode .ensures) (c .seal2 .ensures .1 (rw (ap (λ (r : Reply). valueOf (r .answer)) (c .before .before .before .before .before .before .log-in .ensures)) (log-in-value _ _))))
 
 pub churawel-log-in-spec : {M : Type 1} → statement M
 churawel-log-in-spec =

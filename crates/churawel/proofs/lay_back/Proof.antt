@@ -16,10 +16,10 @@ same-length : tie.Need-same-length
 same-length c = search needs
 
 returns : tie.Need-returns
-returns c = rw (← c .before .before .before .before .before .before .succeeded .ensures, ← c .before .before .before .before .before .asks-open .ensures, c .before .before .before .before .if1 .taken) (c .before .before .encode .ensures)
+returns c = (rw (← c .before .before .before .before .before .before .succeeded .ensures, ← c .before .before .before .before .before .asks-open .ensures, c .before .before .before .before .if1 .taken) (c .before .before .encode .ensures), c .before .before .before .before .before .before .succeeded .ensures)
 
 returns-2 : tie.Need-returns-2
-returns-2 c = rw (← c .before .before .succeeded .ensures, ← c .before .asks-open .ensures, c .if1 .left)
+returns-2 c = (rw (← c .before .before .succeeded .ensures, ← c .before .asks-open .ensures, c .if1 .left), c .before .before .succeeded .ensures)
 
 pub lay-back-spec : {M : Type 1} → statement M
 lay-back-spec =

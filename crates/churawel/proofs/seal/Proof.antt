@@ -1,4 +1,5 @@
--- Number and value are the definition's, and the value fits the high 16 bits.
+-- Number and value are the definition's, where the value fits the high 16 bits.
+use native.Mathlib.Omega.{arith}
 use Rattle.churawel.specs.Seam.{answered}
 use borrow.Author.Needs.{needs}
 use Rattle.churawel.proofs.seal.Statement.{statement}
@@ -24,7 +25,7 @@ add-result c = search needs
 
 returns : tie.Need-returns
 unfolding answered
-returns c = rw (c .before .wide .ensures .0, c .before .before .number .ensures, c .value .ensures)
+returns c = (omega (arith, c .before .wide .ensures, c .before .before .number .ensures), λ h. omega (arith, h, c .before .wide .ensures, c .before .before .number .ensures, c .value .ensures))
 
 pub seal-spec : {M : Type 1} → statement M
 seal-spec =

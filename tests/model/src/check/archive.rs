@@ -1,4 +1,4 @@
-//! The archive behind the seam's four entries: `seam.c` links it and
+//! The archive behind the seam's five entries: `seam.c` links it and
 //! answers over a pipe, so that the archive may be for another processor.
 
 use std::io::{self, Read, Write};
@@ -43,6 +43,11 @@ impl Seam for Archive {
     fn call(&self, function: u8, parameter: u8, memory: &mut Memory) -> Result<u32, String> {
         let none = Geometry { block_bytes: 0, blocks: 0, directory_blocks: 0 };
         self.ask([1, function, parameter, 0], none, memory)
+    }
+
+    fn cut(&self, most: u32, function: u8, parameter: u8, memory: &mut Memory) -> Result<u32, String> {
+        let most = Geometry { block_bytes: most, blocks: 0, directory_blocks: 0 };
+        self.ask([4, function, parameter, 0], most, memory)
     }
 
     fn fault(&self, geometry: Geometry, memory: &mut Memory) -> Result<u32, String> {

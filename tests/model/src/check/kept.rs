@@ -1,22 +1,25 @@
-//! Scripts, chains and tellings as files, so that one can be run once more.
+//! Scripts, chains, tellings and cuttings as files, so that one can be run once more.
 
 use std::io;
 use std::path::{Path, PathBuf};
 
 use crate::choose::chains::chain;
+use crate::choose::cuttings::cutting;
 use crate::choose::scripts::script_bytes;
 use crate::choose::tellings::telling;
 
 pub const SCRIPT: &str = "script";
 pub const CHAIN: &str = "chain";
 pub const TELLING: &str = "telling";
+pub const CUTTING: &str = "cutting";
 
-/// Writes the script, the chain or the telling of this seed and number.
+/// Writes the script, the chain, the telling or the cutting of this seed and number.
 pub fn keep(folder: &Path, seed: u64, number: u64, ending: &str) -> io::Result<PathBuf> {
     let path = folder.join(format!("{}-{}.{}", seed, number, ending));
     let bytes = match ending {
         CHAIN => chain(seed, number).encode(),
         TELLING => telling(seed, number).encode(),
+        CUTTING => cutting(seed, number).encode(),
         _ => script_bytes(seed, number),
     };
     std::fs::write(&path, bytes)?;

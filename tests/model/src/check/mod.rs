@@ -6,11 +6,13 @@
 //! | `transcripts`, `side_by_side` | comparing texts, and chains of calls |
 //! | `differences` | differences in words |
 //! | `ways` | comparing the model's two ways |
+//! | `cuts` | what is demanded of a call that is cut off |
 //! | `pairs`, `table` | the pairs of call and answer that the paper makes possible, and their count |
 //! | `run`, `again`, `kept` | many scripts and chains; one that is kept in a file |
 
 pub mod again;
 pub mod archive;
+pub mod cuts;
 pub mod differences;
 pub mod kept;
 pub mod pairs;

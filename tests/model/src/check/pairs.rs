@@ -11,6 +11,8 @@ use crate::paper::calls::is_served;
 pub enum Row {
     /// `churawel_log_in`.
     LogInEntry,
+    /// `churawel_cut`, whatever the function.
+    CutEntry,
     /// `churawel_fault`.
     FaultEntry,
     /// `churawel_file`.
@@ -33,6 +35,7 @@ impl Row {
     pub fn name(&self) -> String {
         match self {
             Row::LogInEntry => "churawel_log_in".to_string(),
+            Row::CutEntry => "churawel_cut".to_string(),
             Row::FaultEntry => "churawel_fault".to_string(),
             Row::FileEntry => "churawel_file".to_string(),
             Row::Function(function) => format!("function {}", function),
@@ -125,6 +128,9 @@ pub fn possible(door: Door) -> BTreeSet<(Row, u32)> {
         pairs.extend([(Row::NotServed, 31), (Row::NotServed, 32)]);
         // 32 for a drive of another length too.
         pairs.extend([0, 32, 33, 36].map(|answer| (Row::LogInEntry, answer)));
+        // Every refusal of a call, and 0 for every success.
+        pairs.extend(REFUSALS.iter().map(|(answer, _)| (Row::CutEntry, *answer)));
+        pairs.extend([0, 31].map(|answer| (Row::CutEntry, answer)));
         // What is lent for the bytes may have another length.
         pairs.extend([0, 32, 33, 35, 36].map(|answer| (Row::FaultEntry, answer)));
         pairs.extend([0, 32, 33, 35, 255].map(|answer| (Row::FileEntry, answer)));

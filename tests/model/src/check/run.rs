@@ -1,5 +1,5 @@
-//! Many scripts on `replay` and at the seam, and as many chains and tellings at
-//! the seam.
+//! Many scripts on `replay` and at the seam, and as many chains, tellings and
+//! cuttings at the seam.
 
 use std::collections::BTreeMap;
 use std::path::Path;
@@ -13,6 +13,7 @@ use super::program::Program;
 use super::table::Tally;
 use super::{side_by_side, transcripts, ways};
 use crate::choose::chains::{chain, long_chain};
+use crate::choose::cuttings::cutting;
 use crate::choose::scripts::script_bytes;
 use crate::choose::tellings::telling;
 use crate::doors::chain::Chain;
@@ -32,7 +33,7 @@ pub struct Plan<'a> {
     pub scripts: u64,
     pub replay: &'a Program,
     pub seam: &'a dyn Seam,
-    /// Where failing scripts, chains and tellings are kept.
+    /// Where failing scripts, chains, tellings and cuttings are kept.
     pub folder: &'a Path,
     /// Whether a possible pair of call and answer that never occurred is a
     /// failure; of few scripts it is not.
@@ -47,16 +48,24 @@ enum Comparison {
     PlainWay,
     Chain,
     Telling,
+    Cutting,
 }
 
-const COMPARISONS: [Comparison; 5] =
-    [Comparison::OnReplay, Comparison::AtSeam, Comparison::PlainWay, Comparison::Chain, Comparison::Telling];
+const COMPARISONS: [Comparison; 6] = [
+    Comparison::OnReplay,
+    Comparison::AtSeam,
+    Comparison::PlainWay,
+    Comparison::Chain,
+    Comparison::Telling,
+    Comparison::Cutting,
+];
 
 impl Comparison {
     fn thing(&self) -> &'static str {
         match self {
             Comparison::Chain => kept::CHAIN,
             Comparison::Telling => kept::TELLING,
+            Comparison::Cutting => kept::CUTTING,
             _ => kept::SCRIPT,
         }
     }
@@ -65,7 +74,9 @@ impl Comparison {
         match self {
             Comparison::OnReplay => "on replay",
             Comparison::PlainWay => "in the plain way",
-            Comparison::AtSeam | Comparison::Chain | Comparison::Telling => "at the seam",
+            Comparison::AtSeam | Comparison::Chain | Comparison::Telling | Comparison::Cutting => {
+                "at the seam"
+            }
         }
     }
 }
@@ -168,7 +179,7 @@ impl Results {
         }
     }
 
-    /// The script, the chain and the telling of this number.
+    /// The script, the chain, the telling and the cutting of this number.
     fn compare(&mut self, plan: &Plan, number: u64) {
         let bytes = script_bytes(plan.seed, number);
         let script = Script::decode(&bytes);
@@ -185,6 +196,8 @@ impl Results {
         self.note(number, Comparison::Chain, fault);
         let fault = seam_fault(&telling(plan.seed, number), plan.seam, &mut self.seam);
         self.note(number, Comparison::Telling, fault);
+        let fault = seam_fault(&cutting(plan.seed, number), plan.seam, &mut self.seam);
+        self.note(number, Comparison::Cutting, fault);
     }
 
     fn count(&mut self, lines: &[Line]) {

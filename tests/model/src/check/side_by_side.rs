@@ -1,10 +1,12 @@
 //! A chain played on the model and on something behind the seam: after every
 //! call the answer and every lent byte are compared.
 
+use super::cuts;
 use super::differences::{bytes_differ, numbers_differ, Difference};
 use super::pairs::Row;
 use super::table::Tally;
 use crate::doors::chain::{Chain, Step};
+use crate::doors::cut;
 use crate::doors::replay::hex;
 use crate::doors::script::lay;
 use crate::doors::seam::{self, Memory, Seam};
@@ -16,9 +18,11 @@ pub fn first_difference(chain: &Chain, under_test: &dyn Seam, tally: &mut Tally)
     let (volume, drive) = (chain.volume.clone(), chain.drive.clone());
     let mut model = Memory { volume, drive, ..Memory::default() };
     let mut other = model.clone();
+    let (mut model_noted, mut other_noted) = (Memory::default(), Memory::default());
     for (number, step) in chain.steps.iter().enumerate() {
-        prepare(step, &mut model);
-        prepare(step, &mut other);
+        prepare(step, &mut model, &mut model_noted);
+        prepare(step, &mut other, &mut other_noted);
+        let mut fault = None;
         let (row, answer, got) = match step {
             Step::LogIn(geometry) => {
                 let answer = seam::log_in(*geometry, &mut model);
@@ -27,6 +31,12 @@ pub fn first_difference(chain: &Chain, under_test: &dyn Seam, tally: &mut Tally)
             Step::Call(call) => {
                 let answer = seam::call(call.function, call.parameter, &mut model);
                 (Row::of(call.function), answer, under_test.call(call.function, call.parameter, &mut other))
+            }
+            Step::Cut(most, call) => {
+                let before = model.clone();
+                let answer = cut::cut(*most, call.function, call.parameter, &mut model);
+                fault = cuts::first_fault(*most, call, &before, &model, answer);
+                (Row::CutEntry, answer, under_test.cut(*most, call.function, call.parameter, &mut other))
             }
             Step::Fault(geometry, _) => {
                 let answer = telling::fault(*geometry, &mut model);
@@ -39,7 +49,7 @@ pub fn first_difference(chain: &Chain, under_test: &dyn Seam, tally: &mut Tally)
             _ => continue,
         };
         tally.count(row, answer % 65536);
-        if let Some(what) = difference(got, answer, &other, &model) {
+        if let Some(what) = difference(got, answer, &other, &model).or(fault) {
             let what = format!("step {} ({}): {}", number, row.name(), what);
             return Some(Difference { what, details: details(step, &other, &model) });
         }
@@ -47,15 +57,20 @@ pub fn first_difference(chain: &Chain, under_test: &dyn Seam, tally: &mut Tally)
     None
 }
 
-/// What a step lays ready.
-fn prepare(step: &Step, memory: &mut Memory) {
+/// What a step lays ready, notes, or puts back.
+fn prepare(step: &Step, memory: &mut Memory, noted: &mut Memory) {
     match step {
         Step::Volume(bytes) => memory.volume = bytes.clone(),
         Step::Drive(bytes) => memory.drive = bytes.clone(),
         Step::Lay(offset, bytes) => lay(&mut memory.volume, *offset, bytes),
+        Step::Note => *noted = memory.clone(),
+        Step::Back => {
+            memory.drive = noted.drive.clone();
+            memory.volume = noted.volume.clone();
+        }
         Step::LogIn(_) => {}
         Step::Fault(_, lent) | Step::File(_, lent) => memory.buffer = lent.clone(),
-        Step::Call(call) => {
+        Step::Call(call) | Step::Cut(_, call) => {
             memory.control = call.control.clone();
             memory.buffer = call.buffer.clone();
         }
@@ -84,6 +99,13 @@ fn details(step: &Step, other: &Memory, model: &Memory) -> Vec<String> {
         Step::LogIn(geometry) | Step::Fault(geometry, _) => {
             let Geometry { block_bytes, blocks, directory_blocks } = geometry;
             format!("B {}, T {}, D {}", block_bytes, blocks, directory_blocks)
+        }
+        Step::Cut(most, call) => {
+            let (control, buffer) = (hex(&call.control), hex(&call.buffer));
+            format!(
+                "at most {} stores, function {}, parameter {}, control block {}, buffer {}",
+                most, call.function, call.parameter, control, buffer
+            )
         }
         Step::File(from, _) => format!("from slot {}", from),
         _ => String::new(),

@@ -95,6 +95,7 @@ fn column(answer: u32) -> u32 {
 fn head(row: Row) -> String {
     match row {
         Row::LogInEntry => "log_in".to_string(),
+        Row::CutEntry => "cut".to_string(),
         Row::FaultEntry => "fault".to_string(),
         Row::FileEntry => "file".to_string(),
         Row::Function(function) => function.to_string(),

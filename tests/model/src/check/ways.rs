@@ -21,7 +21,7 @@ pub fn first_fault(script: &Script) -> Option<String> {
             Some("the plain way answers or shows something else")
         } else if plain.volume != kept.volume {
             Some("the plain way leaves another volume")
-        } else if !succeeded(&line) && changed(call, &line, &before, &kept) {
+        } else if !succeeded(line.function, line.answer, line.value) && changed(call, &line, &before, &kept) {
             Some("a refusal changed something")
         } else {
             unsound(&kept)
@@ -31,17 +31,6 @@ pub fn first_fault(script: &Script) -> Option<String> {
         }
     }
     None
-}
-
-fn succeeded(line: &Line) -> bool {
-    match line.function {
-        OPEN | CLOSE | SEARCH_FIRST | SEARCH_NEXT | MAKE => line.answer <= 3,
-        USER => line.answer <= 15,
-        // "Records done before a stop stay done and demand 3 counts the call as
-        // successful."
-        READ_SEVERAL | WRITE_SEVERAL => line.value > 0,
-        _ => line.answer == 0,
-    }
 }
 
 /// Whether any lent byte or the state is another (a refused log-in closes it).

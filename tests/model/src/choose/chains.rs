@@ -5,6 +5,7 @@
 use super::aims::View;
 use super::alterations::alteration;
 use super::bad_scripts::number_not_served;
+use super::cuttings::{some_most, stores_made};
 use super::drives::wild_drive;
 use super::geometries::{geometry, wild_geometry};
 use super::images::{contents, make_length_wrong, valid_image, Contents};
@@ -25,7 +26,7 @@ const LARGE: usize = 64 * 1024;
 
 /// The random chain of this seed and number.
 pub fn chain(seed: u64, number: u64) -> Chain {
-    let mut making = Making::new(Random::new(seed, 2 * number + 1), number);
+    let mut making = Making::new(Random::new(seed, 2 * number + 1), seed, number);
     let Memory { volume, drive, .. } = making.memory.clone();
     if making.r.percent(15) {
         making.alter();
@@ -41,6 +42,12 @@ pub fn chain(seed: u64, number: u64) -> Chain {
     Chain { volume, drive, steps: making.steps }
 }
 
+/// Where the numbers of the choices of cuts begin among those of a seed.
+const CUTS: u64 = u64::MAX / 16;
+
+/// So many of a hundred calls are cut first.
+const CUT_FIRST: usize = 20;
+
 /// The number of the long run among the chains of a seed.
 const LONG: u64 = u64::MAX / 4;
 
@@ -50,7 +57,7 @@ pub fn long_chain(seed: u64, calls: usize) -> Chain {
     let mut r = Random::new(seed, LONG);
     let geometry = Geometry::new(1024, 60, 2);
     let volume = valid_image(&mut r, geometry, Contents::SomeFiles);
-    let mut making = Making::new(r, LONG);
+    let mut making = Making::new(r, seed, LONG);
     making.geometry = geometry;
     making.memory = Memory { volume, drive: CLOSED.to_vec(), ..Memory::default() };
     making.steady = true;
@@ -80,10 +87,12 @@ struct Making {
     steady: bool,
     /// The slot of the last alteration, for some calls after it.
     altered_slot: Option<usize>,
+    /// For the cuts, so that the calls do not depend on them.
+    cuts: Random,
 }
 
 impl Making {
-    fn new(mut r: Random, number: u64) -> Making {
+    fn new(mut r: Random, seed: u64, number: u64) -> Making {
         let geometry = geometry(&mut r);
         let contents = contents(&mut r);
         let volume = valid_image(&mut r, geometry, contents);
@@ -98,6 +107,7 @@ impl Making {
             altered: r.percent(40),
             steady: false,
             altered_slot: None,
+            cuts: Random::new(seed, CUTS + number),
             r,
         }
     }
@@ -243,7 +253,17 @@ impl Making {
         Call { function: instead.unwrap_or(call.function), ..call }
     }
 
+    /// The call with at most so many stores, of which nothing is left.
+    fn cut(&mut self, call: &Call) {
+        let stores = stores_made(call, &self.memory);
+        let most = some_most(&mut self.cuts, stores);
+        self.steps.extend([Step::Note, Step::Cut(most, call.clone()), Step::Back]);
+    }
+
     fn call(&mut self, call: Call) {
+        if !self.steady && self.cuts.percent(CUT_FIRST) {
+            self.cut(&call);
+        }
         let answer = lent(&call, &mut self.memory);
         self.chooser.saw(call.function, answer % 65536, &self.memory.control);
         self.steps.push(Step::Call(call));

@@ -11,6 +11,7 @@
 //! | `goals` | calls that are aimed at one pair of call and answer |
 //! | `scripts`, `bad_scripts` | scripts for both doors |
 //! | `drives`, `chains` | wild drives, and chains with them for the seam alone |
+//! | `cuttings` | chains that cut calls off |
 //! | `tellings` | chains that ask why a volume is refused, and for its files |
 
 pub mod aims;
@@ -18,6 +19,7 @@ pub mod alterations;
 pub mod bad_scripts;
 pub mod chains;
 pub mod control_blocks;
+pub mod cuttings;
 pub mod drives;
 pub mod faults;
 pub mod geometries;

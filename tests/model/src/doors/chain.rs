@@ -37,6 +37,12 @@ pub enum Step {
     /// `C`, function, parameter, run of the control block, run of the buffer:
     /// `churawel_call`.
     Call(Call),
+    /// `K`, 32 bits, then as for `C`: `churawel_cut` with so many stores at most.
+    Cut(u32, Call),
+    /// `S`: drive and volume are noted as they stand.
+    Note,
+    /// `B`: drive and volume are again as they were noted.
+    Back,
 }
 
 impl Chain {
@@ -93,6 +99,12 @@ fn put_run(run: &[u8], bytes: &mut Vec<u8>) {
     bytes.extend(run);
 }
 
+fn put_call(call: &Call, bytes: &mut Vec<u8>) {
+    bytes.extend([call.function, call.parameter]);
+    put_run(&call.control, bytes);
+    put_run(&call.buffer, bytes);
+}
+
 fn encode_step(step: &Step, bytes: &mut Vec<u8>) {
     match step {
         Step::Volume(volume) => {
@@ -123,15 +135,26 @@ fn encode_step(step: &Step, bytes: &mut Vec<u8>) {
             put_run(lent, bytes);
         }
         Step::Call(call) => {
-            bytes.extend([b'C', call.function, call.parameter]);
-            put_run(&call.control, bytes);
-            put_run(&call.buffer, bytes);
+            bytes.push(b'C');
+            put_call(call, bytes);
         }
+        Step::Cut(most, call) => {
+            bytes.push(b'K');
+            put_number(*most, bytes);
+            put_call(call, bytes);
+        }
+        Step::Note => bytes.push(b'S'),
+        Step::Back => bytes.push(b'B'),
     }
 }
 
 fn take_geometry(reader: &mut Reader) -> Option<Geometry> {
     Some(Geometry::new(reader.number(4)?, reader.number(4)?, reader.number(4)?))
+}
+
+fn take_call(reader: &mut Reader) -> Option<Call> {
+    let (function, parameter) = (reader.byte()?, reader.byte()?);
+    Some(Call { function, parameter, control: reader.run(4)?, buffer: reader.run(4)? })
 }
 
 fn decode_step(reader: &mut Reader) -> Option<Step> {
@@ -142,10 +165,10 @@ fn decode_step(reader: &mut Reader) -> Option<Step> {
         b'L' => Step::LogIn(take_geometry(reader)?),
         b'F' => Step::Fault(take_geometry(reader)?, reader.run(4)?),
         b'N' => Step::File(reader.number(4)?, reader.run(4)?),
-        b'C' => {
-            let (function, parameter) = (reader.byte()?, reader.byte()?);
-            Step::Call(Call { function, parameter, control: reader.run(4)?, buffer: reader.run(4)? })
-        }
+        b'C' => Step::Call(take_call(reader)?),
+        b'K' => Step::Cut(reader.number(4)?, take_call(reader)?),
+        b'S' => Step::Note,
+        b'B' => Step::Back,
         _ => return None,
     };
     Some(step)

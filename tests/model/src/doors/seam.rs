@@ -17,19 +17,20 @@ pub struct Memory {
     pub buffer: Vec<u8>,
 }
 
-/// Something that stands behind the four entries. An error is a fault that no
+/// Something that stands behind the five entries. An error is a fault that no
 /// lent byte shows.
 pub trait Seam: Sync {
     fn log_in(&self, geometry: Geometry, memory: &mut Memory) -> Result<u32, String>;
     fn call(&self, function: u8, parameter: u8, memory: &mut Memory) -> Result<u32, String>;
+    fn cut(&self, most: u32, function: u8, parameter: u8, memory: &mut Memory) -> Result<u32, String>;
     fn fault(&self, geometry: Geometry, memory: &mut Memory) -> Result<u32, String>;
     fn file(&self, from: u32, memory: &mut Memory) -> Result<u32, String>;
 }
 
 /// A drive that is closed, malformed or of another length.
-const CLOSED_DRIVE: u32 = 32;
+pub const CLOSED_DRIVE: u32 = 32;
 /// A function's number that is not served.
-const NOT_SERVED: u32 = 31;
+pub const NOT_SERVED: u32 = 31;
 
 /// The number in the low 16 bits, count or slot in the high 16.
 pub fn log_in(geometry: Geometry, memory: &mut Memory) -> u32 {

@@ -88,6 +88,18 @@ pub struct Lent<'a> {
 /// anything has been changed.
 pub type Outcome = Result<u32, u32>;
 
+/// Whether an answer of this call, its number and the value beside it, is no refusal.
+pub fn succeeded(function: u8, number: u32, value: u32) -> bool {
+    match function {
+        OPEN | CLOSE | SEARCH_FIRST | SEARCH_NEXT | MAKE => number <= 3,
+        USER => number <= 15,
+        // "Records done before a stop stay done and demand 3 counts the call as
+        // successful."
+        READ_SEVERAL | WRITE_SEVERAL => value > 0,
+        _ => number == 0,
+    }
+}
+
 /// One call other than log-in: its number, and the value beside it, which is 0
 /// but for several records. The function is one of `CALLS`.
 pub fn call(drive: &mut Drive, function: u8, parameter: u8, lent: &mut Lent) -> (u32, u32) {

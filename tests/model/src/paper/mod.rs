@@ -11,6 +11,7 @@
 //! | What each call does when it succeeds | `files`, `records` |
 //! | Numbers of refusal, in order of test | `refusals`; the rows from 255 on in `files`, `records` |
 //! | (02, ii) Several records a call | `several` |
+//! | (02, xii) If the emulator is closed halfway | `stores` |
 //! | Examples to hold it to | `lister`, and `tests/examples.rs` |
 
 pub mod bad_slots;
@@ -27,3 +28,4 @@ pub mod records;
 pub mod refusals;
 pub mod several;
 pub mod state;
+pub mod stores;

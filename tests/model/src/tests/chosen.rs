@@ -1,6 +1,7 @@
 //! Random images, scripts and chains.
 
 use crate::choose::chains::chain;
+use crate::choose::cuttings::cutting;
 use crate::choose::geometries::{geometry, wild_geometry, wrong_geometry};
 use crate::choose::images::{contents, valid_image};
 use crate::choose::random::Random;
@@ -48,7 +49,7 @@ fn scripts_are_repeatable_and_read_back() {
 #[test]
 fn chains_are_repeatable_and_read_back() {
     for number in 0..40 {
-        for choose in [chain, telling] {
+        for choose in [chain, telling, cutting] {
             let chosen = choose(5, number);
             assert_eq!(chosen, choose(5, number));
             let bytes = chosen.encode();

@@ -5,14 +5,17 @@ use crate::check::side_by_side;
 use crate::check::table::Tally;
 use crate::check::transcripts::first_difference;
 use crate::choose::chains::chain;
+use crate::choose::cuttings::cutting;
 use crate::choose::tellings;
+use crate::doors::cut;
 use crate::doors::seam::{self, Memory, Seam};
 use crate::doors::telling;
 use crate::paper::calls::*;
 use crate::paper::control::CR;
 use crate::paper::geometry::Geometry;
 
-/// Numbers for `churawel_fault` and `churawel_file`, which have none.
+/// Numbers for `churawel_cut`, `churawel_fault` and `churawel_file`.
+const CUT: u8 = 253;
 const FAULT: u8 = 254;
 const FILE: u8 = 255;
 
@@ -41,6 +44,11 @@ impl Seam for Mistaken {
         (self.mistake)(function, answer, memory)
     }
 
+    fn cut(&self, most: u32, function: u8, parameter: u8, memory: &mut Memory) -> Result<u32, String> {
+        let answer = cut::cut(most, function, parameter, memory);
+        (self.mistake)(CUT, answer, memory)
+    }
+
     fn fault(&self, geometry: Geometry, memory: &mut Memory) -> Result<u32, String> {
         let answer = telling::fault(geometry, memory);
         (self.mistake)(FAULT, answer, memory)
@@ -52,13 +60,16 @@ impl Seam for Mistaken {
     }
 }
 
-/// The first difference in two hundred chains, half of them tellings.
+/// The first difference in three hundred chains, a third of them tellings and a
+/// third cuttings.
 fn difference(mistake: Mistake) -> Option<String> {
     let mistaken = Mistaken { mistake };
-    (0..100).flat_map(|number| [chain(3, number), tellings::telling(3, number)]).find_map(|chain| {
-        let difference = side_by_side::first_difference(&chain, &mistaken, &mut Tally::default());
-        difference.map(|difference| difference.what)
-    })
+    (0..100).flat_map(|number| [chain(3, number), tellings::telling(3, number), cutting(3, number)]).find_map(
+        |chain| {
+            let difference = side_by_side::first_difference(&chain, &mistaken, &mut Tally::default());
+            difference.map(|difference| difference.what)
+        },
+    )
 }
 
 /// The mistake is found, and the words for it contain these.
@@ -132,7 +143,8 @@ fn a_refusal_that_writes_the_drive_back() {
 
 #[test]
 fn a_number_that_is_not_served() {
-    let mistake: Mistake = |_, answer, _| Ok(if answer == 31 { 32 } else { answer });
+    let mistake: Mistake =
+        |function, answer, _| Ok(if answer == 31 && function != CUT { 32 } else { answer });
     found(mistake, "(a number that is not served): the answer is 32, by the model 31");
 }
 
@@ -197,4 +209,27 @@ fn a_wrong_line_of_a_file() {
     found(blocks, "(churawel_file): byte 18 of the buffer is ");
     let slot: Mistake = |function, answer, _| Ok(if function == FILE { answer + (1 << 16) } else { answer });
     found(slot, "(churawel_file): the count or slot is ");
+}
+
+#[test]
+fn a_wrong_cut() {
+    let stays_open: Mistake = |function, answer, memory| {
+        if function == CUT && answer % 65536 == 0 && memory.drive.len() == 64 {
+            memory.drive[1] = 4;
+        }
+        Ok(answer)
+    };
+    found(stays_open, "(churawel_cut): byte 1 of the drive is 04, by the model 00");
+    let one_more: Mistake =
+        |function, answer, _| Ok(if function == CUT && answer > 65535 { answer + 65536 } else { answer });
+    found(one_more, "(churawel_cut): the count or slot is ");
+    let code: Mistake = |function, answer, _| Ok(if function == CUT && answer == 0 { 3 } else { answer });
+    found(code, "(churawel_cut): the answer is 3, by the model 0");
+    let half: Mistake = |function, answer, memory| {
+        if function == CUT && answer > 65535 {
+            memory.volume[100] ^= 1;
+        }
+        Ok(answer)
+    };
+    found(half, "(churawel_cut): byte 100 of the volume is ");
 }

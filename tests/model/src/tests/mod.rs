@@ -1,6 +1,6 @@
 //! Hand-worked cases: the paper's examples, each refusal of the table and its
 //! order against the next ones, what succeeds, which block a write takes,
-//! several records a call, the script's text, the seam's bytes, and mistakes
+//! several records a call, the stores of a call, the script's text, the seam's bytes, and mistakes
 //! that the comparison must find.
 
 mod bench;
@@ -18,6 +18,7 @@ mod refused_by_state_and_lengths;
 mod replay;
 mod seam;
 mod several;
+mod stores;
 mod together;
 mod typing;
 

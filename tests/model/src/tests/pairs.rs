@@ -1,4 +1,4 @@
-//! That few random scripts, chains and tellings make every possible pair of call and
+//! That few random scripts, chains, tellings and cuttings make every possible pair of call and
 //! answer occur, and no other, on the model itself.
 
 use super::mistakes::Mistaken;
@@ -6,6 +6,7 @@ use crate::check::pairs::{Door, Row};
 use crate::check::side_by_side;
 use crate::check::table::Tally;
 use crate::choose::chains::chain;
+use crate::choose::cuttings::cutting;
 use crate::choose::scripts::script_bytes;
 use crate::choose::tellings::telling;
 use crate::doors::chain::Chain;
@@ -42,7 +43,7 @@ fn all_pairs_occur_through_replay() {
 fn all_pairs_occur_at_the_seam() {
     all_pairs_occur(Door::Seam, |tally, seed, number| {
         let script = Chain::of_script(&Script::decode(&script_bytes(seed, number)));
-        for chain in [script, chain(seed, number), telling(seed, number)] {
+        for chain in [script, chain(seed, number), telling(seed, number), cutting(seed, number)] {
             let difference = side_by_side::first_difference(&chain, &Mistaken::NOT_AT_ALL, tally);
             assert_eq!(difference, None);
         }

@@ -34,16 +34,17 @@ first-of-requires c κs = search needs
 is-none-requires : tie.Need-is-none-requires
 is-none-requires c κs = search needs
 
-change-all-requires : tie.Need-change-all-requires
-change-all-requires c κs = search needs
+change-most-requires : tie.Need-change-most-requires
+change-most-requires c κs = let s = c .before .before .before .before .before .before .before .before .before .before .before in ((s .pre .0, s .pre .1 .0), ((s .pre .1 .1, s .pre .1 .1), c .before .before .before .before .before .before .before .find .ensures .0))
 
 same-length : tie.Need-same-length
 same-length c = search needs
 
 returns : tie.Need-returns
 returns c =
-    let n = sym (c .before .before .before .before .before .is-none .ensures) ∙ c .before .before .before .before .if1 .taken in
-    (why (c .before .before .before .before .before .before), rw n (c .before .before .change-all .ensures))
+    let n = sym (c .before .before .before .before .before .before .is-none .ensures) ∙ c .before .before .before .before .before .if1 .taken in
+    let o = c .before .before .change-most in
+    (why (c .before .before .before .before .before .before .before), (rw n (o .ensures .0), rw n (o .ensures .1)))
 
 same-length-2 : tie.Need-same-length-2
 same-length-2 c = search needs
@@ -51,7 +52,7 @@ same-length-2 c = search needs
 returns-2 : tie.Need-returns-2
 returns-2 c =
     let n = sym (c .before .is-none .ensures) ∙ c .if1 .left in
-    (why (c .before .before), rw n)
+    (why (c .before .before), (rw n, rw n))
 
 pub attribute-file-spec : {M : Type 1} → statement M
 attribute-file-spec =
@@ -62,7 +63,7 @@ attribute-file-spec =
     refuse-requires
     first-of-requires
     is-none-requires
-    change-all-requires
+    change-most-requires
     same-length
     returns
     same-length-2

@@ -17,16 +17,17 @@ first-of-requires c κs = search needs
 is-none-requires : tie.Need-is-none-requires
 is-none-requires c κs = search needs
 
-change-all-requires : tie.Need-change-all-requires
-change-all-requires c κs = search needs
+change-most-requires : tie.Need-change-most-requires
+change-most-requires c κs = let s = c .before .before .before .before .before .before .before .before .before .before .before .before in (s .pre .0, (s .pre .1, c .before .before .before .before .before .before .before .find .ensures .0))
 
 same-length : tie.Need-same-length
 same-length c = search needs
 
 returns : tie.Need-returns
 returns c =
-    let n = sym (c .before .before .before .before .before .is-none .ensures) ∙ c .before .before .before .before .if1 .taken in
-    (c .before .before .before .before .before .before .first-of .ensures ∙ ap (first (c .before .before .before .before .before .before .before .before .before .before .before .before .before .before .args .before)) (c .before .before .before .before .before .before .before .rename-why .ensures), rw n (c .before .before .change-all .ensures))
+    let n = sym (c .before .before .before .before .before .before .is-none .ensures) ∙ c .before .before .before .before .before .if1 .taken in
+    let o = c .before .before .change-most in
+    (c .before .before .before .before .before .before .before .first-of .ensures ∙ ap (first (c .before .before .before .before .before .before .before .before .before .before .before .before .before .before .before .args .before)) (c .before .before .before .before .before .before .before .before .rename-why .ensures), (rw n (o .ensures .0), rw n (o .ensures .1)))
 
 same-length-2 : tie.Need-same-length-2
 same-length-2 c = search needs
@@ -34,7 +35,7 @@ same-length-2 c = search needs
 returns-2 : tie.Need-returns-2
 returns-2 c =
     let n = sym (c .before .is-none .ensures) ∙ c .if1 .left in
-    (c .before .before .first-of .ensures ∙ ap (first (c .before .before .before .before .before .before .before .before .before .before .args .before)) (c .before .before .before .rename-why .ensures), rw n)
+    (c .before .before .first-of .ensures ∙ ap (first (c .before .before .before .before .before .before .before .before .before .before .args .before)) (c .before .before .before .rename-why .ensures), (rw n, rw n))
 
 pub rename-file-spec : {M : Type 1} → statement M
 rename-file-spec =
@@ -44,7 +45,7 @@ rename-file-spec =
     rename-why-requires
     first-of-requires
     is-none-requires
-    change-all-requires
+    change-most-requires
     same-length
     returns
     same-length-2

@@ -6,7 +6,6 @@ use lib.Bits.{bitAnd}
 use borrow.Author.Tests.{eq-eqb, ne-eqb}
 use borrow.Author.Needs.{needs}
 use Rattle.disk_geometry.specs.Geometry.{records}
-use Rattle.disk_volume.specs.Record.{fillRecord}
 use Rattle.disk_geometry.proofs.ShiftLaws.{block-shift}
 use Rattle.call_store.proofs.data.fill_record.Statement.{statement}
 use Rattle.call_store.proofs.data.fill_record.Tie as tie
@@ -26,11 +25,10 @@ same-length : tie.Need-same-length
 same-length c = search needs
 
 returns : tie.Need-returns
-unfolding fillRecord
 returns c =
-    let a = c .before .before .before .before .before .before .before .before .args in
-    let e : a .k ≡ a .n % records (a .g) = c .before .before .before .before .if1 .taken ∙ place-within (c .before .before .before .before .before) in
-    c .before .before .put-record .ensures ∙ rw (eq-eqb (a .k) (a .n % records (a .g)) e)
+    let a = c .before .before .before .before .before .before .before .before .before .args in
+    let e : a .k ≡ a .n % records (a .g) = c .before .before .before .before .before .if1 .taken ∙ place-within (c .before .before .before .before .before .before) in
+    (c .before .before .put-record .ensures .0 ∙ rw (eq-eqb (a .k) (a .n % records (a .g)) e), c .before .before .put-record .ensures .1)
 
 slice-aggregate-put-record : tie.Need-slice-aggregate-put-record
 slice-aggregate-put-record c = search needs
@@ -42,11 +40,10 @@ same-length-2 : tie.Need-same-length-2
 same-length-2 c = search needs
 
 returns-2 : tie.Need-returns-2
-unfolding fillRecord
 returns-2 c =
-    let a = c .before .before .before .before .before .before .before .before .before .args in
-    let e : a .k ≢ a .n % records (a .g) = λ q. c .before .before .before .before .before .if1 .left (q ∙ sym (place-within (c .before .before .before .before .before .before))) in
-    c .before .before .put-record2 .ensures ∙ rw (ne-eqb (a .k) (a .n % records (a .g)) e)
+    let a = c .before .before .before .before .before .before .before .before .before .before .args in
+    let e : a .k ≢ a .n % records (a .g) = λ q. c .before .before .before .before .before .before .if1 .left (q ∙ sym (place-within (c .before .before .before .before .before .before .before))) in
+    (c .before .before .put-record2 .ensures .0 ∙ rw (ne-eqb (a .k) (a .n % records (a .g)) e), c .before .before .put-record2 .ensures .1)
 
 pub fill-record-spec : {M : Type 1} → statement M
 fill-record-spec =

@@ -1,6 +1,6 @@
--- By the two ways of the test.
+-- The whole block, or the record alone.
 use borrow.Author.Needs.{needs}
-use Rattle.disk_volume.specs.Record.{putFilled}
+use Rattle.disk_stores.specs.Stores.{recordStores}
 use Rattle.call_store.proofs.data.put_filled.Statement.{statement}
 use Rattle.call_store.proofs.data.put_filled.Tie as tie
 
@@ -11,7 +11,7 @@ same-length : tie.Need-same-length
 same-length c = search needs
 
 returns : tie.Need-returns
-returns c = rw (c .before .before .before .before .if1 .taken) (c .before .before .fill-block .ensures)
+returns c = rw (c .before .before .before .before .before .if1 .taken) (c .before .before .fill-block .ensures)
 
 put-record-requires : tie.Need-put-record-requires
 put-record-requires c κs = search needs
@@ -20,8 +20,8 @@ same-length-2 : tie.Need-same-length-2
 same-length-2 c = search needs
 
 returns-2 : tie.Need-returns-2
-unfolding putFilled
-returns-2 c = rw (c .before .before .before .before .if1 .left) (c .before .before .put-record .ensures)
+unfolding recordStores
+returns-2 c = rw (c .before .before .before .before .before .if1 .left) (c .before .before .put-record .ensures)
 
 pub put-filled-spec : {M : Type 1} → statement M
 put-filled-spec =

@@ -1,50 +1,20 @@
--- The record is put into the volume where it begins.
-use mathlib.Core.Path.{_≡_}
-use Prim.Native.Nat.{_+_, _-_}
-use native.Mathlib.Omega.{arith}
+-- The record is stored as the logical record that it is.
+use mathlib.Core.Path.{_≡_, _∙_}
 use borrow.Author.Needs.{needs}
-use Rattle.lists.specs.Bytes.{put}
-use Rattle.disk_volume.specs.Record.{putRecord}
 use Rattle.call_store.proofs.data.put_record.Statement.{statement}
 use Rattle.call_store.proofs.data.put_record.Tie as tie
 
-record-start-requires : tie.Need-record-start-requires
-record-start-requires c κs = search needs
+record-of-requires : tie.Need-record-of-requires
+record-of-requires c κs = search needs
 
-add-copy : tie.Need-add-copy
-add-copy c = search needs
-
-sub-copy : tie.Need-sub-copy
-sub-copy c = search needs
-
-part-copy-start : tie.Need-part-copy-start
-part-copy-start c = search needs
-
-part-copy-end : tie.Need-part-copy-end
-part-copy-end c = search needs
-
-copy-requires : tie.Need-copy-requires
-copy-requires c κs = search needs
+store-record-requires : tie.Need-store-record-requires
+store-record-requires c κs = search needs
 
 same-length : tie.Need-same-length
 same-length c = search needs
 
 returns : tie.Need-returns
-unfolding putRecord put
-returns c =
-    let at = c .before .before .before .before .record-start in
-    let z : at .result + 128 - at .result ≡ 128 = omega arith in
-    rw (z, c .before .before .copy .ensures, at .ensures .0)
+returns c = (c .before .before .store-record .ensures .0 ∙ rw (c .before .before .before .before .before .record-of .ensures .0), c .before .before .store-record .ensures .1)
 
 pub put-record-spec : {M : Type 1} → statement M
-put-record-spec =
-    tie.close
-    (tie.spec
-    record-start-requires
-    add-copy
-    sub-copy
-    part-copy-start
-    part-copy-end
-    copy-requires
-    same-length
-    returns)
+put-record-spec = tie.close (tie.spec record-of-requires store-record-requires same-length returns)

@@ -70,7 +70,7 @@ returns : tie.Need-returns
 unfolding nameAt part
 returns c =
     let e : isNone (c .before .before .before .decide .result .why) ≡ false = sym (c .before .is-none .ensures) ∙ not-true (c .before .is-none .result) (c .if1 .taken) in
-    (c .before .before .before .decide .ensures .0, (rw e, (rw e, rw e)))
+    (c .before .before .before .decide .ensures .0, (rw e, (rw e, (rw e, rw e))))
 
 slice-aggregate-write-entry : tie.Need-slice-aggregate-write-entry
 slice-aggregate-write-entry c = search needs
@@ -82,10 +82,10 @@ slice-aggregate-carry-out : tie.Need-slice-aggregate-carry-out
 slice-aggregate-carry-out c = search needs
 
 carry-out-requires : tie.Need-carry-out-requires
-carry-out-requires c κs = (search needs, (search needs, (slot-fits (c .before .before .before .before .before .before .before), (block-fits (c .before .before .before .before .before .before .before), c .before .before .before .before .before .before .before .before .before .before .before .before .before .before .before .before .before .before .pre .1 .1 .1))))
+carry-out-requires c κs = (search needs, (search needs, (slot-fits (c .before .before .before .before .before .before .before .before), (block-fits (c .before .before .before .before .before .before .before .before), c .before .before .before .before .before .before .before .before .before .before .before .before .before .before .before .before .before .before .before .pre .1 .1 .1))))
 
 hold-if-requires : tie.Need-hold-if-requires
-hold-if-requires c κs = block-small (c .before .before .before .before .before .before .before .before .before .before .before .before)
+hold-if-requires c κs = block-small (c .before .before .before .before .before .before .before .before .before .before .before .before .before)
 
 same-length-3 : tie.Need-same-length-3
 same-length-3 c = search needs
@@ -96,15 +96,19 @@ same-length-4 c = search needs
 returns-2 : tie.Need-returns-2
 unfolding nameAt part
 returns-2 c =
-    let d = decided (c .before .before .before .before .before .before .before .before .before .before .before .before .before) in
-    let e = entry-laid (c .before .before .before .before .before .before .before .before .before .before .before) in
-    let none = none-met (c .before .before .before .before .before .before .before .before .before .before .before .before .before) in (
-      c .before .before .before .before .before .before .before .before .before .before .before .before .before .before .before .before .decide .ensures .0,
+    let d = decided (c .before .before .before .before .before .before .before .before .before .before .before .before .before .before) in
+    let e = entry-laid (c .before .before .before .before .before .before .before .before .before .before .before .before) in
+    let none = none-met (c .before .before .before .before .before .before .before .before .before .before .before .before .before .before) in
+    let o = c .before .before .before .before .before .carry-out in (
+      c .before .before .before .before .before .before .before .before .before .before .before .before .before .before .before .before .before .decide .ensures .0,
       (
-        rw none (c .before .before .before .before .before .carry-out .ensures .0 ∙ rw (e, d .slot-is, d .block-is, d .fresh-is)),
+        rw none (o .ensures .0 ∙ rw (e, d .slot-is, d .block-is, d .fresh-is)),
         (
-          rw none (c .before .before .before .before .before .carry-out .ensures .1 ∙ rw e),
-          rw none (c .hold-if .ensures ∙ rw (d .fresh-is, d .block-is)),
+          rw none (o .ensures .1 .0 ∙ rw e),
+          (
+            rw none (c .hold-if .ensures ∙ rw (d .fresh-is, d .block-is)),
+            rw none (o .ensures .1 .1 ∙ rw (e, d .slot-is, d .block-is, d .fresh-is)),
+          ),
         ),
       ),
     )

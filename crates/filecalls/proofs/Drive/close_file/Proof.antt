@@ -7,7 +7,8 @@ use mathlib.Core.Bool.{false}
 use Rattle.filecalls.proofs.NamingLaws.{named-no, named-decided}
 use Rattle.filecalls.proofs.OutcomeLaws.{either}
 use Rattle.filecalls.proofs.StateLaws.{Named, named}
-use Rattle.filecalls.specs.Outcome.{keeps, changedState, storedAll}
+use Rattle.disk_stores.specs.Stores.{laid}
+use Rattle.filecalls.specs.Outcome.{keeps, changedState}
 use denote.Ref.{now}
 use mathlib.Core.List.{[]}
 use mathlib.Core.Path.{_≡_, _∙_}
@@ -44,7 +45,7 @@ answered-requires : tie.Need-answered-requires
 answered-requires c κs = search needs
 
 returns-2 : tie.Need-returns-2
-unfolding closeAct closeTests changedState storedAll
+unfolding closeAct closeTests changedState laid
 returns-2 c =
     let a = c .before .before .before .before .before .before .before .before .before .args in
     let d = a .self in

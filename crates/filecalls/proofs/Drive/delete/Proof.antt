@@ -1,95 +1,23 @@
--- What is lent refuses, or the delete of the matches decides.
-use Rattle.filecalls.proofs.NamingLaws.{held-or, named-no, named-decided, after}
-use Rattle.filecalls.specs.Tests.{protectedDrive}
-use Rattle.filecalls.specs.Names.{deleteAct, deleteLadder}
-use Rattle.filecalls.specs.Outcome.{frees, eachEntry, changedState, stored, storedAll}
-use Rattle.call_answers.specs.Refusal.{isNone}
-use Rattle.call_answers.specs.declared.Refusal.the-variants.{Protected}
-use Rattle.call_answers.proofs.Ladder.{ladder-one}
-use Rattle.call_sweep.specs.declared.Edit.the-variants.{Erase}
-use Rattle.call_sweep.specs.Sweep.{changed}
-use Rattle.call_delete.specs.Delete.{deleteTests, freeMatches}
-use Rattle.lists.specs.Bytes.{part}
-use mathlib.Core.Bool.{true}
-use Rattle.filecalls.proofs.OutcomeLaws.{either}
-use Rattle.filecalls.proofs.StateLaws.{Named, named}
-use Rattle.disk_volume.specs.Name.{nameAt, nameOf}
+-- The stores are enough for every record of the directory.
 use denote.Ref.{now}
-use native.Mathlib.Omega.{arith}
-use mathlib.Core.List.{[], _∷_}
-use mathlib.Core.Path.{refl, _∙_}
+use mathlib.Core.List.{[]}
+use Rattle.filecalls.specs.Names.{deleteAct}
+use Rattle.filecalls.proofs.CutLaws.{code-whole}
+use Rattle.filecalls.proofs.SeveralCutLaws.{delete-enough}
 use borrow.Author.Needs.{needs}
 use Rattle.filecalls.proofs.Drive.delete.Statement.{statement}
 use Rattle.filecalls.proofs.Drive.delete.Tie as tie
 
--- the tests of what is lent have passed
-clear : (c : tie.Else1) → Named (c .before .before .before .before .before .before .args .self) (now (c .before .before .before .before .before .before .args .volume)) (now (c .before .before .before .before .before .before .args .fcb)) true
-clear c = named _ _ _ true (c .before .before .named-why .ensures) (c .before .is-none .ensures) (c .if1 .left)
-
-named-why-requires : tie.Need-named-why-requires
-named-why-requires c κs = search needs
-
-is-none-requires : tie.Need-is-none-requires
-is-none-requires c κs = search needs
-
-refused-requires : tie.Need-refused-requires
-refused-requires c κs = search needs
+delete-most-requires : tie.Need-delete-most-requires
+delete-most-requires c κs = search needs
 
 same-length : tie.Need-same-length
 same-length c = search needs
 
 returns : tie.Need-returns
-unfolding deleteAct deleteLadder
 returns c =
     let a = c .before .before .before .before .before .before .before .args in
-    named-no (a .self) (now (a .volume)) (now (a .fcb)) true _ _ (c .before .before .before .named-why .ensures) (c .before .before .is-none .ensures) (c .before .if1 .taken) (c .refused .ensures)
-
-refuse-requires : tie.Need-refuse-requires
-refuse-requires c κs = search needs
-
-sub-delete-matches : tie.Need-sub-delete-matches
-sub-delete-matches c = search needs
-
-part-delete-matches-start : tie.Need-part-delete-matches-start
-part-delete-matches-start c = search needs
-
-part-delete-matches-end : tie.Need-part-delete-matches-end
-part-delete-matches-end c = omega (arith, clear (c .before .before .before .before) .lent .fcb)
-
-delete-matches-requires : tie.Need-delete-matches-requires
-delete-matches-requires c κs = let l = clear (c .before .before .before .before .before) .lent in (l .state .law, (l .volume, search needs))
-
-answered-requires : tie.Need-answered-requires
-answered-requires c κs = search needs
-
-same-length-2 : tie.Need-same-length-2
-same-length-2 c = search needs
-
-returns-2 : tie.Need-returns-2
-unfolding deleteAct deleteLadder changedState stored storedAll nameAt part
-returns-2 c =
-    let a = c .before .before .before .before .before .before .before .before .before .before .before .before .before .before .before .before .args in
-    let name = nameOf (now (a .fcb)) in
-    let m = c .before .before .before .before .delete-matches in
-    let t = isNone (m .result .why) in
-    named-decided (a .self) (now (a .volume)) (now (a .fcb)) (clear (c .before .before .before .before .before .before .before .before .before .before)) 0 (frees (a .self .user) name) (eachEntry (changed Erase (a .self .user) name []) ∷ []) (now (a .fcb)) _
-    (after (protectedDrive (a .self) ∷ []) (deleteTests (a .self .geometry) (now (a .volume)) (a .self .user) name) (c .before .before .before .before .before .before .before .before .before .refuse .ensures ∙ ladder-one Protected (a .self .protected) refl) (m .ensures .0))
-    (held-or (a .self) t (freeMatches (a .self .geometry) (now (a .volume)) (a .self .user) name (a .self .held)) (m .ensures .1 .0)) (m .ensures .1 .1) (either t (now (a .fcb))) (c .answered .ensures)
+    code-whole (a .self) (now (a .volume)) (now (a .fcb)) [] 528 (deleteAct (a .self) (now (a .volume)) (now (a .fcb))) (delete-enough (a .self) (now (a .volume)) (now (a .fcb))) (c .before .before .delete-most .ensures)
 
 pub delete-spec : {M : Type 1} → statement M
-delete-spec =
-    tie.close
-    (tie.spec
-    named-why-requires
-    is-none-requires
-    refused-requires
-    same-length
-    returns
-    refuse-requires
-    sub-delete-matches
-    part-delete-matches-start
-    part-delete-matches-end
-    delete-matches-requires
-    answered-requires
-    same-length-2
-    returns-2)
+delete-spec = tie.close (tie.spec delete-most-requires same-length returns)

@@ -7,7 +7,8 @@ use mathlib.Core.Bool.{false}
 use Rattle.filecalls.proofs.NamingLaws.{named-no, named-decided}
 use Rattle.filecalls.proofs.OutcomeLaws.{either}
 use Rattle.filecalls.proofs.StateLaws.{Named, named}
-use Rattle.filecalls.specs.Outcome.{keeps, changedState, storedAll}
+use Rattle.disk_stores.specs.Stores.{laid}
+use Rattle.filecalls.specs.Outcome.{keeps, changedState}
 use Rattle.disk_volume.specs.Name.{nameOf}
 use denote.Ref.{now}
 use mathlib.Core.List.{[]}
@@ -47,7 +48,7 @@ same-length-2 : tie.Need-same-length-2
 same-length-2 c = search needs
 
 returns-2 : tie.Need-returns-2
-unfolding sizeAct sizeTests changedState storedAll
+unfolding sizeAct sizeTests changedState laid
 returns-2 c =
     let a = c .before .before .before .before .before .before .before .before .before .before .before .before .args in
     let d = a .self in

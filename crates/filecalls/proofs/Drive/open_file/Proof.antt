@@ -9,7 +9,8 @@ use mathlib.Core.Bool.{true}
 use Rattle.filecalls.proofs.NamingLaws.{named-no, named-decided}
 use Rattle.filecalls.proofs.OutcomeLaws.{either}
 use Rattle.filecalls.proofs.StateLaws.{Named, named}
-use Rattle.filecalls.specs.Outcome.{keeps, changedState, storedAll}
+use Rattle.disk_stores.specs.Stores.{laid}
+use Rattle.filecalls.specs.Outcome.{keeps, changedState}
 use denote.Ref.{now}
 use mathlib.Core.List.{[]}
 use mathlib.Core.Path.{_≡_, _∙_}
@@ -52,7 +53,7 @@ same-length-2 : tie.Need-same-length-2
 same-length-2 c = search needs
 
 returns-2 : tie.Need-returns-2
-unfolding openAct openTests changedState storedAll
+unfolding openAct openTests changedState laid
 returns-2 c =
     let a = c .before .before .before .before .before .before .before .before .before .before .before .before .before .args in
     let d = a .self in

@@ -1,6 +1,7 @@
 -- Closed, or protected from now on.
 use Rattle.filecalls.specs.Small.{protectAct, protectTests}
-use Rattle.filecalls.specs.Outcome.{outcome, unless, changedState, storedAll}
+use Rattle.disk_stores.specs.Stores.{laid}
+use Rattle.filecalls.specs.Outcome.{outcome, unless, changedState}
 use Rattle.call_answers.specs.Refusal.{firstMet}
 use borrow.Author.Needs.{needs}
 use Rattle.filecalls.proofs.Drive.protect.Statement.{statement}
@@ -20,7 +21,7 @@ done-requires : tie.Need-done-requires
 done-requires c κs = search needs
 
 returns-2 : tie.Need-returns-2
-unfolding outcome protectAct protectTests unless firstMet changedState storedAll
+unfolding outcome protectAct protectTests unless firstMet changedState laid
 returns-2 c = rw (← c .before .before .is-open .ensures, c .before .if1 .left, c .done .ensures)
 
 pub protect-spec : {M : Type 1} → statement M

@@ -7,7 +7,8 @@ use Rattle.disk_volume.specs.Record.{recordSlot}
 use Rattle.call_fcb.specs.Fcb.{setTo}
 use Rattle.call_read.specs.Read.{readTests, readBytes}
 use Rattle.call_answers.specs.Refusal.{isNone}
-use Rattle.filecalls.specs.Outcome.{keeps, changedState, storedAll}
+use Rattle.disk_stores.specs.Stores.{laid}
+use Rattle.filecalls.specs.Outcome.{keeps, changedState}
 use Rattle.filecalls.specs.Read.{readDone}
 use Rattle.filecalls.proofs.OutcomeLaws.{either, decided}
 use borrow.Author.Needs.{needs}
@@ -27,7 +28,7 @@ same-length-2 : tie.Need-same-length-2
 same-length-2 c = search needs
 
 returns : tie.Need-returns
-unfolding readDone changedState storedAll
+unfolding readDone changedState laid
 returns c =
     let a = c .before .before .before .before .before .before .before .before .before .before .before .before .args in
     let d = a .self in

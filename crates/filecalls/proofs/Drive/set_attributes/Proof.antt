@@ -1,100 +1,23 @@
--- What is lent refuses, or the marking of the file decides, after the protection.
-use Rattle.filecalls.specs.Tests.{protectedDrive}
-use Rattle.filecalls.specs.Names.{attributesAct, attributesLadder}
-use Rattle.call_answers.specs.Refusal.{test, isNone}
-use Rattle.call_answers.specs.declared.Refusal.the-variants.{Protected, NoMatch}
-use Rattle.call_answers.proofs.Ladder.{ladder-one}
-use Rattle.call_sweep.specs.declared.Edit.the-variants.{Attributes}
-use Rattle.call_sweep.specs.Sweep.{changed}
-use Rattle.disk_volume.specs.Directory.{findSlot}
-use Rattle.disk_geometry.specs.Geometry.{slots}
-use Rattle.disk_volume.specs.declared.Wanted.the-variants.{File}
-use Rattle.lists.specs.Bytes.{part}
-use lib.Dec.{leb}
-use mathlib.Core.Bool.{false}
-use Rattle.filecalls.proofs.NamingLaws.{named-no, named-decided, after}
-use Rattle.filecalls.proofs.OutcomeLaws.{either}
-use Rattle.filecalls.proofs.StateLaws.{Named, named}
-use Rattle.filecalls.specs.Outcome.{keeps, eachEntry, changedState, stored, storedAll}
-use Rattle.disk_volume.specs.Name.{nameAt, nameOf}
+-- The stores are enough for every record of the directory.
 use denote.Ref.{now}
-use native.Mathlib.Omega.{arith}
-use mathlib.Core.List.{[], _∷_}
-use mathlib.Core.Path.{refl, _∙_}
+use mathlib.Core.List.{[]}
+use Rattle.filecalls.specs.Names.{attributesAct}
+use Rattle.filecalls.proofs.CutLaws.{code-whole}
+use Rattle.filecalls.proofs.SeveralCutLaws.{attributes-enough}
 use borrow.Author.Needs.{needs}
 use Rattle.filecalls.proofs.Drive.set_attributes.Statement.{statement}
 use Rattle.filecalls.proofs.Drive.set_attributes.Tie as tie
 
--- the tests of what is lent have passed
-clear : (c : tie.Else1) → Named (c .before .before .before .before .before .before .args .self) (now (c .before .before .before .before .before .before .args .volume)) (now (c .before .before .before .before .before .before .args .fcb)) false
-clear c = named _ _ _ false (c .before .before .named-why .ensures) (c .before .is-none .ensures) (c .if1 .left)
-
-named-why-requires : tie.Need-named-why-requires
-named-why-requires c κs = search needs
-
-is-none-requires : tie.Need-is-none-requires
-is-none-requires c κs = search needs
-
-refused-requires : tie.Need-refused-requires
-refused-requires c κs = search needs
+attributes-most-requires : tie.Need-attributes-most-requires
+attributes-most-requires c κs = search needs
 
 same-length : tie.Need-same-length
 same-length c = search needs
 
 returns : tie.Need-returns
-unfolding attributesAct attributesLadder
 returns c =
     let a = c .before .before .before .before .before .before .before .args in
-    named-no (a .self) (now (a .volume)) (now (a .fcb)) false _ _ (c .before .before .before .named-why .ensures) (c .before .before .is-none .ensures) (c .before .if1 .taken) (c .refused .ensures)
-
-refuse-requires : tie.Need-refuse-requires
-refuse-requires c κs = search needs
-
-sub-attribute-file : tie.Need-sub-attribute-file
-sub-attribute-file c = search needs
-
-part-attribute-file-start : tie.Need-part-attribute-file-start
-part-attribute-file-start c = search needs
-
-part-attribute-file-end : tie.Need-part-attribute-file-end
-part-attribute-file-end c = omega (arith, clear (c .before .before .before) .lent .fcb)
-
-attribute-file-requires : tie.Need-attribute-file-requires
-attribute-file-requires c κs = let l = clear (c .before .before .before .before) .lent in (l .state .law, (l .volume, search needs))
-
-answered-requires : tie.Need-answered-requires
-answered-requires c κs = search needs
-
-same-length-2 : tie.Need-same-length-2
-same-length-2 c = search needs
-
-returns-2 : tie.Need-returns-2
-unfolding attributesAct attributesLadder changedState stored storedAll nameAt part
-returns-2 c =
-    let a = c .before .before .before .before .before .before .before .before .before .before .before .before .before .before .args in
-    let d = a .self in
-    let v = now (a .volume) in
-    let f = now (a .fcb) in
-    let m = c .before .before .before .attribute-file in
-    let t = isNone (m .result) in
-    named-decided d v f (clear (c .before .before .before .before .before .before .before .before)) 0 keeps (eachEntry (changed Attributes (d .user) (nameOf f) (part f 1 11)) ∷ []) f _
-    (after (protectedDrive d ∷ []) (test NoMatch (leb (slots (d .geometry)) (findSlot (d .geometry) v (d .user) (nameOf f) File)) ∷ []) (c .before .before .before .before .before .before .before .refuse .ensures ∙ ladder-one Protected (d .protected) refl) (m .ensures .0))
-    (either t d) (m .ensures .1) (either t f) (c .answered .ensures)
+    code-whole (a .self) (now (a .volume)) (now (a .fcb)) [] 528 (attributesAct (a .self) (now (a .volume)) (now (a .fcb))) (attributes-enough (a .self) (now (a .volume)) (now (a .fcb))) (c .before .before .attributes-most .ensures)
 
 pub set-attributes-spec : {M : Type 1} → statement M
-set-attributes-spec =
-    tie.close
-    (tie.spec
-    named-why-requires
-    is-none-requires
-    refused-requires
-    same-length
-    returns
-    refuse-requires
-    sub-attribute-file
-    part-attribute-file-start
-    part-attribute-file-end
-    attribute-file-requires
-    answered-requires
-    same-length-2
-    returns-2)
+set-attributes-spec = tie.close (tie.spec attributes-most-requires same-length returns)

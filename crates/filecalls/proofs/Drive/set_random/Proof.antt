@@ -1,7 +1,8 @@
 -- Refused by its tests, or the position goes into r0 r1 r2.
 use Rattle.filecalls.proofs.OutcomeLaws.{refused-at, clears}
 use Rattle.filecalls.specs.Small.{setRandomTests, setRandomAct}
-use Rattle.filecalls.specs.Outcome.{unless, outcome, changedState, storedAll}
+use Rattle.disk_stores.specs.Stores.{laid}
+use Rattle.filecalls.specs.Outcome.{unless, outcome, changedState}
 use Rattle.call_answers.proofs.Ladder.{unmet}
 use Rattle.call_answers.specs.Refusal.{firstMet, isNone}
 use Rattle.call_answers.specs.declared.Refusal.the-variants.{Closed, FcbLength}
@@ -58,7 +59,7 @@ same-length-2 : tie.Need-same-length-2
 same-length-2 c = search needs
 
 returns-2 : tie.Need-returns-2
-unfolding setRandomAct setRandomTests unless outcome changedState storedAll
+unfolding setRandomAct setRandomTests unless outcome changedState laid
 returns-2 c = rw (none (c .before .before .before .before .before .before .before), c .done .ensures, c .before .before .before .set-random .ensures, c .before .before .before .before .before .position-of .ensures .0)
 
 pub set-random-spec : {M : Type 1} → statement M

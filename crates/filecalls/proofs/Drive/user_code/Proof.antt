@@ -1,6 +1,7 @@
 -- Closed; a code from 16 to 254; 255; a code that is set.
 use Rattle.filecalls.specs.Small.{userAct, userTests}
-use Rattle.filecalls.specs.Outcome.{outcome, unless, changedState, storedAll}
+use Rattle.disk_stores.specs.Stores.{laid}
+use Rattle.filecalls.specs.Outcome.{outcome, unless, changedState}
 use Rattle.call_answers.specs.Refusal.{firstMet}
 use borrow.Author.Tests.{eq-eqb, ne-eqb}
 use borrow.Author.Needs.{needs}
@@ -28,14 +29,14 @@ done-requires : tie.Need-done-requires
 done-requires c κs = search needs
 
 returns-3 : tie.Need-returns-3
-unfolding outcome userAct userTests unless firstMet changedState storedAll
+unfolding outcome userAct userTests unless firstMet changedState laid
 returns-3 c = rw (← c .before .before .before .before .is-open .ensures, c .before .before .before .if1 .left, c .before .before .if2 .left, eq-eqb _ _ (c .before .if3 .taken), c .done .ensures)
 
 done-requires-2 : tie.Need-done-requires-2
 done-requires-2 c κs = search needs
 
 returns-4 : tie.Need-returns-4
-unfolding outcome userAct userTests unless firstMet changedState storedAll
+unfolding outcome userAct userTests unless firstMet changedState laid
 returns-4 c = rw (← c .before .before .before .before .is-open .ensures, c .before .before .before .if1 .left, c .before .before .if2 .left, ne-eqb _ _ (c .before .if3 .left), c .done2 .ensures)
 
 pub user-code-spec : {M : Type 1} → statement M

@@ -1,6 +1,7 @@
 -- Holds since the write of the record hands back just what the act leaves, and a protected drive is refused before it.
 use Rattle.filecalls.proofs.WriteLaws.{write-decided}
-use Rattle.filecalls.proofs.OutcomeLaws.{stops-here, says-no}
+use Rattle.filecalls.proofs.OutcomeLaws.{stops-here}
+use Rattle.filecalls.proofs.CutLaws.{cut-no}
 use Rattle.call_answers.specs.declared.Refusal.the-variants.{Protected}
 use mathlib.Core.Path.{refl}
 use denote.Ref.{now}
@@ -14,7 +15,7 @@ refused-requires c κs = search needs
 returns : tie.Need-returns
 returns c =
     let a = c .before .before .before .before .before .args in
-    says-no (a .self) (now (a .volume)) (now (a .fcb)) (now (a .buffer)) (stops-here Protected _ _ _ (c .before .if1 .taken) refl) (c .refused .ensures)
+    cut-no (a .self) (now (a .volume)) (now (a .fcb)) (now (a .buffer)) (now (a .left)) (stops-here Protected _ _ _ (c .before .if1 .taken) refl) (c .refused .ensures)
 
 write-record-requires : tie.Need-write-record-requires
 write-record-requires c κs = search needs
@@ -30,9 +31,9 @@ same-length-2 c = search needs
 
 returns-2 : tie.Need-returns-2
 returns-2 c =
-    let a = c .before .before .before .before .before .before .before .before .before .before .before .before .before .before .before .args in
+    let a = c .before .before .before .before .before .before .before .before .before .before .before .before .before .before .before .before .args in
     let w = c .before .before .before .before .before .before .write-record .ensures in
-    write-decided (a .self) (now (a .volume)) (now (a .fcb)) (a .n) (a .cr) (a .fills) (now (a .buffer)) (c .before .before .before .before .before .before .before .before .before .before .before .if1 .left) (w .0) (w .1 .0) (w .1 .1 .0) (w .1 .1 .1) (c .answered .ensures)
+    write-decided (a .self) (now (a .volume)) (now (a .fcb)) (a .n) (a .cr) (a .fills) (now (a .buffer)) (now (a .left)) (c .before .before .before .before .before .before .before .before .before .before .before .before .if1 .left) (w .0) (w .1 .0) (w .1 .1 .0) (w .1 .1 .1 .0) (w .1 .1 .1 .1) (c .answered .ensures)
 
 pub write-at-spec : {M : Type 1} → statement M
 write-at-spec =

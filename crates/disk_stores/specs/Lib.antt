@@ -1,0 +1,4 @@
+-- What a changing call stores, record by record.
+pub mod Pieces
+pub mod Stores
+pub mod Order
