@@ -87,6 +87,12 @@ static struct measured measure(void (*before)(const struct side *), job *same, u
 
 // ---- the tables
 
+// Block size, blocks and directory blocks, by slots; and at last the two largest hard disks.
+enum { SHAPES = 7, ALL_SHAPES = 9 };
+static const uint32_t shapes[ALL_SHAPES][3] = {{1024, 256, 1}, {2048, 256, 1}, {4096, 256, 1},   {4096, 256, 2},   {4096, 256, 4},
+                                               {4096, 256, 8}, {4096, 256, 16}, {2048, 4096, 16}, {4096, 2048, 16}};
+
+
 static int check_pass(void)
 {
     uint64_t sum[2];
@@ -106,7 +112,7 @@ static void pass_table(void)
     puts("Replacement pass: 40,000 calls on a nearly full volume of 1 MiB (256 blocks of 4,096 bytes)\n");
     puts("  slots   proved, calls/s   plain C, calls/s   ratio   answers and bytes");
     for (uint32_t directory = 2; directory <= 16; directory *= 2) {
-        fill_shelf(&full, 4096, directory);
+        fill_shelf(&full, 4096, 256, directory);
         int same = check_pass();
         struct measured m = measure(start_anew, pass_job, 1);
         print_number(full.slots, 7);
@@ -118,12 +124,29 @@ static void pass_table(void)
     }
 }
 
+static void hard_disk_table(void)
+{
+    puts("\nHard disks of 8 MiB: the replacement pass, and log-in\n");
+    puts("  blocks   slots   pass, calls/s   plain C, calls/s   ratio   log-in, us   plain C, us   ratio   answers and bytes");
+    for (size_t i = SHAPES; i < ALL_SHAPES; i++) {
+        fill_shelf(&full, shapes[i][0], shapes[i][1], shapes[i][2]);
+        int same = check_pass();
+        struct measured pass = measure(start_anew, pass_job, 1), log_in = measure(start_anew, log_in_job, 65536 / full.slots);
+        print_number(full.total, 8);
+        print_number(full.slots, 8);
+        print_number(PASS_CALLS / pass.ours, 16);
+        print_number(PASS_CALLS / pass.plain, 19);
+        printf("   %5.2f   %10.1f   %11.1f   %5.2f   %s\n", pass.ratio, log_in.ours * 1e6, log_in.plain * 1e6, log_in.ratio,
+               same ? "equal" : "DIFFERENT");
+    }
+}
+
 static void log_in_table(void)
 {
     puts("\nLog-in of a full directory\n");
     puts("  slots   proved, us   plain C, us   ratio");
     for (uint32_t directory = 2; directory <= 16; directory *= 2) {
-        fill_shelf(&full, 4096, directory);
+        fill_shelf(&full, 4096, 256, directory);
         fill_directory(&full);
         struct measured m = measure(start_anew, log_in_job, 65536 / full.slots);
         print_number(full.slots, 7);
@@ -146,15 +169,12 @@ static void call_cell(void (*before)(const struct side *), uint8_t function)
     cell(before, call_job);
 }
 
-// Block size and directory blocks, by slots.
-static const uint32_t shapes[][2] = {{1024, 1}, {2048, 1}, {4096, 1}, {4096, 2}, {4096, 4}, {4096, 8}, {4096, 16}};
-
 static void growth_table(void)
 {
     puts("\nOne call as the directory grows: on a record whose entry is in the last slot; open of a file that isn't there\n");
     puts("  slots    read, ns ratio   rewrite ratio      size ratio      open ratio");
-    for (size_t i = 0; i < sizeof shapes / sizeof *shapes; i++) {
-        fill_shelf(&full, shapes[i][0], shapes[i][1]);
+    for (size_t i = 0; i < SHAPES; i++) {
+        fill_shelf(&full, shapes[i][0], shapes[i][1], shapes[i][2]);
         print_number(full.slots, 7);
         printf("  ");
         call_cell(start_at_end, 33);
@@ -172,7 +192,7 @@ static int check_taking(void)
     struct desk left_desk;
     start_taking(&sides[OURS]);
     taking_job(&sides[OURS], 1);
-    left = work;
+    copy_shelf(&left, &work);
     left_desk = desk;
     start_taking(&sides[PLAIN]);
     taking_job(&sides[PLAIN], 1);
@@ -192,9 +212,9 @@ static void taking_table(const char *where, int alone)
     printf("\nA write that takes a block, %s: for the first place; for the next;\n"
            "fifteen places above the used one, with a free block above; the same with free blocks only below\n\n", where);
     puts("  slots   first, ns ratio      next ratio       gap ratio     below ratio   bytes");
-    for (size_t i = 0; i < sizeof shapes / sizeof *shapes; i++) {
+    for (size_t i = 0; i < SHAPES; i++) {
         int same = 1;
-        fill_shelf(&full, shapes[i][0], shapes[i][1]);
+        fill_shelf(&full, shapes[i][0], shapes[i][1], shapes[i][2]);
         print_number(full.slots, 7);
         printf("  ");
         for (size_t k = 0; k < 4; k++) {
@@ -217,11 +237,11 @@ static int check_sixteen(void)
     struct desk given = desk;
     sixteen_job(&sides[OURS], 1);
     left = desk;
-    volume = work;
-    work = full;
+    copy_shelf(&volume, &work);
+    copy_shelf(&work, &full);
     desk = given;
     singles_job(&sides[OURS], 1);
-    int same = memcmp(&left, &desk, sizeof desk) == 0 && memcmp(&volume, &work, sizeof work) == 0 && desk.fcb[32] > 0;
+    int same = memcmp(&left, &desk, sizeof desk) == 0 && memcmp(volume.volume, work.volume, work.bytes) == 0 && desk.fcb[32] > 0;
     differing += !same;
     return same;
 }
@@ -234,7 +254,7 @@ static void sixteen_table(void)
     puts("\nSixteen records: one call of sixteen beside sixteen single calls (ratio: where the single calls are 1)\n");
     puts("  slots   read, one us   single us   ratio   write, one us   single us   ratio   what is left");
     for (uint32_t directory = 2; directory <= 16; directory *= 2) {
-        fill_shelf(&full, 4096, directory);
+        fill_shelf(&full, 4096, 256, directory);
         print_number(full.slots, 7);
         int same = 1;
         for (uint8_t function = 20; function <= 21; function++) {
@@ -250,8 +270,8 @@ static void sixteen_table(void)
 // What both sides leave, without times.
 static void compare_bytes(void)
 {
-    for (size_t i = 0; i < sizeof shapes / sizeof *shapes; i++) {
-        fill_shelf(&full, shapes[i][0], shapes[i][1]);
+    for (size_t i = 0; i < ALL_SHAPES; i++) {
+        fill_shelf(&full, shapes[i][0], shapes[i][1], shapes[i][2]);
         int same = check_pass();
         for (size_t k = 0; k < sizeof takings / sizeof *takings; k++) {
             taking = &takings[k];
@@ -261,8 +281,8 @@ static void compare_bytes(void)
             job_function = function;
             same &= check_sixteen();
         }
-        printf("%5u slots: a pass of 40,000 calls, writes that take a block and sixteen records leave %s\n", full.slots,
-               same ? "the same" : "DIFFERENT BYTES");
+        printf("%5u blocks, %5u slots: a pass of 40,000 calls, writes that take a block and sixteen records leave %s\n", full.total,
+               full.slots, same ? "the same" : "DIFFERENT BYTES");
     }
 }
 
@@ -271,6 +291,7 @@ static void all_tables(void)
     printf("Ratio: the time of the proved calls, where that of plain C (gcc -O2) is 1. Median of %d rounds, in turns.\n\n", ROUNDS);
     pass_table();
     log_in_table();
+    hard_disk_table();
     growth_table();
     taking_table("on the nearly full disk", 0);
     taking_table("where no other file has a block", 1);

@@ -1,5 +1,5 @@
 // The same pieces of work as in bench.c, each done once on either side between two marks of the plugin instructions.c. A line
-// for each piece on standard output, `label work slots side`, names what the label's count means.
+// for each piece on standard output, `label work blocks slots side`, names what the label's count means.
 #define _GNU_SOURCE
 #include "churawel.h"
 #include "jobs.h"
@@ -47,8 +47,9 @@ static const struct piece pieces[] = {
     {"size", start_at_last_file, call_job, 35, 0},
 };
 
-// Block size and directory blocks: 32, 128, 256 and 2,048 slots.
-static const uint32_t shapes[][2] = {{1024, 1}, {4096, 1}, {4096, 2}, {4096, 16}};
+// Block size, blocks and directory blocks: 32, 128, 256 and 2,048 slots of 256 blocks; and the two hard disks of 8 MiB with as many
+// slots as there can be.
+static const uint32_t shapes[][3] = {{1024, 256, 1}, {4096, 256, 1}, {4096, 256, 2}, {4096, 256, 16}, {2048, 4096, 16}, {4096, 2048, 16}};
 
 static void mark(long label)
 {
@@ -59,7 +60,7 @@ int main(void)
 {
     long label = 0;
     for (size_t k = 0; k < sizeof shapes / sizeof *shapes; k++) {
-        fill_shelf(&full, shapes[k][0], shapes[k][1]);
+        fill_shelf(&full, shapes[k][0], shapes[k][1], shapes[k][2]);
         for (size_t i = 0; i < sizeof pieces / sizeof *pieces; i++) {
             for (size_t s = 0; s < sizeof sides / sizeof *sides; s++) {
                 job_function = pieces[i].function;
@@ -68,7 +69,7 @@ int main(void)
                 mark(0);
                 pieces[i].job(&sides[s].side, 1);
                 mark(++label);
-                printf("%ld %s %u %s\n", label, pieces[i].work, full.slots, sides[s].name);
+                printf("%ld %s %u %u %s\n", label, pieces[i].work, full.total, full.slots, sides[s].name);
             }
         }
     }

@@ -17,7 +17,7 @@ static void log_in_work(const struct side *side)
 {
     memset(&desk, 0, sizeof desk);
     uint32_t answer =
-        side->log_in(work.block, work.total, work.directory, work.volume, work.bytes, desk.drive, sizeof desk.drive);
+        side->log_in(work.block, work.total, work.directory, work.volume, work.bytes, desk.drive, drive_bytes(&work));
     if ((answer & 0xFFFF) != 0) {
         puts("the volume is refused");
         exit(1);
@@ -26,7 +26,7 @@ static void log_in_work(const struct side *side)
 
 void start_anew(const struct side *side)
 {
-    work = full;
+    copy_shelf(&work, &full);
     log_in_work(side);
 }
 
@@ -39,13 +39,13 @@ void pass_job(const struct side *side, unsigned times)
 void log_in_job(const struct side *side, unsigned times)
 {
     while (times-- > 0)
-        sink += side->log_in(work.block, work.total, work.directory, work.volume, work.bytes, desk.drive, sizeof desk.drive);
+        sink += side->log_in(work.block, work.total, work.directory, work.volume, work.bytes, desk.drive, drive_bytes(&work));
 }
 
 void call_job(const struct side *side, unsigned times)
 {
     while (times-- > 0)
-        sink += side->call(job_function, 0, desk.drive, sizeof desk.drive, work.volume, work.bytes, desk.fcb, sizeof desk.fcb,
+        sink += side->call(job_function, 0, desk.drive, drive_bytes(&work), work.volume, work.bytes, desk.fcb, sizeof desk.fcb,
                            desk.buffer, sizeof desk.buffer);
 }
 
@@ -91,7 +91,7 @@ void sixteen_job(const struct side *side, unsigned times)
     memcpy(fcb, desk.fcb, sizeof fcb);
     while (times-- > 0) {
         memcpy(desk.fcb, fcb, sizeof fcb);
-        sink += side->call(job_function == 20 ? 220 : 221, SEVERAL, desk.drive, sizeof desk.drive, work.volume, work.bytes, desk.fcb,
+        sink += side->call(job_function == 20 ? 220 : 221, SEVERAL, desk.drive, drive_bytes(&work), work.volume, work.bytes, desk.fcb,
                            sizeof desk.fcb, desk.pieces, sizeof desk.pieces);
     }
 }
@@ -103,7 +103,7 @@ void singles_job(const struct side *side, unsigned times)
     while (times-- > 0) {
         memcpy(desk.fcb, fcb, sizeof fcb);
         for (size_t i = 0; i < SEVERAL; i++)
-            sink += side->call(job_function, 0, desk.drive, sizeof desk.drive, work.volume, work.bytes, desk.fcb, sizeof desk.fcb,
+            sink += side->call(job_function, 0, desk.drive, drive_bytes(&work), work.volume, work.bytes, desk.fcb, sizeof desk.fcb,
                                desk.pieces + i * RECORD, RECORD);
     }
 }
@@ -115,19 +115,20 @@ void start_at_nothing(const struct side *side)
     memcpy(desk.fcb + 1, "BAND9999TXT", NAME);
 }
 
-static uint8_t drive_before[64], entry_before[ENTRY];
+static uint8_t drive_before[sizeof desk.drive], entry_before[ENTRY];
 
 void start_taking(const struct side *side)
 {
-    work = full;
-    uint8_t *map = last_entry() + MAP, first = map[0];
-    memset(map, 0, PLACES);
+    copy_shelf(&work, &full);
+    uint32_t first = number_at(&work, last_entry(), 0), places = places_of(&work);
+    uint32_t place = taking->place < places ? taking->place : places - 1;
+    memset(last_entry() + MAP, 0, MAP_BYTES);
     for (uint32_t slot = 0; taking->alone && slot < work.slots; slot++)
-        memset(work.volume + (size_t)slot * ENTRY + MAP, 0, PLACES);
-    if (taking->lower < taking->place)
-        map[taking->lower] = taking->highest ? (uint8_t)(work.total - 1) : first;
+        memset(work.volume + (size_t)slot * ENTRY + MAP, 0, MAP_BYTES);
+    if (taking->lower < place)
+        lay_number(&work, last_entry(), taking->lower, taking->highest ? work.total - 1 : first);
     log_in_work(side);
-    at_record((last_extent() / (work.block / 1024) * PLACES + taking->place) * (work.block / RECORD));
+    at_record((last_extent() / extents_of(&work) * places + place) * (work.block / RECORD));
     memcpy(drive_before, desk.drive, sizeof desk.drive);
     memcpy(entry_before, last_entry(), ENTRY);
 }
@@ -138,7 +139,7 @@ void taking_job(const struct side *side, unsigned times)
     while (times-- > 0) {
         memcpy(desk.drive, drive_before, sizeof desk.drive);
         memcpy(last_entry(), entry_before, ENTRY);
-        sink += side->call(34, 0, desk.drive, sizeof desk.drive, work.volume, work.bytes, desk.fcb, sizeof desk.fcb,
+        sink += side->call(34, 0, desk.drive, drive_bytes(&work), work.volume, work.bytes, desk.fcb, sizeof desk.fcb,
                            desk.buffer, sizeof desk.buffer);
     }
 }
@@ -154,7 +155,7 @@ void start_at_last_file(const struct side *side)
 // A file that isn't there, on a directory whose last slot alone is empty.
 void start_at_new_file(const struct side *side)
 {
-    work = full;
+    copy_shelf(&work, &full);
     fill_directory(&work);
     memset(last_entry(), 0xE5, ENTRY);
     log_in_work(side);

@@ -25,7 +25,7 @@ void call_job(const struct side *side, unsigned times);
 void sixteen_job(const struct side *side, unsigned times);
 void singles_job(const struct side *side, unsigned times);
 
-// A write that takes a block: for this place of the last entry, whose map has nothing else but, in a lower place (none where it
+// A write that takes a block: for this place of the last entry, or for its last one if it has not so many, whose map has nothing else but, in a lower place (none where it
 // is the same), the block that it began with or the highest of the disk, which has no free one above it; on the nearly full
 // disk, or where no other entry has a block.
 struct taking {

@@ -25,12 +25,12 @@ static uint64_t mix(uint64_t sum, const uint8_t *bytes, size_t n)
 static uint32_t ask(struct pass *p, uint8_t function)
 {
     struct desk *d = p->desk;
-    uint32_t answer = p->side->call(function, 0, d->drive, sizeof d->drive, p->shelf->volume, p->shelf->bytes, d->fcb,
+    uint32_t answer = p->side->call(function, 0, d->drive, drive_bytes(p->shelf), p->shelf->volume, p->shelf->bytes, d->fcb,
                                     sizeof d->fcb, d->buffer, sizeof d->buffer);
     p->calls++;
     p->sum += answer;
     if (p->check) {
-        p->sum = mix(p->sum, d->drive, sizeof d->drive);
+        p->sum = mix(p->sum, d->drive, drive_bytes(p->shelf));
         p->sum = mix(p->sum, d->fcb, sizeof d->fcb);
         p->sum = mix(p->sum, d->buffer, sizeof d->buffer);
     }

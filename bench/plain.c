@@ -1,11 +1,14 @@
 // The file calls in plain C, written from the paper as one would write them without proofs: what bench/run measures the
-// proved ones beside. The drive is the same 64 bytes, the tests stand in the same order, and every byte must come out equal.
+// proved ones beside. The drive is the same bytes, the tests stand in the same order, and every byte must come out equal.
 #include "plain.h"
 
 #include <stdbool.h>
 #include <string.h>
 
-enum { DRIVE = 64, FCB = 36, RECORD = 128, ENTRY = 32, NAME = 11, PLACES = 16, EMPTY = 0xE5, ANY = 0x3F };
+enum { FCB = 36, RECORD = 128, ENTRY = 32, NAME = 11, MAP_BYTES = 16, EMPTY = 0xE5, ANY = 0x3F };
+
+// The most blocks whose numbers take one byte, and bytes of a drive and of its held bits up to so many blocks and above.
+enum { NARROW = 256, DRIVE = 64, WIDE_DRIVE = 544, HELD = 32, WIDE_HELD = 512 };
 
 // Bytes of an entry, and from 9 to 16 of a control block.
 enum { USER = 0, T1 = 9, T2 = 10, EX = 12, S1 = 13, S2 = 14, RC = 15, MAP = 16 };
@@ -51,6 +54,8 @@ struct geometry {
     uint32_t slots;
     unsigned record_shift; // a block has 1 << record_shift records
     unsigned extent_shift; // an entry has 1 << extent_shift extents
+    bool wide;             // block numbers take two bytes
+    uint32_t places;       // block numbers of an entry
 };
 
 // What a call works on: the drive's bytes taken apart, and what is lent.
@@ -64,15 +69,18 @@ struct work {
 
 static bool set_geometry(struct geometry *g, uint32_t block, uint32_t total, uint32_t directory)
 {
+    uint32_t most;
     switch (block) {
-    case 1024: g->extent_shift = 0; break;
-    case 2048: g->extent_shift = 1; break;
-    case 4096: g->extent_shift = 2; break;
+    case 1024: g->record_shift = 3; most = 256; break;
+    case 2048: g->record_shift = 4; most = 4096; break;
+    case 4096: g->record_shift = 5; most = 2048; break;
     default: return false;
     }
-    if (total < 2 || total > 256 || directory < 1 || directory > 16 || directory >= total)
+    if (total < 2 || total > most || directory < 1 || directory > 16 || directory >= total)
         return false;
-    g->record_shift = g->extent_shift + 3;
+    g->wide = total > NARROW;
+    g->places = g->wide ? MAP_BYTES / 2 : MAP_BYTES;
+    g->extent_shift = g->record_shift - (g->wide ? 4 : 3);
     g->block = block;
     g->total = total;
     g->directory = directory;
@@ -169,6 +177,21 @@ static size_t record_at(const struct geometry *g, uint32_t block, uint32_t n)
     return (size_t)block * g->block + (n & ((1u << g->record_shift) - 1)) * RECORD;
 }
 
+static uint32_t block_in(const struct geometry *g, const uint8_t *e, uint32_t place)
+{
+    return g->wide ? word16(e + MAP + 2 * place) : e[MAP + place];
+}
+
+static void set_block(const struct geometry *g, uint8_t *e, uint32_t place, uint32_t block)
+{
+    if (g->wide) {
+        e[MAP + 2 * place] = (uint8_t)block;
+        e[MAP + 2 * place + 1] = (uint8_t)(block >> 8);
+    } else {
+        e[MAP + place] = (uint8_t)block;
+    }
+}
+
 static bool inside(const struct geometry *g, uint32_t block)
 {
     return block >= g->directory && block < g->total;
@@ -225,7 +248,9 @@ static bool all_zero(const uint8_t *p, size_t n)
 // Takes the drive's bytes apart; false where they count as closed.
 static bool take_drive(struct work *w, uint8_t *drive, size_t bytes)
 {
-    if (bytes != DRIVE || !set_geometry(&w->g, word16(drive), word16(drive + 2), word16(drive + 4)))
+    if (bytes != DRIVE && bytes != WIDE_DRIVE)
+        return false;
+    if (!set_geometry(&w->g, word16(drive), word16(drive + 2), word16(drive + 4)) || bytes != (w->g.wide ? WIDE_DRIVE : DRIVE))
         return false;
     if (drive[D_USER] > 15 || drive[D_PROTECTED] > 1 || drive[D_SEARCH] > 2 || !all_zero(drive + D_ZERO, 8))
         return false;
@@ -274,7 +299,7 @@ static uint32_t free_block(const struct work *w, const uint8_t *e, uint32_t plac
 {
     uint32_t near = 0;
     while (e != NULL && near == 0 && place > 0)
-        near = e[MAP + --place];
+        near = block_in(&w->g, e, --place);
     if (inside(&w->g, near)) {
         uint32_t above = free_from(w, near + 1);
         if (above < w->g.total)
@@ -321,8 +346,8 @@ static bool good_entry(const uint8_t *e)
 // Takes the entry's blocks into the held ones; false where one is outside or held already.
 static bool hold_map(const struct geometry *g, const uint8_t *e, uint8_t *bits)
 {
-    for (int p = 0; p < PLACES; p++) {
-        uint32_t b = e[MAP + p];
+    for (uint32_t p = 0; p < g->places; p++) {
+        uint32_t b = block_in(g, e, p);
         if (b == 0)
             continue;
         if (!inside(g, b) || held(bits, b))
@@ -351,14 +376,15 @@ uint32_t plain_log_in(uint32_t block_bytes, uint32_t blocks, uint32_t directory_
                       size_t volume_bytes, uint8_t *drive, size_t drive_bytes)
 {
     struct geometry g;
-    uint8_t bits[32] = {0};
-    if (drive_bytes != DRIVE)
+    if (drive_bytes != (blocks > NARROW ? WIDE_DRIVE : DRIVE))
         return CLOSED;
-    memset(drive, 0, DRIVE);
+    memset(drive, 0, drive_bytes);
     if (!set_geometry(&g, block_bytes, blocks, directory_blocks))
         return CLOSED;
     if (volume_bytes != (size_t)blocks * block_bytes)
         return VOLUME_LENGTH;
+    uint8_t bits[WIDE_HELD];
+    memset(bits, 0, g.wide ? WIDE_HELD : HELD);
     uint32_t bad = inspect(&g, volume, bits);
     if (bad < g.slots)
         return BAD_SLOT | bad << 16;
@@ -370,7 +396,7 @@ uint32_t plain_log_in(uint32_t block_bytes, uint32_t blocks, uint32_t directory_
     drive[2] = (uint8_t)blocks;
     drive[3] = (uint8_t)(blocks >> 8);
     drive[4] = (uint8_t)directory_blocks;
-    memcpy(drive + D_HELD, bits, sizeof bits);
+    memcpy(drive + D_HELD, bits, g.wide ? WIDE_HELD : HELD);
     return free << 16;
 }
 
@@ -437,7 +463,7 @@ static void set_to(uint8_t *fcb, const uint8_t *e, uint32_t n, bool sequential)
     fcb[EX] = n / 128 % 32;
     fcb[S2] = (uint8_t)(n / 128 / 32);
     fcb[RC] = count_of(e, n / 128);
-    memcpy(fcb + MAP, e + MAP, PLACES);
+    memcpy(fcb + MAP, e + MAP, MAP_BYTES);
     fcb[CR] = (uint8_t)(n % 128 + sequential);
 }
 
@@ -458,7 +484,7 @@ static uint32_t open_file(const struct work *w)
     w->fcb[S1] = 0;
     w->fcb[S2] = 0;
     w->fcb[RC] = count_of(e, w->fcb[EX]);
-    memcpy(w->fcb + MAP, e + MAP, PLACES);
+    memcpy(w->fcb + MAP, e + MAP, MAP_BYTES);
     return slot % 4;
 }
 
@@ -531,9 +557,9 @@ static uint32_t delete_files(const struct work *w)
             return READ_ONLY;
     for (slot = first; slot < w->g.slots; slot = find_match(w, slot + 1, w->user, w->fcb + 1, ANY)) {
         uint8_t *e = slot_at(w, slot);
-        for (int p = 0; p < PLACES; p++)
-            if (inside(&w->g, e[MAP + p]))
-                release(w->drive + D_HELD, e[MAP + p]);
+        for (uint32_t p = 0; p < w->g.places; p++)
+            if (inside(&w->g, block_in(&w->g, e, p)))
+                release(w->drive + D_HELD, block_in(&w->g, e, p));
         e[USER] = EMPTY;
     }
     return 0;
@@ -639,7 +665,7 @@ static uint32_t read_record(const struct work *w, bool sequential)
         return sequential ? ABSENT : NO_GROUP;
     }
     const uint8_t *e = slot_at(w, slot);
-    uint32_t block = e[MAP + place_of(&w->g, n)];
+    uint32_t block = block_in(&w->g, e, place_of(&w->g, n));
     if (n % 128 >= count_of(e, n / 128) || block == 0)
         return ABSENT;
     if (!inside(&w->g, block))
@@ -688,7 +714,7 @@ static uint32_t write_record(const struct work *w, bool sequential, bool fills)
     }
     if (first == NULL)
         return NO_FILE;
-    uint32_t place = place_of(&w->g, n), block = own != NULL ? own[MAP + place] : 0;
+    uint32_t place = place_of(&w->g, n), block = own != NULL ? block_in(&w->g, own, place) : 0;
     bool fresh = block == 0;
     if (!fresh && !inside(&w->g, block))
         return OUTSIDE;
@@ -706,7 +732,7 @@ static uint32_t write_record(const struct work *w, bool sequential, bool fills)
     }
     grow(own, n);
     if (fresh) {
-        own[MAP + place] = (uint8_t)block;
+        set_block(&w->g, own, place, block);
         hold(w->drive + D_HELD, block);
     }
     set_to(w->fcb, own, n, sequential);

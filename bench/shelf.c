@@ -1,10 +1,49 @@
 // The volume that the benchmark works on, laid out by the paper's entry format.
 #include "shelf.h"
 
+#include <stddef.h>
 #include <stdio.h>
 #include <string.h>
 
-enum { TOTAL = 256, SPARE = 6 };
+enum { SPARE = 6 };
+
+// Bytes of a block number.
+static uint32_t width_of(const struct shelf *s)
+{
+    return s->total > 256 ? 2 : 1;
+}
+
+uint32_t places_of(const struct shelf *s)
+{
+    return MAP_BYTES / width_of(s);
+}
+
+uint32_t extents_of(const struct shelf *s)
+{
+    return s->block / (1024 * width_of(s));
+}
+
+uint32_t number_at(const struct shelf *s, const uint8_t *entry, uint32_t place)
+{
+    const uint8_t *at = entry + MAP + width_of(s) * place;
+    return width_of(s) == 1 ? at[0] : at[0] + 256u * at[1];
+}
+
+void lay_number(const struct shelf *s, uint8_t *entry, uint32_t place, uint32_t block)
+{
+    for (uint32_t k = 0; k < width_of(s); k++)
+        entry[MAP + width_of(s) * place + k] = (uint8_t)(block >> 8 * k);
+}
+
+size_t drive_bytes(const struct shelf *s)
+{
+    return s->total > 256 ? 544 : 64;
+}
+
+void copy_shelf(struct shelf *to, const struct shelf *from)
+{
+    memcpy(to, from, offsetof(struct shelf, volume) + from->bytes);
+}
 
 static void lay_name(uint8_t *to, const char *stem, unsigned number, const char *type)
 {
@@ -31,7 +70,7 @@ static void other_entry(uint8_t *e, uint32_t slot)
 // Group k of a worked file that has so many records from block `first` on.
 static void worked_entry(const struct shelf *s, uint8_t *e, unsigned file, uint32_t k, uint32_t first, uint32_t records)
 {
-    uint32_t in_block = s->block / RECORD, in_entry = PLACES * in_block;
+    uint32_t in_block = s->block / RECORD, in_entry = places_of(s) * in_block;
     uint32_t end = records < (k + 1) * in_entry ? records : (k + 1) * in_entry;
     uint32_t extent = (end - 1) / 128;
     memset(e, 0, ENTRY);
@@ -40,7 +79,7 @@ static void worked_entry(const struct shelf *s, uint8_t *e, unsigned file, uint3
     e[14] = (uint8_t)(extent / 32);
     e[15] = (uint8_t)((end - 1) % 128 + 1);
     for (uint32_t n = k * in_entry; n < end; n += in_block)
-        e[MAP + (n - k * in_entry) / in_block] = (uint8_t)(first + n / in_block);
+        lay_number(s, e, (n - k * in_entry) / in_block, first + n / in_block);
 }
 
 static void fill_data(struct shelf *s)
@@ -52,21 +91,21 @@ static void fill_data(struct shelf *s)
     }
 }
 
-void fill_shelf(struct shelf *s, uint32_t block, uint32_t directory)
+void fill_shelf(struct shelf *s, uint32_t block, uint32_t total, uint32_t directory)
 {
     s->block = block;
-    s->total = TOTAL;
+    s->total = total;
     s->directory = directory;
     s->slots = directory * block / ENTRY;
-    s->bytes = (size_t)TOTAL * block;
+    s->bytes = (size_t)total * block;
     for (uint32_t slot = 0; slot < s->slots; slot++) {
         if (slot % 64 == 63 || slot == s->slots / 2 + 1)
             memset(s->volume + (size_t)slot * ENTRY, 0xE5, ENTRY);
         else
             other_entry(s->volume + (size_t)slot * ENTRY, slot);
     }
-    uint32_t blocks = (TOTAL - directory - SPARE) / FILES;
-    uint32_t groups = (blocks + PLACES - 1) / PLACES, entries = FILES * groups;
+    uint32_t blocks = (total - directory - SPARE) / FILES;
+    uint32_t groups = (blocks + places_of(s) - 1) / places_of(s), entries = FILES * groups;
     for (uint32_t i = 0; i < entries; i++) {
         uint32_t slot = i * (s->slots - 1) / (entries - 1), file = i % FILES;
         worked_entry(s, s->volume + (size_t)slot * ENTRY, file + 1, i / FILES, directory + file * blocks,

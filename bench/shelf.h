@@ -5,7 +5,7 @@
 #include <stddef.h>
 #include <stdint.h>
 
-enum { FILES = 8, RECORD = 128, SEVERAL = 16, ENTRY = 32, NAME = 11, MAP = 16, PLACES = 16, VOLUME_MOST = 256 * 4096 };
+enum { FILES = 8, RECORD = 128, SEVERAL = 16, ENTRY = 32, NAME = 11, MAP = 16, MAP_BYTES = 16, VOLUME_MOST = 8 * 1024 * 1024 };
 
 // The proved calls, or those in plain C.
 struct side {
@@ -13,7 +13,7 @@ struct side {
     uint32_t (*call)(uint8_t, uint8_t, uint8_t *, size_t, uint8_t *, size_t, uint8_t *, size_t, uint8_t *, size_t);
 };
 
-// A nearly full volume of 256 blocks: user 0 works on eight files, BAND0001.TXT and so on, which have nearly all blocks and
+// A nearly full volume: user 0 works on eight files, BAND0001.TXT and so on, which have nearly all blocks and
 // whose entries are spread from the first slot to the last; one slot in 64 is empty; the other slots have entries without
 // blocks, half of them of user 0.
 struct shelf {
@@ -22,7 +22,16 @@ struct shelf {
     uint8_t volume[VOLUME_MOST];
 };
 
-void fill_shelf(struct shelf *s, uint32_t block, uint32_t directory);
+void fill_shelf(struct shelf *s, uint32_t block, uint32_t total, uint32_t directory);
+
+// The volume as it is, without what lies behind it.
+void copy_shelf(struct shelf *to, const struct shelf *from);
+
+// Block numbers of an entry, extents of an entry, and a number laid into a map: a byte each, two bytes above 256 blocks.
+uint32_t places_of(const struct shelf *s);
+uint32_t extents_of(const struct shelf *s);
+uint32_t number_at(const struct shelf *s, const uint8_t *entry, uint32_t place);
+void lay_number(const struct shelf *s, uint8_t *entry, uint32_t place, uint32_t block);
 
 // No empty slot is left.
 void fill_directory(struct shelf *s);
@@ -32,7 +41,10 @@ void band_name(uint8_t *name, unsigned file);
 
 // What a side is lent beside the volume; `pieces` is the buffer of a call of several records.
 struct desk {
-    uint8_t drive[64], fcb[36], buffer[RECORD], pieces[SEVERAL * RECORD];
+    uint8_t drive[544], fcb[36], buffer[RECORD], pieces[SEVERAL * RECORD];
 };
+
+// How many bytes of the drive are lent for this volume.
+size_t drive_bytes(const struct shelf *s);
 
 #endif

@@ -10,9 +10,10 @@
 
 enum { DRIVES = 2, MEMORY_BYTES = 1 << 20, WILDCARD = '?' };
 
-/* A disk in its drive: the state from call to call (64 zero bytes to begin with), and the image. */
+/* A disk in its drive: the state from call to call, as long as its number of blocks asks for (zeros to begin with), and the image. */
 struct disk {
-    uint8_t drive[CHURAWEL_DRIVE_BYTES];
+    uint8_t drive[CHURAWEL_WIDE_DRIVE_BYTES];
+    size_t drive_bytes;
     uint8_t *image;
     size_t image_bytes;
     int changed; /* the image is to be written back */
@@ -47,6 +48,16 @@ static void store(struct machine *m, uint16_t base, uint16_t offset, const uint8
         *at(m, base, (uint16_t)(offset + i)) = from[i];
 }
 
+/* Puts an image into a drive: log-in's answer. */
+static uint32_t put_in(
+    struct disk *d, uint8_t *image, size_t image_bytes, uint32_t block_bytes, uint32_t blocks, uint32_t directory_blocks)
+{
+    d->image = image;
+    d->image_bytes = image_bytes;
+    d->drive_bytes = churawel_drive_bytes(blocks);
+    return churawel_log_in(block_bytes, blocks, directory_blocks, image, image_bytes, d->drive, d->drive_bytes);
+}
+
 static int is_several(uint8_t function)
 {
     return function == CHURAWEL_FN_READ_SEVERAL || function == CHURAWEL_FN_WRITE_SEVERAL;
@@ -61,7 +72,7 @@ static uint32_t call_disk(struct machine *m, struct disk *d, uint8_t function, u
 
     load(m, m->dma_base, m->dma_offset, buffer, bytes);
     uint32_t answer = churawel_call(
-        function, parameter, d->drive, sizeof d->drive, d->image, d->image_bytes, fcb, CHURAWEL_FCB_BYTES, buffer, bytes);
+        function, parameter, d->drive, d->drive_bytes, d->image, d->image_bytes, fcb, CHURAWEL_FCB_BYTES, buffer, bytes);
     switch (function) {
     case CHURAWEL_FN_SEARCH_FIRST:
     case CHURAWEL_FN_SEARCH_NEXT:

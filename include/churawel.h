@@ -19,10 +19,11 @@ extern "C" {
 #endif
 
 /*
- * The lengths that calls want: of a drive, of a control block, of the transfer buffer (k times as long for k records, at most
- * so many), of a fault, and of a file's line.
+ * The lengths that calls want: of a drive up to 256 blocks, of a drive above, of a control block, of the transfer buffer (k times
+ * as long for k records, at most so many), of a fault, and of a file's line.
  */
 #define CHURAWEL_DRIVE_BYTES 64
+#define CHURAWEL_WIDE_DRIVE_BYTES 544
 #define CHURAWEL_FCB_BYTES 36
 #define CHURAWEL_BUFFER_BYTES 128
 #define CHURAWEL_RECORDS_MOST 16
@@ -92,10 +93,17 @@ enum {
     CHURAWEL_REFUSED_NO_BLOCK = 2           /* writes: a block is needed and none is free */
 };
 
+/* The length of a drive for T blocks: 64 bytes up to 256 of them, 544 above. */
+static inline size_t churawel_drive_bytes(uint32_t blocks)
+{
+    return blocks > 256 ? CHURAWEL_WIDE_DRIVE_BYTES : CHURAWEL_DRIVE_BYTES;
+}
+
 /*
- * Logs a volume in: B bytes a block (1,024, 2,048 or 4,096), T blocks, the first D of them directory. Accepted: 0, with
- * the number of free blocks as the value, and the drive's 64 bytes are the state that calls take. Refused (32, 33, 36):
- * the drive becomes 64 zero bytes, which count as closed. A drive of another length: 32, and nothing changes.
+ * Logs a volume in: B bytes a block, T blocks, the first D of them directory. B is 1,024, 2,048 or 4,096 and T is 2 to 256; or B
+ * is 2,048 or 4,096 and T is 257 to 4,096, at most 8 MiB in all; D is 1 to 16 and below T. Accepted: 0, with the number of free
+ * blocks as the value, and the drive's bytes are the state that calls take. Refused (32, 33, 36): the drive becomes zeros, which
+ * count as closed. A drive that has not the length for this T, whatever T is: 32, and nothing changes.
  */
 uint32_t churawel_log_in(
     uint32_t block_bytes, uint32_t blocks, uint32_t directory_blocks,
@@ -104,8 +112,8 @@ uint32_t churawel_log_in(
 
 /*
  * Does one call. What the function does not use of volume, control block and buffer is neither read nor changed, and may
- * have any length. A drive that is not 64 bytes, or whose bytes are no open state: 32, and nothing changes. A refusal
- * changes nothing, but a refused log-in (13, 37) leaves 64 zero bytes.
+ * have any length. A drive that has not the length for its T, or whose bytes are no open state: 32, and nothing changes. A
+ * refusal changes nothing, but a refused log-in (13, 37) leaves zeros, as many as before.
  */
 uint32_t churawel_call(
     uint8_t function, uint8_t parameter,
@@ -119,8 +127,8 @@ uint32_t churawel_call(
  * closed halfway. A changing call (19, 21, 22, 23, 30, 34, 40, 221) stores whole records of 128 bytes, data records first and
  * then directory records in rising order, 221 as its single writes one after another; any other function stores nothing. The
  * number is the call's refusal, 0 where it is not refused (also where 221 stops after its first record), and the value is how
- * many stores were made. The machine is gone: the drive becomes 64 zero bytes, after a refusal too, and control block and
- * buffer stay as they are. A drive of another length: 32, and nothing changes.
+ * many stores were made. The machine is gone: the drive becomes zeros, after a refusal too, and control block and buffer stay as
+ * they are. A drive that has not the length for its T: 32, and nothing changes.
  */
 uint32_t churawel_cut(
     uint32_t most, uint8_t function, uint8_t parameter,

@@ -20,7 +20,8 @@ struct disk *read_disk(const struct options *options, const char *path, bool to_
 
 uint32_t log_in(const struct geometry *g, struct bytes volume, uint8_t *drive)
 {
-    return churawel_log_in(g->block_bytes, g->blocks, g->directory_blocks, volume.at, volume.count, drive, CHURAWEL_DRIVE_BYTES);
+    return churawel_log_in(g->block_bytes, g->blocks, g->directory_blocks, volume.at, volume.count, drive,
+                           churawel_drive_bytes(g->blocks));
 }
 
 struct disk *open_disk(const struct options *options, const char *path, bool to_change)
@@ -58,8 +59,8 @@ uint32_t number_at(const uint8_t *bytes, int count)
 bool next_file(const struct disk *disk, uint32_t *slot, struct listed *file)
 {
     uint8_t line[CHURAWEL_FILE_BYTES];
-    uint32_t answer = churawel_file(disk->drive, sizeof disk->drive, disk->volume.at, disk->volume.count, *slot, line,
-                                    sizeof line);
+    uint32_t answer = churawel_file(disk->drive, churawel_drive_bytes(disk->geometry.blocks), disk->volume.at,
+                                    disk->volume.count, *slot, line, sizeof line);
     if (CHURAWEL_NUMBER(answer) == CHURAWEL_REFUSED_NO_MATCH)
         return false;
     if (CHURAWEL_NUMBER(answer) != 0)
@@ -87,8 +88,8 @@ bool find_file(const struct disk *disk, const struct name *pattern, struct liste
 
 static uint32_t call_with(struct disk *disk, uint8_t function, uint8_t parameter)
 {
-    return churawel_call(function, parameter, disk->drive, sizeof disk->drive, disk->volume.at, disk->volume.count, disk->fcb,
-                         sizeof disk->fcb, disk->buffer, sizeof disk->buffer);
+    return churawel_call(function, parameter, disk->drive, churawel_drive_bytes(disk->geometry.blocks), disk->volume.at,
+                         disk->volume.count, disk->fcb, sizeof disk->fcb, disk->buffer, sizeof disk->buffer);
 }
 
 void aim(struct disk *disk, const struct name *name)

@@ -112,7 +112,9 @@ const char *inspect(struct disk *disk)
         struct fault fault = fault_of(bytes);
         return in_words(&fault, g);
     }
-    snprintf(said, sizeof said, "%s (%u): %lld bytes, %u,%u,%u", words_of(number), number,
-             (long long)disk->original.state.st_size, g->block_bytes, g->blocks, g->directory_blocks);
+    bool unlawful = number == CHURAWEL_REFUSED_CLOSED;
+    snprintf(said, sizeof said, "%s (%u): %lld bytes, %u,%u,%u%s%s", words_of(number), number,
+             (long long)disk->original.state.st_size, g->block_bytes, g->blocks, g->directory_blocks, unlawful ? "; " : "",
+             unlawful ? LAWFUL : "");
     return said;
 }

@@ -75,16 +75,17 @@ void put(const struct options *options, char **operands, int count)
 // Log-in itself says whether there is such a geometry: 33, as no byte is lent, where there is.
 static void allow_geometry(const struct geometry *geometry, const char *about)
 {
-    uint8_t none = 0, drive[CHURAWEL_DRIVE_BYTES];
+    uint8_t none = 0, drive[CHURAWEL_WIDE_DRIVE_BYTES];
     uint32_t number = CHURAWEL_NUMBER(log_in(geometry, (struct bytes){&none, 0}, drive));
     if (number != CHURAWEL_REFUSED_VOLUME_LENGTH)
-        refuse_by(about, number, "");
+        refuse("%s: %s (%u): %u,%u,%u; %s", about, words_of(number), number, geometry->block_bytes, geometry->blocks,
+               geometry->directory_blocks, LAWFUL);
 }
 
 void new_image(const struct options *options, char **operands, int count)
 {
     (void)count;
-    uint8_t drive[CHURAWEL_DRIVE_BYTES];
+    uint8_t drive[CHURAWEL_WIDE_DRIVE_BYTES];
     struct geometry geometry = geometry_of_new(options->geometry);
     allow_geometry(&geometry, operands[0]);
     size_t volume_bytes = (size_t)geometry.block_bytes * geometry.blocks;

@@ -16,7 +16,7 @@ enum { RECORD_BYTES = 128, NAME_BYTES = 11, RECORDS_MOST = 65536, END_OF_TEXT = 
 enum { DONE = 0, REFUSED = 1, WRONG_USE = 2 };
 
 // The most bytes that a volume and a file have, and the most slots of a directory.
-enum { VOLUME_MOST = 256 * 4096, FILE_MOST = RECORDS_MOST * RECORD_BYTES, SLOTS_MOST = 2048 };
+enum { VOLUME_MOST = 8 * 1024 * 1024, FILE_MOST = RECORDS_MOST * RECORD_BYTES, SLOTS_MOST = 2048 };
 
 struct bytes {
     uint8_t *at;
@@ -30,6 +30,8 @@ _Noreturn void refuse(const char *format, ...) __attribute__((format(printf, 1, 
 _Noreturn void wrong_use(const char *format, ...) __attribute__((format(printf, 1, 2)));
 // The sentence of a number of refusal.
 const char *words_of(uint32_t number);
+// Which geometries there are.
+extern const char LAWFUL[];
 // Refuses by a number of the seam: what it was about, its sentence, the number, and what may help.
 _Noreturn void refuse_by(const char *about, uint32_t number, const char *further);
 // How an option is spelled, by its letter; nothing for another letter.
@@ -103,7 +105,7 @@ struct disk {
     struct bytes volume;
     uint32_t free_blocks;
     struct name aimed;
-    uint8_t drive[CHURAWEL_DRIVE_BYTES];
+    uint8_t drive[CHURAWEL_WIDE_DRIVE_BYTES]; // as many of them as its geometry asks for
     uint8_t fcb[CHURAWEL_FCB_BYTES];
     uint8_t buffer[CHURAWEL_BUFFER_BYTES];
 };
@@ -117,7 +119,7 @@ struct listed {
 };
 
 struct options;
-// Logs a volume in: the seam's answer, and the drive.
+// Logs a volume in: the seam's answer, and the drive, which has room for the longest.
 uint32_t log_in(const struct geometry *geometry, struct bytes volume, uint8_t *drive);
 // Reads an image and its geometry, without log-in.
 struct disk *read_disk(const struct options *options, const char *path, bool to_change);

@@ -35,6 +35,11 @@ static const struct {
     {CHURAWEL_REFUSED_NO_BLOCK, "the disk is full"},
 };
 
+#define LAWFUL_WORDS \
+    "B is 1024, 2048 or 4096 and T 2 to 256, or B is 2048 or 4096 and T 257 to 4096, at most 8388608 bytes in all; D is 1 to 16, below T"
+
+const char LAWFUL[] = LAWFUL_WORDS;
+
 const char *words_of(uint32_t number)
 {
     for (size_t k = 0; k < sizeof WORDS / sizeof *WORDS; k++)
@@ -121,6 +126,7 @@ static const char GENERAL[] =
     "\n"
     "The geometry is said by -g, or else by CHURAWEL_GEOMETRY in the environment. Without both an image of 40960 bytes is\n"
     "1024,40,1.\n"
+    LAWFUL_WORDS ".\n"
     "\n"
     "An image is changed as a whole or not at all. Exit status: 0 done, 1 refused, 2 wrong use.\n";
 

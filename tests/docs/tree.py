@@ -6,8 +6,8 @@ from pathlib import Path
 ROOT = Path(__file__).resolve().parents[2]
 CRATES = ROOT / "crates"
 
-# A definition, law or theorem, a field of a record or a case of a data type: a name, and then a colon.
-NAMED = re.compile(r"^\s*(?:(?:abbrev|unfoldable|pub) )*([^\s(){}=:]+) :(?: |$)", re.M)
+# A definition, law or theorem, a field of a record or a case of a data type: a name, and then a colon, which may begin the next line.
+NAMED = re.compile(r"^\s*(?:(?:abbrev|unfoldable|pub) )*([^\s(){}=:]+)(?: |\n +):(?: |$)", re.M)
 KIND = re.compile(r"^(?:pub )?(?:record|data) (\S+)", re.M)
 FUNCTION = re.compile(r'^\s*(?:pub(?:\(crate\))? )?(?:extern "C" )?fn (\w+)', re.M)
 DECLARED = re.compile(r"^\s*(?:pub )?(?:enum|struct|const) (\w+)", re.M)

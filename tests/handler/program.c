@@ -7,10 +7,13 @@
 
 #include <stdio.h>
 
-enum { BLOCK = 1024, BLOCKS = 40, IMAGE_BYTES = BLOCK * BLOCKS, DS = 0x1000, FCB = 0x15C, DMA = 0x180 };
+enum { IMAGE_MOST = 257 * 2048, DS = 0x1000, FCB = 0x15C, DMA = 0x180 };
+
+/* A has the paper's disk, B a hard disk of more than 256 blocks. */
+static const uint32_t block[DRIVES] = {1024, 2048}, blocks[DRIVES] = {40, 257};
 
 static struct machine m;
-static uint8_t images[DRIVES][IMAGE_BYTES];
+static uint8_t images[DRIVES][IMAGE_MOST];
 static int passed, failed;
 
 static void expect(const char *what, long got, long wanted)
@@ -61,12 +64,10 @@ static void put_images_in(void)
     m.dma_base = DS;
     m.dma_offset = DMA;
     for (int i = 0; i < DRIVES; i++) {
-        memset(images[i], 0xE5, IMAGE_BYTES);
-        m.disk[i].image = images[i];
-        m.disk[i].image_bytes = IMAGE_BYTES;
-        uint32_t answer = churawel_log_in(BLOCK, BLOCKS, 1, images[i], IMAGE_BYTES, m.disk[i].drive, CHURAWEL_DRIVE_BYTES);
+        memset(images[i], 0xE5, IMAGE_MOST);
+        uint32_t answer = put_in(&m.disk[i], images[i], (size_t)block[i] * blocks[i], block[i], blocks[i], 1);
         expect("log-in of an empty volume: 0", CHURAWEL_NUMBER(answer), 0);
-        expect("39 blocks are free", CHURAWEL_VALUE(answer), 39);
+        expect("all blocks but the directory's are free", CHURAWEL_VALUE(answer), blocks[i] - 1);
     }
 }
 
@@ -166,6 +167,8 @@ static void protection(void)
     expect("a delete is refused: 255 in AL", int224(19, 0, FCB), 255);
     name(2, "COLLATIOTXT", 0);
     expect("B is not protected", int224(34, 0, FCB), 0);
+    expect("its record 0 stands at 2,048", memcmp(images[1] + 2048, dma(), 128), 0);
+    expect("in block 1, whose number takes two bytes", images[1][16] + 256 * images[1][17], 1);
     expect("log-in ends it", int224(13, 0, 0), 0);
     name(0, "SIGLA   TXT", 0);
     expect("delete: 0", int224(19, 0, FCB), 0);

@@ -62,14 +62,15 @@ static void closed_value(void)
     verdict("64 zero bytes are closed: 32 by every number, nothing changed", closed());
 }
 
+// Up to 128 bytes, and around the length of a drive of more than 256 blocks.
 static void lengths(void)
 {
-    for (size_t bytes = 0; bytes <= 128; bytes++) {
+    for (size_t bytes = 0; bytes <= DRIVE_MOST; bytes = bytes == 128 ? 542 : bytes + 1) {
         char what[100];
         if (bytes == 64)
             continue;
         opened(0);
-        memset(now.drive + 64, 0, 64);
+        memset(now.drive + 64, 0, DRIVE_MOST - 64);
         lent.drive = bytes;
         snprintf(what, sizeof what, "a drive of %zu bytes is closed: 32 by every number, nothing changed", bytes);
         verdict(what, closed());
@@ -120,7 +121,7 @@ static int not_block(unsigned byte)
     return byte != 4 && byte != 8 && byte != 16;
 }
 
-// T from 2 to 255 with a high byte of 0, and D 1.
+// T from 2 to 255 with a high byte of 0, and D 1. A higher one asks for a longer drive.
 static int not_total(unsigned byte)
 {
     return byte < 2;

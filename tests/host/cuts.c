@@ -306,11 +306,11 @@ static void lengths(void)
     two_files();
     block_for(ALPHA);
     as_it_stands();
-    for (lent.drive = 0; lent.drive <= 2 * CHURAWEL_DRIVE_BYTES; lent.drive++)
+    for (lent.drive = 0; lent.drive <= DRIVE_MOST; lent.drive++)
         if (lent.drive != CHURAWEL_DRIVE_BYTES)
             good = cut(0, 19, 0) == 32 && cut(MOST, 19, 0) == 32 && cut(MOST, 99, 0) == 32 && same_bytes() && good;
     lent.drive = CHURAWEL_DRIVE_BYTES;
-    verdict("a drive of another length up to 128 bytes: 32, and nothing changes", good);
+    verdict("a drive of another length up to 640 bytes: 32, and nothing changes", good);
 }
 
 void cut_calls(void)

@@ -13,11 +13,15 @@ struct lengths lent;
 static int passed;
 static int failed;
 
+// How many bytes of a desk count: up to the bytes behind the volume.
+static size_t span;
+
 void fresh(struct geometry g)
 {
-    memset(&now, 0xA5, sizeof now);
-    memset(now.drive, 0, CHURAWEL_DRIVE_BYTES);
-    lent = (struct lengths){CHURAWEL_DRIVE_BYTES, (size_t)g.block * g.total, 36, RECORD};
+    lent = (struct lengths){churawel_drive_bytes(g.total), (size_t)g.block * g.total, 36, RECORD};
+    span = offsetof(struct desk, volume) + lent.volume + GUARD;
+    memset(&now, 0xA5, span);
+    memset(now.drive, 0, lent.drive);
     for (size_t i = 0; i < lent.volume; i++)
         now.volume[i] = i < g.block * g.directory ? 0xE5 : (uint8_t)(i % 251 + i / 1024);
     block_for("NOTHING    ");
@@ -26,7 +30,7 @@ void fresh(struct geometry g)
 
 void as_it_stands(void)
 {
-    want = now;
+    memcpy(&want, &now, span);
 }
 
 // The first byte that differs, by the name of what it belongs to.
@@ -39,9 +43,9 @@ static void say_where(void)
     } parts[] = {
         {"the bytes before the drive", now.guard0, want.guard0, sizeof now.guard0},
         {"the drive", now.drive, want.drive, sizeof now.drive},
-        {"the volume", now.volume, want.volume, sizeof now.volume},
         {"the control block", now.fcb, want.fcb, sizeof now.fcb},
         {"the buffer", now.buffer, want.buffer, sizeof now.buffer},
+        {"the volume", now.volume, want.volume, span - offsetof(struct desk, volume)},
     };
     for (size_t p = 0; p < COUNT(parts); p++)
         for (size_t i = 0; i < parts[p].bytes; i++)
@@ -53,7 +57,7 @@ static void say_where(void)
 
 int same_bytes(void)
 {
-    return memcmp(&now, &want, sizeof now) == 0;
+    return memcmp(&now, &want, span) == 0;
 }
 
 // A case's line up to what is wrong with it.
@@ -134,10 +138,13 @@ void logged_in(const char *what, struct geometry g, uint32_t free_blocks, const 
         want_entry(entries[i]);
     now = want;
     want_geometry(g);
+    size_t width = g.total > 256 ? 2 : 1;
     for (size_t i = 0; i < count; i++)
-        for (size_t place = 0; place < COUNT(entries[i].map); place++)
-            if (entries[i].map[place] != 0)
-                want_held(entries[i].map[place]);
+        for (const uint8_t *at = entries[i].map; at < entries[i].map + COUNT(entries[i].map); at += width) {
+            unsigned block = width == 1 ? at[0] : at[0] + 256u * at[1];
+            if (block != 0)
+                want_held(block);
+        }
     log_in(what, g, 0, free_blocks);
 }
 
@@ -254,7 +261,7 @@ void want_held(unsigned block)
 
 void want_closed(void)
 {
-    memset(want.drive, 0, 64);
+    memset(want.drive, 0, lent.drive);
 }
 
 void want_read(size_t at, struct entry e, uint8_t cr)

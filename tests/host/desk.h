@@ -5,18 +5,18 @@
 #include <stddef.h>
 #include <stdint.h>
 
-enum { GUARD = 64, VOLUME_MOST = 81920, RECORD = 128, PIECES = 16, ENTRY = 32 };
+enum { GUARD = 64, DRIVE_MOST = 640, VOLUME_MOST = 257 * 4096, RECORD = 128, PIECES = 16, ENTRY = 32 };
 
 #define COUNT(list) (sizeof(list) / sizeof *(list))
 
-// What is lent, with bytes behind and between that no call may touch. It holds nothing but bytes, so that two desks can
-// be compared whole.
+// What is lent, with bytes behind and between that no call may touch. It holds nothing but bytes, and the volume stands last,
+// so that two desks can be compared up to the end of their volumes.
 struct desk {
     uint8_t guard0[GUARD];
-    uint8_t drive[128 + GUARD];
-    uint8_t volume[VOLUME_MOST + GUARD];
+    uint8_t drive[DRIVE_MOST + GUARD];
     uint8_t fcb[36 + GUARD];
     uint8_t buffer[PIECES * RECORD + GUARD];
+    uint8_t volume[VOLUME_MOST + GUARD];
 };
 
 // How many bytes of each are lent.
@@ -34,7 +34,8 @@ struct geometry {
 };
 #define V ((struct geometry){1024, 40, 1})
 
-// An entry of the directory. What is not said of one is 0.
+// An entry of the directory. What is not said of one is 0. Where there are more than 256 blocks a number of its map is two bytes,
+// low first: BLOCK(n).
 struct entry {
     size_t slot;
     uint8_t user;
@@ -42,6 +43,7 @@ struct entry {
     uint8_t ex, s2, rc, map[16];
 };
 #define ENTRY_WITH(...) ((struct entry){__VA_ARGS__})
+#define BLOCK(n) (uint8_t)((n) & 255), (uint8_t)((n) >> 8)
 
 // A volume of this geometry with an empty directory and data that differ from byte to byte; nothing is logged in.
 void fresh(struct geometry g);
@@ -134,6 +136,7 @@ void typing(void);
 void why_bad(void);
 void each_line(void);
 void cut_calls(void);
+void hard_disk(void);
 void stack_used(void);
 
 #endif

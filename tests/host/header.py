@@ -15,6 +15,7 @@ SLICES = {"&[u8]": "const uint8_t *", "&mut [u8]": "uint8_t *"}
 # Where a length stands in the source: as a constant, or in the tests that refuse another one.
 LENGTHS = {
     "DRIVE_BYTES": r"\bconst DRIVE_BYTES: usize = (\d+);",
+    "WIDE_DRIVE_BYTES": r"\bconst WIDE_DRIVE_BYTES: usize = (\d+);",
     "FCB_BYTES": r"\bconst FCB_BYTES: usize = (\d+);",
     "BUFFER_BYTES": r"\bconst RECORD_BYTES: usize = (\d+);",
     "RECORDS_MOST": r"Refusal::BadCount, .* <= (\d+)\)",
@@ -218,6 +219,7 @@ WRONG = [
     ("two functions in the other order", r"(?s)(uint32_t \w+_log_in.*?;)(.*)(uint32_t \w+_call.*?;)", r"\3\2\1", FUNCTIONS),
     ("a variable", r"(uint32_t churawel_call\()", r"extern int churawel_calls;\n\1", FUNCTIONS),
     ("a drive of 63 bytes", r"DRIVE_BYTES 64", "DRIVE_BYTES 63", LENGTHS_AGREE),
+    ("a wide drive of 64 words alone", r"WIDE_DRIVE_BYTES 544", "WIDE_DRIVE_BYTES 512", LENGTHS_AGREE),
     ("a control block of 33 bytes", r"FCB_BYTES 36", "FCB_BYTES 33", LENGTHS_AGREE),
     ("a buffer of 127 bytes", r"BUFFER_BYTES 128", "BUFFER_BYTES 127", LENGTHS_AGREE),
     ("a fault of 31 bytes", r"FAULT_BYTES 32", "FAULT_BYTES 31", LENGTHS_AGREE),

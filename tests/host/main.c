@@ -17,6 +17,7 @@ int main(void)
     why_bad();
     each_line();
     cut_calls();
+    hard_disk();
     stack_used();
     return summary() == 0 ? 0 : 1;
 }

@@ -8,37 +8,40 @@
 #include <string.h>
 #include <ucontext.h>
 
-enum { STACK_BYTES = 1 << 20, PROMISED = 16 * 1024, PAINT = 0xA5, B = 4096, T = 256, D = 16, SLOTS = D * B / ENTRY };
+enum { STACK_BYTES = 1 << 20, PROMISED = 16 * 1024, PAINT = 0xA5, B = 4096, D = 16, SLOTS = D * B / ENTRY, T_MOST = 2048 };
 
-static uint8_t stack[STACK_BYTES], volume[T * B], drive[64], fcb[36], buffer[PIECES * RECORD];
+// The largest volume of the narrow kind, and then the largest at all.
+static uint32_t total;
+static size_t volume_bytes, drive_bytes;
+static uint8_t stack[STACK_BYTES], volume[T_MOST * B], drive[CHURAWEL_WIDE_DRIVE_BYTES], fcb[36], buffer[PIECES * RECORD];
 static ucontext_t caller, callee;
 static uint8_t asked, parameter;
 
 static void log_in_there(void)
 {
-    churawel_log_in(B, T, D, volume, sizeof volume, drive, sizeof drive);
+    churawel_log_in(B, total, D, volume, volume_bytes, drive, drive_bytes);
 }
 
 static void call_there(void)
 {
     size_t bytes = asked >= 220 ? sizeof buffer : RECORD;
-    churawel_call(asked, parameter, drive, sizeof drive, volume, sizeof volume, fcb, sizeof fcb, buffer, bytes);
+    churawel_call(asked, parameter, drive, drive_bytes, volume, volume_bytes, fcb, sizeof fcb, buffer, bytes);
 }
 
 static void cut_there(void)
 {
     size_t bytes = asked >= 220 ? sizeof buffer : RECORD;
-    churawel_cut(UINT32_MAX, asked, parameter, drive, sizeof drive, volume, sizeof volume, fcb, sizeof fcb, buffer, bytes);
+    churawel_cut(UINT32_MAX, asked, parameter, drive, drive_bytes, volume, volume_bytes, fcb, sizeof fcb, buffer, bytes);
 }
 
 static void fault_there(void)
 {
-    churawel_fault(B, T, D, volume, sizeof volume, buffer, CHURAWEL_FAULT_BYTES);
+    churawel_fault(B, total, D, volume, volume_bytes, buffer, CHURAWEL_FAULT_BYTES);
 }
 
 static void file_there(void)
 {
-    churawel_file(drive, sizeof drive, volume, sizeof volume, SLOTS - 1, buffer, CHURAWEL_FILE_BYTES);
+    churawel_file(drive, drive_bytes, volume, volume_bytes, SLOTS - 1, buffer, CHURAWEL_FILE_BYTES);
 }
 
 // How many bytes of a painted stack the work uses.
@@ -60,7 +63,7 @@ static size_t used_by(void (*work)(void))
 // A full directory: each slot has a file of its own, the last one a block.
 static void fill_volume(void)
 {
-    memset(volume, 0, sizeof volume);
+    memset(volume, 0, volume_bytes);
     for (unsigned slot = 0; slot < SLOTS; slot++) {
         char name[16];
         snprintf(name, sizeof name, "BAND%04uTXT", slot);
@@ -83,34 +86,37 @@ static void start(void)
     memcpy(fcb + 17, "NEUBANDXTXT", 11);
 }
 
-void stack_used(void)
+// The most that any function uses that is called in this way; the least goes to `least`, if it is less.
+static size_t most_of_each(void (*way)(void), size_t *least)
 {
     static const uint8_t functions[] = {13, 15, 16, 17, 18, 19, 20, 21, 22, 23, 28, 30, 32, 33, 34, 35, 36, 37, 40, 220, 221, 99};
-    char what[96];
+    size_t most = 0;
+    for (size_t i = 0; i < COUNT(functions); i++) {
+        start();
+        asked = functions[i];
+        parameter = asked >= 220 ? PIECES : 0;
+        size_t used = used_by(way);
+        most = used > most ? used : most;
+        *least = used < *least ? used : *least;
+    }
+    return most;
+}
+
+static void used_on(uint32_t blocks)
+{
+    char what[120];
+    total = blocks;
+    volume_bytes = (size_t)B * total;
+    drive_bytes = churawel_drive_bytes(total);
     fill_volume();
     size_t most = used_by(log_in_there);
-    snprintf(what, sizeof what, "log-in uses less stack than is promised: %zu bytes of %d", most, PROMISED);
+    snprintf(what, sizeof what, "log-in of %u blocks uses less stack than is promised: %zu bytes of %d", total, most, PROMISED);
     verdict(what, most < PROMISED);
     size_t least = most;
-    most = 0;
-    for (size_t i = 0; i < COUNT(functions); i++) {
-        start();
-        asked = functions[i];
-        parameter = asked >= 220 ? PIECES : 0;
-        size_t used = used_by(call_there);
-        most = used > most ? used : most;
-        least = used < least ? used : least;
-    }
+    most = most_of_each(call_there, &least);
     snprintf(what, sizeof what, "and so does each function: %zu bytes at most", most);
     verdict(what, most < PROMISED);
-    size_t cut = 0;
-    for (size_t i = 0; i < COUNT(functions); i++) {
-        start();
-        asked = functions[i];
-        parameter = asked >= 220 ? PIECES : 0;
-        size_t used = used_by(cut_there);
-        cut = used > cut ? used : cut;
-    }
+    size_t cut = most_of_each(cut_there, &least);
     snprintf(what, sizeof what, "and so does each function that is cut: %zu bytes at most", cut);
     verdict(what, cut < PROMISED);
     volume[(SLOTS - 1) * ENTRY + 15] = 129;
@@ -120,4 +126,10 @@ void stack_used(void)
     snprintf(what, sizeof what, "and so do a fault, %zu bytes, and a file's line, %zu", told, line);
     verdict(what, told < PROMISED && line < PROMISED);
     verdict("and what is measured is a call's own stack", least > 0 && least < most);
+}
+
+void stack_used(void)
+{
+    used_on(256);
+    used_on(T_MOST);
 }

@@ -16,9 +16,10 @@
 #include <stdlib.h>
 #include <string.h>
 
-enum { RECORD = 128, VOLUME_MOST = 256 * 4096, FILE_MOST = 65536 * RECORD };
+enum { RECORD = 128, VOLUME_MOST = 8 * 1024 * 1024, FILE_MOST = 65536 * RECORD };
 
-static uint8_t drive[CHURAWEL_DRIVE_BYTES];
+static uint8_t drive[CHURAWEL_WIDE_DRIVE_BYTES];
+static size_t drive_bytes;
 static uint8_t volume[VOLUME_MOST];
 static size_t volume_bytes;
 static uint8_t fcb[36];
@@ -57,7 +58,7 @@ static void save(const char *path, const uint8_t *bytes, size_t n)
 
 static uint32_t call(uint8_t function, uint8_t parameter)
 {
-    return churawel_call(function, parameter, drive, sizeof drive, volume, volume_bytes, fcb, sizeof fcb, buffer,
+    return churawel_call(function, parameter, drive, drive_bytes, volume, volume_bytes, fcb, sizeof fcb, buffer,
                          sizeof buffer);
 }
 
@@ -162,8 +163,9 @@ int main(int count, char **words)
     const char *image = words[1], *what = words[5], *name = words[7], *path = words[8];
     uint32_t record = count > 9 ? (uint32_t)atoi(words[9]) : 0;
     volume_bytes = load(image, volume, sizeof volume);
-    uint32_t answer = churawel_log_in((uint32_t)atoi(words[2]), (uint32_t)atoi(words[3]), (uint32_t)atoi(words[4]), volume,
-                                      volume_bytes, drive, sizeof drive);
+    uint32_t block = (uint32_t)atoi(words[2]), total = (uint32_t)atoi(words[3]), directory = (uint32_t)atoi(words[4]);
+    drive_bytes = churawel_drive_bytes(total);
+    uint32_t answer = churawel_log_in(block, total, directory, volume, volume_bytes, drive, drive_bytes);
     if ((answer & 0xFFFF) != 0)
         refused(answer);
     must(32, (uint8_t)atoi(words[6]));

@@ -3,10 +3,10 @@ by chance beside a table of what the files should have in them."""
 import random
 
 from desk import Desk
-from disk import BAD, EMPTY, HEADING, entry, line, name_bytes, volume
+from disk import BAD, EMPTY, HEADING, entry, extents, line, name_bytes, numbers, places, volume
 
 SEED, VOLUMES, RUNS, COMMANDS = 19, 40, 3, 30
-GEOMETRIES = [(1024, 40, 1), (1024, 256, 3), (2048, 100, 1), (4096, 60, 1)]
+GEOMETRIES = [(1024, 40, 1), (1024, 256, 3), (2048, 100, 1), (4096, 60, 1), (2048, 257, 3), (4096, 600, 1)]
 NAMES = ["SIGLA.TXT", "SIGLA", "LEMMATA.DAT", "A.B"]
 EDGES = (0, 1, 15, 16, 31, 32, 0x3F, 0x7F, 0x80, 0x81, 0xE5, 0xFF)
 
@@ -26,7 +26,7 @@ def shown(user, name):
 
 
 def group(e, geometry):
-    return (32 * e[14] + e[12]) // (geometry[0] // 1024)
+    return (32 * e[14] + e[12]) // extents(geometry)
 
 
 def used(slots):
@@ -52,16 +52,17 @@ def shared_fault(slots, i, geometry):
     """the first rule of the map and of lower slots that slot i breaks"""
     _, total, directory = geometry
     e, lower = slots[i], used(slots[:i])
-    blocks = [(p, b) for p, b in enumerate(e[16:]) if b]
+    held = numbers(e, geometry)
+    blocks = [(p, b) for p, b in enumerate(held) if b]
     for p, b in blocks:
         if not directory <= b < total:
             return f"place {p} names block {b}, and files have blocks {directory} to {total - 1}"
     for p, b in blocks:
-        if b in e[16:16 + p]:
+        if b in held[:p]:
             return f"block {b} stands in it twice"
     for p, b in blocks:
         for j, other in lower:
-            if b in other[16:]:
+            if b in numbers(other, geometry):
                 return f"block {b} at place {p} belongs to slot {j} ({shown(other[0], called(other))}) too"
     for j, other in lower:
         if (e[0], called(e), group(e, geometry)) == (other[0], called(other), group(other, geometry)):
@@ -91,7 +92,7 @@ def listed(image, geometry):
     text, held = HEADING, 0
     for (user, name), entries in files.items():
         records = max(128 * (32 * e[14] + e[12]) + e[15] for e in entries)
-        blocks = sum(b != 0 for e in entries for b in e[16:])
+        blocks = sum(b != 0 for e in entries for b in numbers(e, geometry))
         marks = "".join(word for at, word in ((9, " read-only"), (10, " system")) if any(e[at] & 0x80 for e in entries))
         text += line(user, shown(0, name), records, blocks, marks)
         held += blocks
@@ -109,9 +110,9 @@ def some_volume(chance, geometry):
     slots = block * directory // 32
     entries = {}
     for slot in chance.sample(range(slots), chance.choice((0, 1, 3, 6, 10))):
-        places = [blocks.pop() if blocks and chance.random() < 0.2 else 0 for _ in range(16)]
+        held = [blocks.pop() if blocks and chance.random() < 0.2 else 0 for _ in range(places(geometry))]
         laid = bytearray(entry(user=chance.choice((0, 0, 1, 15)), name=chance.choice(NAMES), ex=chance.randrange(32),
-                               s2=chance.choice((0, 0, 15)), rc=chance.choice((0, 1, 127, 128)), blocks=places))
+                               s2=chance.choice((0, 0, 15)), rc=chance.choice((0, 1, 127, 128)), blocks=held, geometry=geometry))
         laid[9] |= chance.choice((0, 0, 0x80))
         laid[10] |= chance.choice((0, 0, 0x80))
         entries[slot] = laid

@@ -1,8 +1,9 @@
 """Every command on every block size: what it prints, what it leaves on the disk, what fills the disk, and names."""
 from desk import Desk
-from disk import EMPTY, HEADING, entries_of, entry, file_on, line, volume
+from disk import EMPTY, HEADING, entries_of, entry, file_on, line, numbers, places, volume
 
-GEOMETRIES = [(1024, 40, 1), (1024, 256, 16), (2048, 160, 2), (4096, 256, 2)]
+GEOMETRIES = [(1024, 40, 1), (1024, 256, 16), (2048, 160, 2), (4096, 256, 2), (2048, 300, 1), (4096, 257, 2)]
+LARGEST = [(2048, 4096, 16), (4096, 2048, 16)]
 
 
 def text_of(count, word="line"):
@@ -144,7 +145,7 @@ def full_directories(desk, geometry):
     slots = geometry[0] * geometry[2] // 32
     used = {k: entry(user=k % 16, name=f"E{k}") for k in range(slots - 1)}
     desk.write("B.IMG", volume(geometry, used))
-    desk.write("two", bytes(16 * geometry[0] + 1))
+    desk.write("two", bytes(places(geometry) * geometry[0] + 1))
     desk.refused("put that needs two slots where one is left", "put", "B.IMG", "two", said="TWO: the directory is full (5)")
     desk.done("put in the last slot", "put", "B.IMG", "none")
     desk.refused("put in a full directory", "put", "B.IMG", "own.txt", said="OWN.TXT: the directory is full (255)")
@@ -200,18 +201,60 @@ def names(desk):
 
 def second_entry(desk, geometry):
     """a file of two entries keeps its attributes in both"""
-    count = 17 * geometry[0] + 5
+    blocks = places(geometry) + 2
+    count = (blocks - 1) * geometry[0] + 5
     desk.write("long", text_of(count))
     desk.done("put of a file of two entries", "put", "A.IMG", "long", "9:long")
     desk.done("attributes of a file of two entries", "attributes", "A.IMG", "9:long", "+r", "+s")
     found = entries_of(desk.read("A.IMG"), geometry, 9, "LONG")
     desk.same("attributes: both entries have them", [(e[9] >> 7, e[10] >> 7) for e in found], [(1, 1), (1, 1)])
-    desk.done("list of it", "list", "-u9", "A.IMG", out=HEADING + line(9, "LONG", -(-count // 128), 18, " read-only system")
-              + f"free blocks: {geometry[1] - geometry[2] - 18}\n".encode())
+    desk.done("list of it", "list", "-u9", "A.IMG", out=HEADING + line(9, "LONG", -(-count // 128), blocks, " read-only system")
+              + f"free blocks: {geometry[1] - geometry[2] - blocks}\n".encode())
     desk.done("get of it", "get", "A.IMG", "9:long", "-", out=text_of(count).ljust(-(-count // 128) * 128, b"\0"))
 
 
+def hard_disks(tally, geometry):
+    """8 MiB: files behind blocks that take two bytes, in the last block too"""
+    block, total, directory = geometry
+    desk = Desk(tally, f"B {block} T {total} D {directory}", geometry)
+    free = total - directory
+    desk.done("new", "new", "A.IMG", out=f"A.IMG: an empty disk, free blocks: {free}\n".encode())
+    held = [[*range(first, first + 8)] for first in range(directory, total - 9, 8)]
+    last = directory + 8 * len(held)
+    files = {k: entry(name=f"E{k}", ex=(block // 2048) - 1, rc=128, blocks=blocks, geometry=geometry) for k, blocks in enumerate(held)}
+    desk.write("A.IMG", volume(geometry, files))
+    free = total - last
+    desk.done("check", "check", "A.IMG", out=f"A.IMG: the disk is sound, free blocks: {free}\n".encode())
+    content = text_of(free * block)
+    desk.write("in", content)
+    said = f"3:LAST.TXT: records written: {len(content) // 128}, free blocks: 0\n".encode()
+    desk.done("put that fills the disk", "put", "A.IMG", "in", "3:last.txt", out=said)
+    image = desk.read("A.IMG")
+    desk.same("put: it has the last blocks", image[last * block:], content)
+    found = [b for e in entries_of(image, geometry, 3, "LAST.TXT") for b in numbers(e, geometry) if b]
+    desk.same("put: their numbers", found, [*range(last, total)])
+    desk.done("get", "get", "A.IMG", "3:last.txt", "-", out=content)
+    desk.refused("put on a full disk", "put", "A.IMG", "in", said="IN: the disk is full (2)")
+    lines = line(3, "LAST.TXT", len(content) // 128, free)
+    desk.done("list", "list", "-u3", "A.IMG", out=HEADING + lines + b"free blocks: 0\n")
+    desk.done("rename", "rename", "A.IMG", "3:last.txt", "new.txt", out=b"3:LAST.TXT: renamed to 3:NEW.TXT\n")
+    desk.done("attributes", "attributes", "A.IMG", "3:new.txt", "+s", out=b"3:NEW.TXT: not read-only, system\n")
+    desk.done("type", "type", "A.IMG", "3:new.txt", out=content)
+    desk.done("erase", "erase", "A.IMG", "3:*.*", out=f"3:NEW.TXT: erased\nfree blocks: {free}\n".encode())
+    shared = volume(geometry, {**files, len(files): entry(name="LAST", blocks=[last, last - 1], geometry=geometry)})
+    desk.write("A.IMG", shared)
+    said = f"A.IMG: the disk is not sound (36): slot {len(files)} (LAST): block {last - 1} at place 1 belongs to slot " \
+           f"{len(files) - 1} (E{len(files) - 1}) too\n"
+    desk.refused("check of a block in two files", "check", "A.IMG", said="", out=said.encode())
+    beyond = volume(geometry, {0: entry(name="LAST", blocks=[0] * 7 + [total], geometry=geometry)})
+    desk.write("A.IMG", beyond)
+    said = f"slot 0 (LAST): place 7 names block {total}, and files have blocks {directory} to {total - 1}\n"
+    desk.refused("check of a block beyond the last", "check", "A.IMG", said="", out=f"A.IMG: the disk is not sound (36): {said}".encode())
+
+
 def run(tally):
+    for geometry in LARGEST:
+        hard_disks(tally, geometry)
     for geometry in GEOMETRIES:
         desk = Desk(tally, f"B {geometry[0]} T {geometry[1]} D {geometry[2]}", geometry)
         files_in_and_out(desk, geometry)

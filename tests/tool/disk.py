@@ -21,8 +21,30 @@ def name_bytes(text):
     return f"{called:8}{kind:3}".encode()
 
 
-def entry(user=0, name="SIGLA.TXT", ex=0, s1=0, s2=0, rc=0, blocks=()):
-    return bytes([user]) + name_bytes(name) + bytes([ex, s1, s2, rc]) + bytes(blocks).ljust(16, b"\0")
+def width(geometry):
+    """bytes of a block number in an entry: two where there are more than 256 blocks"""
+    return 2 if geometry[1] > 256 else 1
+
+
+def places(geometry):
+    """block numbers of an entry"""
+    return 16 // width(geometry)
+
+
+def extents(geometry):
+    """extents of an entry"""
+    return geometry[0] // (1024 * width(geometry))
+
+
+def numbers(e, geometry):
+    """the block numbers of an entry"""
+    step = width(geometry)
+    return [int.from_bytes(e[at:at + step], "little") for at in range(16, 32, step)]
+
+
+def entry(user=0, name="SIGLA.TXT", ex=0, s1=0, s2=0, rc=0, blocks=(), geometry=(1024, 40, 1)):
+    laid = b"".join(number.to_bytes(width(geometry), "little") for number in blocks)
+    return bytes([user]) + name_bytes(name) + bytes([ex, s1, s2, rc]) + laid.ljust(16, b"\0")
 
 
 def volume(geometry, entries):
@@ -47,9 +69,8 @@ def file_on(image, geometry, user, name):
     block = geometry[0]
     content = b""
     for e in entries_of(image, geometry, user, name):
-        laid = b"".join(bytes(image[b * block:(b + 1) * block]) for b in e[16:32] if b)
-        extents = e[12] % (block // 1024)
-        content += laid[:128 * (128 * extents + e[15])]
+        laid = b"".join(bytes(image[b * block:(b + 1) * block]) for b in numbers(e, geometry) if b)
+        content += laid[:128 * (128 * (e[12] % extents(geometry)) + e[15])]
     return content
 
 

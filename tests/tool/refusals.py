@@ -69,11 +69,14 @@ def geometries(desk):
     desk.refused("CHURAWEL_GEOMETRY counts", "check", "odd", said="", out=found, environment=other)
     desk.done("-g counts before CHURAWEL_GEOMETRY", "-g", "1024,40,1", "check", "V.IMG", environment=other)
     desk.done("-g behind the command", "check", "V.IMG", "-g", "1024,40,1", environment=other)
-    for text in ("1000,40,1", "512,80,1", "1024,1,1", "1024,257,1", "1024,40,0", "1024,40,17", "1024,40,40", "8192,5,1"):
-        said = "no disk has this geometry (32)"
+    for text in ("1000,40,1", "512,80,1", "1024,1,1", "1024,257,1", "1024,40,0", "1024,40,17", "1024,40,40", "8192,5,1",
+                 "1024,4096,1", "2048,4097,1", "4096,2049,1", "2048,65576,1", "2048,257,17"):
+        lawful = "; B is 1024, 2048 or 4096 and T 2 to 256, or B is 2048 or 4096 and T 257 to 4096, at most 8388608 bytes in all; " \
+                 "D is 1 to 16, below T\n"
+        said = f"no disk has this geometry (32): 40960 bytes, {text}{lawful}"
         desk.refused(f"list with geometry {text}", "-g", text, "list", "V.IMG", said=said)
-        desk.refused(f"new with geometry {text}", "-g", text, "new", "N.IMG", said=said)
-    for bytes_there in (0, 1, 40959, 40961, 2000000):
+        desk.refused(f"new with geometry {text}", "-g", text, "new", "N.IMG", said=f"no disk has this geometry (32): {text}{lawful}")
+    for bytes_there in (0, 1, 40959, 40961, 9000000):
         desk.write("odd", bytes(bytes_there))
         desk.refused(f"{bytes_there} bytes for V", "-g", "1024,40,1", "list", "odd", said=f"(33): {bytes_there} bytes, 1024,40,1")
     desk.path("odd").unlink()

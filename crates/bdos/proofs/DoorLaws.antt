@@ -1,33 +1,24 @@
--- What each arm of the door leaves with a number of stores: its own cut, or no store at all; and 528 are enough for every call.
-use mathlib.Core.Path.{_≡_, sym, ap, _∙_}
-use mathlib.Core.Bool.{true, false}
+-- What each arm of the door leaves with a number of stores, its own cut; 528 are enough for every call; and who logs in.
+use mathlib.Core.Path.{_≡_, refl, ap}
+use mathlib.Core.Bool.{true, false, false≢true}
 use mathlib.Core.List.{List, []}
-use Prim.Native.Nat.{ℕ, _-_, _≤_}
+use Prim.Native.Nat.{ℕ, _≤_}
 use native.Mathlib.Omega.{arith}
 use lib.ListN.{length}
 use Rattle.disk_geometry.specs.declared.Geometry.{Geometry}
-use Rattle.disk_stores.specs.Stores.{Store, cut}
-use Rattle.disk_stores.proofs.CodeLaws.{cut-none}
+use Rattle.disk_stores.specs.Stores.{Store}
 use Rattle.call_served.specs.declared.Call.{Call}
 use Rattle.call_served.specs.declared.Call.the-variants.{LogIn, Open, Close, SearchFirst, SearchNext, Delete, Make, Rename, Protect, Attributes, User, Size, SetRandom, Moves, Unserved}
 use Rattle.call_served.specs.declared.Transfer.the-variants.{ReadSequential, WriteSequential, ReadRandom, WriteRandom, WriteZeroFill, ReadSeveral, WriteSeveral}
 use Rattle.filecalls.specs.declared.Drive.{Drive}
 use Rattle.filecalls.specs.declared.Reply.{Reply}
-use Rattle.filecalls.specs.Outcome.{Act, actStores, Outcome, outcome, left}
+use Rattle.filecalls.specs.Outcome.{Act, actStores, Outcome, outcome}
 use Rattle.filecalls.specs.Stores.{Cut, CutAfter, cutOutcome, cutLeft, refusedBy}
 use Rattle.filecalls.proofs.CutLaws.{code-whole}
 use Rattle.filecalls.proofs.SeveralCutLaws.{delete-enough, make-enough, rename-enough, attributes-enough, sequential-enough, direct-enough, several-enough}
 use Rattle.bdos.specs.Step.{keepsBuffer}
 use Rattle.bdos.specs.Stores.{transferStores, callStores}
-
--- a call that stores nothing
-pub no-stores : (g : Geometry) (v : List ℕ) (most : ℕ) {r : Reply} {f b : List ℕ} {o : Outcome} → left r v f b ≡ o → CutAfter most g v [] o (cutLeft r v f b most)
-no-stores g v most e = record {
-  volume-is = sym (cut-none g v most);
-  left-is = omega arith;
-  refused-is = ap (λ (x : Outcome). refusedBy (x .answer)) e;
-  whole = λ w. e;
-}
+use Rattle.bdos.specs.CodeWay.{wayOf, logs}
 
 -- one that stores as long as a store is left
 pub own-stores : (d : Drive) (v f b : List ℕ) (most : ℕ) (act : Act) {r : Reply} {v′ f′ b′ : List ℕ} {n : ℕ} → cutLeft r v′ f′ b′ n ≡ cutOutcome most d v f b act
@@ -73,3 +64,27 @@ call-enough (Moves WriteZeroFill) p d v f b = direct-enough true d v f b
 call-enough (Moves ReadSeveral) p d v f b = omega arith
 call-enough (Moves WriteSeveral) p d v f b = several-enough d v f b p
 call-enough Unserved p d v f b = omega arith
+
+-- only a log-in logs in
+pub logs-in : (kind : Call) → logs (wayOf kind) ≡ true → kind ≡ LogIn
+logs-in LogIn h = refl
+logs-in Open h = absurd (false≢true h)
+logs-in Close h = absurd (false≢true h)
+logs-in SearchFirst h = absurd (false≢true h)
+logs-in SearchNext h = absurd (false≢true h)
+logs-in Delete h = absurd (false≢true h)
+logs-in Make h = absurd (false≢true h)
+logs-in Rename h = absurd (false≢true h)
+logs-in Protect h = absurd (false≢true h)
+logs-in Attributes h = absurd (false≢true h)
+logs-in User h = absurd (false≢true h)
+logs-in Size h = absurd (false≢true h)
+logs-in SetRandom h = absurd (false≢true h)
+logs-in (Moves ReadSequential) h = absurd (false≢true h)
+logs-in (Moves WriteSequential) h = absurd (false≢true h)
+logs-in (Moves ReadRandom) h = absurd (false≢true h)
+logs-in (Moves WriteRandom) h = absurd (false≢true h)
+logs-in (Moves WriteZeroFill) h = absurd (false≢true h)
+logs-in (Moves ReadSeveral) h = absurd (false≢true h)
+logs-in (Moves WriteSeveral) h = absurd (false≢true h)
+logs-in Unserved h = absurd (false≢true h)

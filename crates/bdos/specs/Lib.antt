@@ -1,4 +1,4 @@
 -- "The calls we serve", behind one door.
 pub mod Step
 pub mod Stores
-pub mod CodeLent
+pub mod CodeWay

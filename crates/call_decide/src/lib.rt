@@ -3,10 +3,12 @@ ghost use mathlib.Core.Path.{_≡_};
 ghost use mathlib.Core.Bool.{true, false};
 ghost use Prim.Native.Nat.{_≤_, _<_};
 ghost use lib.Dec.{eqb};
+ghost use lib.ListN.{length};
 ghost use Rattle.disk_geometry.specs.Geometry.{lawful, slots};
 ghost use Rattle.disk_volume.specs.Name.{strip};
 ghost use Rattle.disk_volume.specs.Record.{recordBlock};
 ghost use Rattle.disk_volume.specs.CodeLent.{VolumeAnd, IsName, IsEntry};
+ghost use Rattle.disk_held.specs.Held.{heldWords};
 ghost use Rattle.call_answers.specs.Refusal.{isNone, firstMet};
 ghost use Rattle.call_decide.specs.Write.{writeTests};
 ghost use Rattle.call_decide.specs.CodePlan.{Decided, ownOr, blockFor, fileTests, roomTests};
@@ -52,11 +54,11 @@ fn file_why(g: Geometry, volume: &[u8], user: u8, name: &[u8], from: usize) -> R
 }
 
 // 41, 5 and 2, for record n of entry e in this slot, with its block.
-fn room(g: Geometry, held: [u64; 4], e: &[u8], slot: usize, n: usize) -> WritePlan
-    requires { ⌜ (lawful g ≡ true) × IsEntry (now e) ⌝ }
-    ensures { λ r. ⌜ r .why ≡ firstMet (roomTests g held (now (e .entry)) slot n) ⌝ }
+fn room(g: Geometry, held: &[u64], e: &[u8], slot: usize, n: usize) -> WritePlan
+    requires { ⌜ (lawful g ≡ true) × (IsEntry (now e) × (length (now held) ≡ heldWords)) ⌝ }
+    ensures { λ r. ⌜ r .why ≡ firstMet (roomTests g (now (held .entry)) (now (e .entry)) slot n) ⌝ }
     ensures { λ r. ⌜ r .slot ≡ slot ⌝ }
-    ensures { λ r. ⌜ r .block ≡ blockFor g held (now (e .entry)) n ⌝ }
+    ensures { λ r. ⌜ r .block ≡ blockFor g (now (held .entry)) (now (e .entry)) n ⌝ }
     ensures { λ r. ⌜ r .fresh ≡ eqb (recordBlock g (now (e .entry)) n) 0 ⌝ }
 {
     let place = g.place(n);
@@ -89,19 +91,19 @@ pub fn decide(
     volume: &[u8],
     user: u8,
     name: &[u8],
-    held: [u64; 4],
+    held: &[u64],
     n: usize,
     e: &mut [u8],
 ) -> WritePlan
     requires { ⌜ VolumeAnd g (now volume) (IsName (now name)) ⌝ }
-    requires { ⌜ IsEntry (now e) ⌝ }
+    requires { ⌜ IsEntry (now e) × (length (now held) ≡ heldWords) ⌝ }
     ensures { λ r. ⌜
         r .why
-        ≡ firstMet (writeTests g held (now (volume .entry)) user (strip (now (name .entry))) n)
+        ≡ firstMet (writeTests g (now (held .entry)) (now (volume .entry)) user (strip (now (name .entry))) n)
         ⌝ }
     ensures { λ r. ⌜
         (isNone (r .why) ≡ true
-        → Decided g held (now (volume .entry)) user (strip (now (name .entry))) n
+        → Decided g (now (held .entry)) (now (volume .entry)) user (strip (now (name .entry))) n
         (r .slot) (r .block) (r .fresh) (now (e .exit)))
         ⌝ }
 {

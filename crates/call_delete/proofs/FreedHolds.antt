@@ -11,11 +11,10 @@ use Rattle.lists.specs.Bounded.{anyFrom, fold}
 use Rattle.lists.proofs.BoundedLaws.{any-none}
 use Rattle.disk_geometry.specs.declared.Geometry.{Geometry}
 use Rattle.disk_geometry.specs.Geometry.{lawful, slots, inside, places}
-use Rattle.disk_geometry.proofs.GeometryLaws.{bounds}
-use Rattle.disk_geometry.proofs.InsideLaws.{inside-is}
+use Rattle.disk_geometry.proofs.InsideLaws.{inside-low}
 use Rattle.disk_volume.specs.Entry.{Entry, blockIn, matches}
 use Rattle.disk_volume.specs.Directory.{slotAt}
-use Rattle.disk_held.specs.Held.{holds, release}
+use Rattle.disk_held.specs.Held.{heldWords, room, holds, release}
 use Rattle.disk_held.proofs.HoldLaws.{length-release, holds-release-same, holds-release-other}
 use Rattle.disk_rules.specs.GoodSlot.{inPlaces, namesBlock}
 use Rattle.call_delete.specs.Delete.{freePlace, freeEntry, freeSlot, freeMatches}
@@ -44,67 +43,67 @@ any-both : (t : Bool) (p : ℕ → Bool) (i k : ℕ) → anyFrom (λ m. t && p m
 any-both true p i k = refl
 any-both false p i k = any-none (λ m. false && p m) i k (λ m low high. refl)
 
--- ---- a fold whose steps keep four words, and whose step i frees block b if p i
-fold-four : (step : List ℕ → ℕ → List ℕ) → ((h : List ℕ) (i : ℕ) → length h ≡ 4 → length (step h i) ≡ 4)
-    → (i k : ℕ) (h : List ℕ) → length h ≡ 4 → length (fold step h i k) ≡ 4
+-- ---- a fold whose steps keep as many words, and whose step i frees block b if p i
+fold-words : (step : List ℕ → ℕ → List ℕ) → ((h : List ℕ) (i : ℕ) → length h ≡ heldWords → length (step h i) ≡ heldWords)
+    → (i k : ℕ) (h : List ℕ) → length h ≡ heldWords → length (fold step h i k) ≡ heldWords
 unfolding fold
-fold-four step four i zero h l = l
-fold-four step four i (suc k) h l = fold-four step four (suc i) k (step h i) (four h i l)
+fold-words step words i zero h l = l
+fold-words step words i (suc k) h l = fold-words step words (suc i) k (step h i) (words h i l)
 
 module _ (b : ℕ) (step : List ℕ → ℕ → List ℕ) (p : ℕ → Bool)
-    (four : (h : List ℕ) (i : ℕ) → length h ≡ 4 → length (step h i) ≡ 4)
-    (frees : (h : List ℕ) (i : ℕ) → length h ≡ 4 → holds (step h i) b ≡ (holds h b && not (p i))) where
-  fold-frees : (i k : ℕ) (h : List ℕ) → length h ≡ 4 → holds (fold step h i k) b ≡ (holds h b && not (anyFrom p i k))
+    (words : (h : List ℕ) (i : ℕ) → length h ≡ heldWords → length (step h i) ≡ heldWords)
+    (frees : (h : List ℕ) (i : ℕ) → length h ≡ heldWords → holds (step h i) b ≡ (holds h b && not (p i))) where
+  fold-frees : (i k : ℕ) (h : List ℕ) → length h ≡ heldWords → holds (fold step h i k) b ≡ (holds h b && not (anyFrom p i k))
   unfolding fold anyFrom
   fold-frees i zero h l = and-yes (holds h b)
   fold-frees i (suc k) h l =
-      fold-frees (suc i) k (step h i) (four h i l)
+      fold-frees (suc i) k (step h i) (words h i l)
       ∙ ap (λ (t : Bool). t && not (anyFrom p (suc i) k)) (frees h i l)
       ∙ split (holds h b) (p i) (anyFrom p (suc i) k)
 
--- ---- four words stay
+-- ---- as many words stay
 module _ (g : Geometry) where
-  place-four : (e : Entry) (h : List ℕ) (p : ℕ) → length h ≡ 4 → length (freePlace g e h p) ≡ 4
+  place-words : (e : Entry) (h : List ℕ) (p : ℕ) → length h ≡ heldWords → length (freePlace g e h p) ≡ heldWords
   unfolding freePlace
-  place-four e h p l = go (inside g (blockIn g e p))
+  place-words e h p l = go (inside g (blockIn g e p))
     where
-      go : (t : Bool) → length (cond t (release h (blockIn g e p)) h) ≡ 4
+      go : (t : Bool) → length (cond t (release h (blockIn g e p)) h) ≡ heldWords
       go true = length-release h (blockIn g e p) ∙ l
       go false = l
 
-  entry-four : (e : Entry) (h : List ℕ) → length h ≡ 4 → length (freeEntry g e h) ≡ 4
+  entry-words : (e : Entry) (h : List ℕ) → length h ≡ heldWords → length (freeEntry g e h) ≡ heldWords
   unfolding freeEntry
-  entry-four e h l = fold-four (freePlace g e) (place-four e) 0 (places g) h l
+  entry-words e h l = fold-words (freePlace g e) (place-words e) 0 (places g) h l
 
-  slot-four : (v : List ℕ) (u : ℕ) (pattern h : List ℕ) (i : ℕ) → length h ≡ 4 → length (freeSlot g v u pattern h i) ≡ 4
+  slot-words : (v : List ℕ) (u : ℕ) (pattern h : List ℕ) (i : ℕ) → length h ≡ heldWords → length (freeSlot g v u pattern h i) ≡ heldWords
   unfolding freeSlot
-  slot-four v u pattern h i l = go (matches u pattern (slotAt g v i))
+  slot-words v u pattern h i l = go (matches u pattern (slotAt g v i))
     where
-      go : (t : Bool) → length (cond t (freeEntry g (slotAt g v i) h) h) ≡ 4
-      go true = entry-four (slotAt g v i) h l
+      go : (t : Bool) → length (cond t (freeEntry g (slotAt g v i) h) h) ≡ heldWords
+      go true = entry-words (slotAt g v i) h l
       go false = l
 
-  matches-four : (v : List ℕ) (u : ℕ) (pattern h : List ℕ) → length h ≡ 4 → length (freeMatches g v u pattern h) ≡ 4
+  matches-words : (v : List ℕ) (u : ℕ) (pattern h : List ℕ) → length h ≡ heldWords → length (freeMatches g v u pattern h) ≡ heldWords
   unfolding freeMatches
-  matches-four v u pattern h l = fold-four (freeSlot g v u pattern) (slot-four v u pattern) 0 (slots g) h l
+  matches-words v u pattern h l = fold-words (freeSlot g v u pattern) (slot-words v u pattern) 0 (slots g) h l
 
 -- ---- block b, of which t says whether it is from D to T-1
 module _ (g : Geometry) (law : lawful g ≡ true) (b : ℕ) (t : Bool) (range : inside g b ≡ t) where
-  low : (c : ℕ) → inside g c ≡ true → c < 256
-  low c q = omega (arith, bounds g law .blocks-high, inside-is g c q)
+  low : (h : List ℕ) → length h ≡ heldWords → (c : ℕ) → inside g c ≡ true → c < room h
+  low h l c q = omega (arith, inside-low g law c q, l)
 
-  place-frees : (e : Entry) (h : List ℕ) (p : ℕ) → length h ≡ 4
+  place-frees : (e : Entry) (h : List ℕ) (p : ℕ) → length h ≡ heldWords
       → holds (freePlace g e h p) b ≡ (holds h b && not (t && eqb (blockIn g e p) b))
   unfolding freePlace
   place-frees e h p l = go (eqb (blockIn g e p) b) refl
     where
       here : (s : Bool) → inside g b ≡ s → holds (cond s (release h b) h) b ≡ (holds h b && not (s && true))
-      here true q = holds-release-same h l b (low b q) ∙ and-no (holds h b)
+      here true q = holds-release-same h b (low h l b q) ∙ and-no (holds h b)
       here false q = and-yes (holds h b)
 
       there : (s : Bool) → inside g (blockIn g e p) ≡ s → eqb (blockIn g e p) b ≡ false
           → holds (cond s (release h (blockIn g e p)) h) b ≡ holds h b
-      there true q z = holds-release-other h l (blockIn g e p) (low (blockIn g e p) q) b (λ y. eqb-false (blockIn g e p) b z (sym y))
+      there true q z = holds-release-other h (blockIn g e p) (low h l (blockIn g e p) q) b (λ y. eqb-false (blockIn g e p) b z (sym y))
       there false q z = refl
 
       go : (s : Bool) → eqb (blockIn g e p) b ≡ s
@@ -112,15 +111,15 @@ module _ (g : Geometry) (law : lawful g ≡ true) (b : ℕ) (t : Bool) (range : 
       go true z = rw (eqb-true (blockIn g e p) b z, range) (here t range)
       go false z = there (inside g (blockIn g e p)) refl z ∙ not-met (holds h b) t
 
-  entry-frees : (e : Entry) (h : List ℕ) → length h ≡ 4
+  entry-frees : (e : Entry) (h : List ℕ) → length h ≡ heldWords
       → holds (freeEntry g e h) b ≡ (holds h b && not (t && inPlaces g e (places g) b))
   unfolding freeEntry inPlaces
   entry-frees e h l =
-      fold-frees b (freePlace g e) (λ p. t && eqb (blockIn g e p) b) (place-four g e) (place-frees e) 0 (places g) h l
+      fold-frees b (freePlace g e) (λ p. t && eqb (blockIn g e p) b) (place-words g e) (place-frees e) 0 (places g) h l
       ∙ ap (λ (s : Bool). holds h b && not s) (any-both t (λ p. eqb (blockIn g e p) b) 0 (places g))
 
   module _ (v : List ℕ) (u : ℕ) (u15 : u ≤ 15) (pattern : List ℕ) where
-    slot-frees : (h : List ℕ) (i : ℕ) → length h ≡ 4
+    slot-frees : (h : List ℕ) (i : ℕ) → length h ≡ heldWords
         → holds (freeSlot g v u pattern h i) b ≡ (holds h b && not (t && matchNames g v u pattern b i))
     unfolding freeSlot matchNames
     slot-frees h i l = go (matches u pattern (slotAt g v i)) refl
@@ -130,16 +129,16 @@ module _ (g : Geometry) (law : lawful g ≡ true) (b : ℕ) (t : Bool) (range : 
         go true m = rw (match-names u u15 pattern (slotAt g v i) m g b) (entry-frees (slotAt g v i) h l)
         go false m = not-met (holds h b) t
 
-    matches-freed : (h : List ℕ) → length h ≡ 4
+    matches-freed : (h : List ℕ) → length h ≡ heldWords
         → holds (freeMatches g v u pattern h) b ≡ (holds h b && not (t && namedByMatch g v u pattern b))
     unfolding freeMatches
     matches-freed h l =
-        fold-frees b (freeSlot g v u pattern) (λ i. t && matchNames g v u pattern b i) (slot-four g v u pattern) slot-frees 0 (slots g) h l
+        fold-frees b (freeSlot g v u pattern) (λ i. t && matchNames g v u pattern b i) (slot-words g v u pattern) slot-frees 0 (slots g) h l
         ∙ ap (λ (s : Bool). holds h b && not s) (any-both t (matchNames g v u pattern b) 0 (slots g))
 
 pub freed : DeleteFrees
 freed g law v u u15 pattern held l = record {
   inside-blocks = λ b range. matches-freed g law b true range v u u15 pattern held l;
   other-numbers = λ b range. matches-freed g law b false range v u u15 pattern held l ∙ sym (and-yes (holds held b));
-  four = matches-four g v u pattern held l;
+  words = matches-words g v u pattern held l;
 }

@@ -11,7 +11,7 @@ use Rattle.disk_geometry.specs.declared.Geometry.{Geometry}
 use Rattle.disk_geometry.specs.Geometry.{lawful, slots, inside}
 use Rattle.disk_volume.specs.Entry.{matches}
 use Rattle.disk_volume.specs.Directory.{slotAt}
-use Rattle.disk_held.specs.Held.{holds}
+use Rattle.disk_held.specs.Held.{heldWords, holds}
 use Rattle.disk_rules.specs.GoodSlot.{namesBlock}
 use Rattle.call_delete.specs.Delete.{freeMatches}
 
@@ -27,10 +27,10 @@ pub record Freed (g : Geometry) (v : List ℕ) (u : ℕ) (pattern held : List �
   pub inside-blocks : (b : ℕ) → inside g b ≡ true
       → holds (freeMatches g v u pattern held) b ≡ (holds held b && not (namedByMatch g v u pattern b))
   pub other-numbers : (b : ℕ) → inside g b ≡ false → holds (freeMatches g v u pattern held) b ≡ holds held b
-  pub four : length (freeMatches g v u pattern held) ≡ 4
+  pub words : length (freeMatches g v u pattern held) ≡ heldWords
 
--- for any volume, user and pattern, and held blocks in four words
+-- for any volume, user and pattern, and held blocks in a state's words
 abbrev pub DeleteFrees : Type 0
 DeleteFrees =
     (g : Geometry) → lawful g ≡ true → (v : List ℕ) (u : ℕ) → u ≤ 15
-    → (pattern held : List ℕ) → length held ≡ 4 → Freed g v u pattern held
+    → (pattern held : List ℕ) → length held ≡ heldWords → Freed g v u pattern held

@@ -1,10 +1,11 @@
 // Delete: the tests that look at the directory, and the blocks of the entries that match.
 ghost use mathlib.Core.Path.{_≡_};
-ghost use mathlib.Core.Bool.{cond};
+ghost use mathlib.Core.Bool.{true, cond};
 ghost use Prim.Native.Nat.{_-_, _<_, _≤_};
 ghost use lib.ListN.{length};
 ghost use Rattle.disk_volume.specs.declared.Wanted.the-variants.{Match};
-ghost use Rattle.disk_geometry.specs.Geometry.{slots, places};
+ghost use Rattle.disk_geometry.specs.Geometry.{lawful, slots, places};
+ghost use Rattle.disk_held.specs.Held.{heldWords};
 ghost use Rattle.disk_volume.specs.Name.{strip};
 ghost use Rattle.disk_volume.specs.Directory.{findSlot};
 ghost use Rattle.disk_volume.specs.CodeLent.{IsVolume, VolumeAnd, IsName, IsEntry};
@@ -18,12 +19,6 @@ use disk_geometry::Geometry;
 use disk_volume::Wanted;
 use disk_volume::directory;
 use disk_volume::entry;
-
-// What delete hands back: why it is refused, and the blocks that are still held.
-pub struct Deleted {
-    pub why: Refusal,
-    pub held: [u64; 4],
-}
 
 // Why the entries that match can't be deleted. A read-only match is sought from the first match on.
 fn delete_why(g: Geometry, volume: &[u8], first: usize, user: u8, pattern: &[u8]) -> Refusal
@@ -45,46 +40,41 @@ fn delete_why(g: Geometry, volume: &[u8], first: usize, user: u8, pattern: &[u8]
     call_answers::first_of(no_match, read_only)
 }
 
-// The held blocks without the block of place p; numbers outside D to T-1 are passed over.
-fn free_place(g: Geometry, e: &[u8], held: [u64; 4], p: usize) -> [u64; 4]
+// The block of place p is no longer held; numbers outside D to T-1 are passed over.
+fn free_place(g: Geometry, e: &[u8], held: &mut [u64], p: usize)
+    requires { ⌜ (lawful g ≡ true) × (length (now held) ≡ heldWords) ⌝ }
     requires { ⌜ (p < places g) × IsEntry (now e) ⌝ }
-    ensures { λ r. ⌜ r ≡ freePlace g (now (e .entry)) held p ⌝ }
+    ensures { λ _. ⌜ now (held .exit) ≡ freePlace g (now (e .entry)) (now (held .entry)) p ⌝ }
 {
     let b = entry::block_in(g, e, p);
     if !g.is_inside(b) {
-        return held;
+        return;
     }
-    disk_held::release(held, b)
+    disk_held::release(held, b);
 }
 
-// The held blocks without those of the entry.
-fn free_entry(g: Geometry, e: &[u8], held: [u64; 4]) -> [u64; 4]
+// The blocks of the entry are no longer held.
+fn free_entry(g: Geometry, e: &[u8], held: &mut [u64])
+    requires { ⌜ (lawful g ≡ true) × (length (now held) ≡ heldWords) ⌝ }
     requires { ⌜ IsEntry (now e) ⌝ }
-    ensures { λ r. ⌜ r ≡ freeEntry g (now (e .entry)) held ⌝ }
+    ensures { λ _. ⌜ now (held .exit) ≡ freeEntry g (now (e .entry)) (now (held .entry)) ⌝ }
 {
     let n = g.places();
-    let mut rest = held;
     let mut p = 0;
     while p < n {
-        let next = free_place(g, e, rest, p);
-        rest = next;
+        free_place(g, e, held, p);
         p += 1;
     }
-    rest
 }
 
-// The held blocks without those of slot i, if its entry matches.
-fn free_slot(
-    g: Geometry,
-    volume: &[u8],
-    user: u8,
-    pattern: &[u8],
-    held: [u64; 4],
-    i: usize,
-) -> [u64; 4]
-    requires { ⌜ IsVolume g (now volume) ⌝ }
+// The blocks of slot i are no longer held, if its entry matches.
+fn free_slot(g: Geometry, volume: &[u8], user: u8, pattern: &[u8], held: &mut [u64], i: usize)
+    requires { ⌜ IsVolume g (now volume) × (length (now held) ≡ heldWords) ⌝ }
     requires { ⌜ (i < slots g) × IsName (now pattern) ⌝ }
-    ensures { λ r. ⌜ r ≡ freeSlot g (now (volume .entry)) user (strip (now (pattern .entry))) held i ⌝ }
+    ensures { λ _. ⌜
+        now (held .exit)
+        ≡ freeSlot g (now (volume .entry)) user (strip (now (pattern .entry))) (now (held .entry)) i
+        ⌝ }
 {
     let at = g.slot_start(i);
     if !entry::has(
@@ -94,33 +84,34 @@ fn free_slot(
         pattern,
         Wanted::Match,
     ) {
-        return held;
+        return;
     }
-    free_entry(g, &volume[at..at + Geometry::ENTRY_BYTES], held)
+    free_entry(g, &volume[at..at + Geometry::ENTRY_BYTES], held);
 }
 
-// The held blocks without those of the entries that match, from the first match on.
+// The blocks of the entries that match are no longer held, from the first match on.
 fn free_matches(
     g: Geometry,
     volume: &[u8],
     first: usize,
     user: u8,
     pattern: &[u8],
-    held: [u64; 4],
-) -> [u64; 4]
+    held: &mut [u64],
+)
     requires { ⌜ VolumeAnd g (now volume) (IsName (now pattern)) ⌝ }
+    requires { ⌜ length (now held) ≡ heldWords ⌝ }
     requires { ⌜ (first ≡ findSlot g (now volume) user (strip (now pattern)) Match) × (first ≤ slots g) ⌝ }
-    ensures { λ r. ⌜ r ≡ freeMatches g (now (volume .entry)) user (strip (now (pattern .entry))) held ⌝ }
+    ensures { λ _. ⌜
+        now (held .exit)
+        ≡ freeMatches g (now (volume .entry)) user (strip (now (pattern .entry))) (now (held .entry))
+        ⌝ }
 {
     let slots = g.slots();
-    let mut rest = held;
     let mut i = first;
     while i < slots {
-        let next = free_slot(g, volume, user, pattern, rest, i);
-        rest = next;
+        free_slot(g, volume, user, pattern, held, i);
         i += 1;
     }
-    rest
 }
 
 // Deletes the entries that match, as long as a store is left, and frees their blocks; or refuses, by an earlier refusal
@@ -130,30 +121,31 @@ pub fn delete_matches(
     volume: &mut [u8],
     user: u8,
     pattern: &[u8],
-    held: [u64; 4],
+    held: &mut [u64],
     before: Refusal,
     left: &mut usize,
-) -> Deleted
+) -> Refusal
     requires { ⌜ VolumeAnd g (now volume) (IsName (now pattern)) ⌝ }
+    requires { ⌜ length (now held) ≡ heldWords ⌝ }
     ensures { λ r. ⌜
-        r .why
+        r
         ≡ first before (firstMet (deleteTests g (now (volume .entry)) user (strip (now (pattern .entry)))))
         ⌝ }
     ensures { λ r. ⌜
-        r .held
-        ≡ cond (isNone (r .why))
-        (freeMatches g (now (volume .entry)) user (strip (now (pattern .entry))) held)
-        held
+        now (held .exit)
+        ≡ cond (isNone r)
+        (freeMatches g (now (volume .entry)) user (strip (now (pattern .entry))) (now (held .entry)))
+        (now (held .entry))
         ⌝ }
     ensures { λ r. ⌜
         now (volume .exit)
-        ≡ cond (isNone (r .why))
+        ≡ cond (isNone r)
         (cut g (now (volume .entry)) (now (left .entry)) (eraseStores g user (now (pattern .entry)) (now (volume .entry))))
         (now (volume .entry))
         ⌝ }
     ensures { λ r. ⌜
         now (left .exit)
-        ≡ cond (isNone (r .why))
+        ≡ cond (isNone r)
         (now (left .entry) - length (eraseStores g user (now (pattern .entry)) (now (volume .entry))))
         (now (left .entry))
         ⌝ }
@@ -161,9 +153,9 @@ pub fn delete_matches(
     let first = directory::find(g, volume, user, pattern, Wanted::Match);
     let why = call_answers::first_of(before, delete_why(g, volume, first, user, pattern));
     if !call_answers::is_none(why) {
-        return Deleted { why, held };
+        return why;
     }
-    let rest = free_matches(g, volume, first, user, pattern, held);
+    free_matches(g, volume, first, user, pattern, held);
     call_sweep::change_most(g, volume, first, user, pattern, pattern, Edit::Erase, left);
-    Deleted { why, held: rest }
+    why
 }

@@ -12,10 +12,11 @@ use lib.Seq.{set-getD, getD-set-same, getD-set-other, getD-append-add, take-at, 
 use borrow.Author.Tests.{lt-ltb, le-ltb, ltb-true, ltb-false, eqb-true, eqb-false}
 use Rattle.lists.proofs.PartLaws.{length-part}
 use Rattle.lists.specs.Bytes.{byte, part, put}
-use Rattle.disk_volume.specs.Entry.{Entry, extent, blockIn, withBlock, countOf}
-use Rattle.disk_geometry.specs.Geometry.{places, lawful, placeOf}
+use Rattle.disk_volume.specs.Entry.{Entry, extent, blockIn, countOf}
+use Rattle.disk_geometry.specs.Geometry.{lawful, placeOf}
 use Rattle.disk_geometry.specs.declared.Geometry.{Geometry}
 use Rattle.disk_volume.proofs.EntryLaws.{count-below, count-above, count-own}
+use Rattle.disk_volume.proofs.MapLaws.{length-withBlock, byte-withBlock, take-withBlock, block-withBlock, block-withBlock-other, block-same}
 use Rattle.disk_geometry.proofs.GeometryLaws.{place-lt}
 use Rattle.call_entry.specs.Grown.{likeEntry, grown, writtenEntry}
 use Rattle.call_entry.proofs.HeadLaws.{head, head-set}
@@ -33,10 +34,6 @@ length-grown e n = go (ltb (extent e) (n / 128)) (ltb (n / 128) (extent e))
     go true t = simp length-set
     go false true = refl
     go false false = simp length-set
-
-pub length-withBlock : (g : Geometry) (e : Entry) (p b : ℕ) → length (withBlock g e p b) ≡ length e
-unfolding withBlock
-length-withBlock g e p b = length-set e (16 + p) b
 
 pub length-written : (g : Geometry) (e : Entry) (n b : ℕ) → length (writtenEntry g e n b) ≡ length e
 unfolding writtenEntry
@@ -218,12 +215,12 @@ module _ (e : Entry) (n : ℕ) where
 -- ---- the block in its place
 module _ (g : Geometry) (e : Entry) (n b : ℕ) where
   pub head-written : head (writtenEntry g e n b) ≡ head e
-  unfolding writtenEntry withBlock
-  head-written = head-set (grown e n) (16 + placeOf g n) b (omega arith) ∙ head-grown e n
+  unfolding writtenEntry part
+  head-written = take-withBlock g (grown e n) (placeOf g n) b 12 (omega arith) ∙ head-grown e n
 
-  byte-written : (k : ℕ) → k < 16 → byte (writtenEntry g e n b) k ≡ byte (grown e n) k
-  unfolding writtenEntry withBlock
-  byte-written k h = getD-set-other (grown e n) (16 + placeOf g n) k b 0 (omega arith)
+  pub byte-written : (k : ℕ) → k < 16 → byte (writtenEntry g e n b) k ≡ byte (grown e n) k
+  unfolding writtenEntry
+  byte-written k h = byte-withBlock g (grown e n) (placeOf g n) b k h
 
   pub written-extent : extent (writtenEntry g e n b) ≡ extent (grown e n)
   written-extent = rw (byte-written 14 (omega arith), byte-written 12 (omega arith))
@@ -233,14 +230,11 @@ module _ (g : Geometry) (e : Entry) (n b : ℕ) where
   written-count y = rw (byte-written 14 (omega arith), byte-written 12 (omega arith), byte-written 15 (omega arith))
 
   pub written-block : lawful g ≡ true → length e ≡ 32 → blockIn g (writtenEntry g e n b) (placeOf g n) ≡ b
-  unfolding writtenEntry withBlock blockIn places
-  written-block good e32 =
-      let l = length-grown e n in
-      let p = place-lt g good n in
-      getD-set-same (grown e n) (16 + placeOf g n) b 0 (omega arith)
+  unfolding writtenEntry
+  written-block good e32 = block-withBlock g (grown e n) (placeOf g n) b (length-grown e n ∙ e32) (place-lt g good n)
 
   pub written-other : (p : ℕ) → p ≢ placeOf g n → blockIn g (writtenEntry g e n b) p ≡ blockIn g e p
-  unfolding writtenEntry withBlock blockIn
+  unfolding writtenEntry
   written-other p ne =
-      getD-set-other (grown e n) (16 + placeOf g n) (16 + p) b 0 (λ q. ne (omega arith))
-      ∙ byte-grown e n (16 + p) (omega arith) (omega arith) (omega arith)
+      block-withBlock-other g (grown e n) (placeOf g n) b p ne
+      ∙ block-same g (grown e n) e (λ k h. byte-grown e n k (omega arith) (omega arith) (omega arith)) p

@@ -2,8 +2,9 @@
 ghost use mathlib.Core.Path.{_≡_};
 ghost use mathlib.Core.Bool.{true};
 ghost use Prim.Native.Nat.{_+_, _≤_, _<_};
+ghost use lib.ListN.{length};
 ghost use Rattle.disk_geometry.specs.Geometry.{lawful, slots, places, blocks};
-ghost use Rattle.disk_volume.specs.Entry.{withBlock};
+ghost use Rattle.disk_held.specs.Held.{heldWords};
 ghost use Rattle.disk_volume.specs.CodeLent.{IsVolume, IsEntry};
 ghost use Rattle.call_fcb.specs.Fcb.{fileRecords};
 ghost use Rattle.call_entry.specs.Alloc.{nearestBelow, alloc};
@@ -44,22 +45,14 @@ pub fn grow(e: &mut [u8], n: usize)
     }
 }
 
-// Lays block number b into place p of the entry's map.
-pub fn with_block(g: Geometry, e: &mut [u8], p: usize, b: usize)
-    requires { ⌜ (p < places g) × (IsEntry (now e) × (b < 256)) ⌝ }
-    ensures { λ _. ⌜ now (e .exit) ≡ withBlock g (now (e .entry)) p b ⌝ }
-{
-    e[fields::MAP + p] = b as u8;
-}
-
 // Lets the entry say that record n went to block b.
 pub fn write_entry(g: Geometry, e: &mut [u8], n: usize, b: usize)
-    requires { ⌜ (lawful g ≡ true) × (IsEntry (now e) × ((n < fileRecords) × (b < 256))) ⌝ }
+    requires { ⌜ (lawful g ≡ true) × (IsEntry (now e) × ((n < fileRecords) × (b < blocks g))) ⌝ }
     ensures { λ _. ⌜ now (e .exit) ≡ writtenEntry g (now (e .entry)) n b ⌝ }
 {
     grow(e, n);
     let p = g.place(n);
-    with_block(g, e, p, b);
+    entry::with_block(g, e, p, b);
 }
 
 // The block in the nearest used place below place p of the entry, 0 where none is used.
@@ -79,9 +72,10 @@ fn nearest_below(g: Geometry, e: &[u8], p: usize) -> usize
 }
 
 // The block that place p of the entry is given, T where none is free; nothing else knows the rule.
-pub fn alloc(g: Geometry, held: [u64; 4], e: &[u8], p: usize) -> usize
+pub fn alloc(g: Geometry, held: &[u64], e: &[u8], p: usize) -> usize
     requires { ⌜ (lawful g ≡ true) × ((p < places g) × IsEntry (now e)) ⌝ }
-    ensures { λ r. ⌜ (r ≡ alloc g held (now (e .entry)) p) × (r ≤ blocks g) ⌝ }
+    requires { ⌜ length (now held) ≡ heldWords ⌝ }
+    ensures { λ r. ⌜ (r ≡ alloc g (now (held .entry)) (now (e .entry)) p) × (r ≤ blocks g) ⌝ }
 {
     let near = nearest_below(g, e, p);
     if g.is_inside(near) {

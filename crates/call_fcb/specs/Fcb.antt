@@ -5,8 +5,8 @@ use Prim.Native.Nat.{ℕ, _+_, _*_, _/_, _%_}
 use lib.Dec.{leb}
 use lib.ListN.{set, replicate}
 use Rattle.lists.specs.Bytes.{byte, part, put}
-use Rattle.disk_geometry.specs.Geometry.{extentRecords}
-use Rattle.disk_volume.specs.Fields.{NAME, EX, S1, S2, RC, MAP, nameBytes, mapBytes}
+use Rattle.disk_geometry.specs.Geometry.{mapBytes, extentRecords}
+use Rattle.disk_volume.specs.Fields.{NAME, EX, S1, S2, RC, MAP, nameBytes}
 use Rattle.disk_volume.specs.Name.{nameAt}
 use Rattle.disk_volume.specs.Entry.{Entry, extent, countOf}
 

@@ -76,10 +76,6 @@ changed-is g Erase u name new e = refl
 changed-is g Rename u name new e = refl
 changed-is g Attributes u name new e = refl
 
-pub changed-same : (g : Geometry) (edit : Edit) (u : ℕ) (name new : List ℕ) (e : Entry) → fits g u name (meant edit) e ≡ false
-    → changed edit u name new e ≡ e
-changed-same g edit u name new e h = rw (changed-is g edit u name new e, h)
-
 -- ---- lengths
 pub renamed-length : (new : List ℕ) → length new ≡ 11 → (e : Entry) → length e ≡ 32 → length (renamed e new) ≡ 32
 unfolding renamed
@@ -116,12 +112,3 @@ pub lent-piece : (f : Entry → Entry) (l x : List ℕ) (k : ℕ) → x ≡ f (t
     → take (k * 32) l ++ (x ++ drop (k * 32 + 32 - k * 32) (drop (k * 32) l)) ≡ mapPiece f l k
 unfolding mapPiece part put
 lent-piece f l x k e = let z : k * 32 + 32 - k * 32 ≡ 32 = omega arith in rw (e, z)
-
-pub or-false : (a b : Bool) → (a || b) ≡ false → (a ≡ false) × (b ≡ false)
-or-false false b e = (refl, e)
-or-false true b e = absurd (true≢false e)
-
--- what is erased has no use for a new name
-pub erases : (u : ℕ) (name new : List ℕ) → changed Erase u name new ≡ changed Erase u name []
-unfolding changed
-erases u name new = refl

@@ -3,6 +3,7 @@ ghost use mathlib.Core.Path.{_≡_};
 ghost use mathlib.Core.Bool.{cond};
 ghost use Prim.Native.Nat.{_-_, _<_};
 ghost use lib.ListN.{length};
+ghost use Rattle.disk_held.specs.Held.{heldWords, room};
 ghost use Rattle.disk_volume.specs.Name.{nameOf};
 ghost use Rattle.disk_volume.specs.CodeLent.{IsVolume, IsFcb, IsRecord};
 ghost use Rattle.disk_stores.specs.Stores.{cut};
@@ -14,21 +15,15 @@ use call_answers::Refusal;
 use disk_geometry::Geometry;
 use disk_volume::fields;
 
-// What a write hands back: why it is refused, and the held blocks.
-pub struct Written {
-    pub why: Refusal,
-    pub held: [u64; 4],
-}
-
 // Block b is held from now on, if it is newly taken.
-fn hold_if(held: [u64; 4], fresh: bool, b: usize) -> [u64; 4]
-    requires { ⌜ b < 256 ⌝ }
-    ensures { λ r. ⌜ r ≡ holdIf fresh held b ⌝ }
+fn hold_if(held: &mut [u64], fresh: bool, b: usize)
+    requires { ⌜ b < room (now held) ⌝ }
+    ensures { λ _. ⌜ now (held .exit) ≡ holdIf fresh (now (held .entry)) b ⌝ }
 {
-    if fresh {
-        return disk_held::hold(held, b);
+    if !fresh {
+        return;
     }
-    held
+    disk_held::hold(held, b);
 }
 
 // Writes record n of the file that the control block names, as long as a store is left, and sets the control block to it,
@@ -40,42 +35,42 @@ pub fn write_record(
     fcb: &mut [u8],
     buffer: &[u8],
     user: u8,
-    held: [u64; 4],
+    held: &mut [u64],
     n: usize,
     cr: u8,
     left: &mut usize,
-) -> Written
-    requires { ⌜ IsVolume g (now volume) ⌝ }
+) -> Refusal
+    requires { ⌜ IsVolume g (now volume) × (length (now held) ≡ heldWords) ⌝ }
     requires { ⌜ IsFcb (now fcb) × (IsRecord (now buffer) × (n < fileRecords)) ⌝ }
     ensures { λ r. ⌜
-        r .why ≡ firstMet (writeTests g held (now (volume .entry)) user (nameOf (now (fcb .entry))) n)
+        r ≡ firstMet (writeTests g (now (held .entry)) (now (volume .entry)) user (nameOf (now (fcb .entry))) n)
         ⌝ }
     ensures { λ r. ⌜
         now (volume .exit)
-        ≡ cond (isNone (r .why))
+        ≡ cond (isNone r)
         (cut g (now (volume .entry)) (now (left .entry))
-        (writeStores g held (now (volume .entry)) user (nameOf (now (fcb .entry))) n fills (now (buffer .entry))))
+        (writeStores g (now (held .entry)) (now (volume .entry)) user (nameOf (now (fcb .entry))) n fills (now (buffer .entry))))
         (now (volume .entry))
         ⌝ }
     ensures { λ r. ⌜
         now (fcb .exit)
-        ≡ cond (isNone (r .why))
-        (setTo (now (fcb .entry)) (entryAfter g held (now (volume .entry)) user (nameOf (now (fcb .entry))) n) n cr)
+        ≡ cond (isNone r)
+        (setTo (now (fcb .entry)) (entryAfter g (now (held .entry)) (now (volume .entry)) user (nameOf (now (fcb .entry))) n) n cr)
         (now (fcb .entry))
         ⌝ }
     ensures { λ r. ⌜
-        r .held
-        ≡ cond (isNone (r .why))
-        (holdIf (needsBlock g (now (volume .entry)) user (nameOf (now (fcb .entry))) n) held
-        (writeBlock g held (now (volume .entry)) user (nameOf (now (fcb .entry))) n))
-        held
+        now (held .exit)
+        ≡ cond (isNone r)
+        (holdIf (needsBlock g (now (volume .entry)) user (nameOf (now (fcb .entry))) n) (now (held .entry))
+        (writeBlock g (now (held .entry)) (now (volume .entry)) user (nameOf (now (fcb .entry))) n))
+        (now (held .entry))
         ⌝ }
     ensures { λ r. ⌜
         now (left .exit)
-        ≡ cond (isNone (r .why))
+        ≡ cond (isNone r)
         (now (left .entry)
         - length
-        (writeStores g held (now (volume .entry)) user (nameOf (now (fcb .entry))) n fills (now (buffer .entry))))
+        (writeStores g (now (held .entry)) (now (volume .entry)) user (nameOf (now (fcb .entry))) n fills (now (buffer .entry))))
         (now (left .entry))
         ⌝ }
 {
@@ -91,7 +86,7 @@ pub fn write_record(
     );
     let why = plan.why;
     if !call_answers::is_none(why) {
-        return Written { why, held };
+        return why;
     }
     call_entry::write_entry(g, &mut e, n, plan.block);
     let fill = fills & plan.fresh;
@@ -108,6 +103,6 @@ pub fn write_record(
         cr,
         left,
     );
-    let next = hold_if(held, plan.fresh, plan.block);
-    Written { why, held: next }
+    hold_if(held, plan.fresh, plan.block);
+    why
 }

@@ -2,26 +2,28 @@
 use mathlib.Core.Path.{_≡_, refl}
 use mathlib.Core.Bool.{Bool, true, false, not, cond, _&&_, true≢false}
 use mathlib.Core.List.{List, [], _++_}
-use Prim.Native.Nat.{ℕ, _≤_, _<_, _+_}
+use Prim.Native.Nat.{ℕ, _+_, _*_, _≤_, _<_}
 use native.Mathlib.Omega.{arith}
 use lib.Dec.{leb, ltb, eqb}
 use lib.ListN.{length}
 use borrow.Author.Tests.{not-false, eqb-true, eqb-false, ltb-false, lt-ltb, le-leb}
 use Rattle.lists.specs.Bytes.{byte}
-use Rattle.lists.proofs.BoolLaws.{and-parts}
+use Rattle.lists.proofs.BoolLaws.{and-parts, or-parts}
 use Rattle.lists.proofs.PartLaws.{length-part}
-use Rattle.disk_geometry.specs.Geometry.{slots}
+use Rattle.disk_geometry.specs.Geometry.{blocks, slots}
 use Rattle.disk_volume.specs.Name.{nameOf, goodName}
 use Rattle.call_fcb.specs.Fcb.{position, random}
-use Rattle.call_answers.specs.declared.Refusal.the-variants.{Closed, VolumeLength, FcbLength, BufferLength, DriveCode, UserCode, Name, Position, NoMatch, NoGroup, Absent}
+use Rattle.call_answers.specs.declared.Refusal.the-variants.{Closed, VolumeLength, FcbLength, BufferLength, DriveCode, UserCode, Name, Position, Protected, NoMatch, NoGroup, Absent}
 use Rattle.call_answers.specs.Refusal.{isNone, firstMet}
 use Rattle.call_answers.proofs.Ladder.{unmet}
-use Rattle.disk_held.proofs.WordsLaws.{words-hold}
+use Rattle.disk_held.specs.Held.{wordBits}
+use Rattle.disk_held.proofs.WordsLaws.{first-hold}
 use Rattle.call_search.specs.declared.SearchKind.{SearchKind}
 use Rattle.call_search.specs.declared.SearchKind.the-variants.{Nothing, Pattern, Everything}
 use Rattle.call_search.specs.Search.{kindAsked, patternOf}
 use Rattle.call_read.specs.Read.{readTests}
 use Rattle.call_decide.specs.Write.{needsBlock, writeBlock}
+use Rattle.call_decide.proofs.WriteLaws.{write-passed}
 use Rattle.filecalls.specs.declared.Drive.{Drive}
 use Rattle.filecalls.specs.State.{goodPattern, goodKept}
 use Rattle.call_write.specs.Write.{holdIf}
@@ -32,11 +34,12 @@ use Rattle.filecalls.specs.Names.{deleteLadder, deleteAct, makeLadder, makeAct,
 use Rattle.filecalls.specs.Read.{sequentialTests, randomTests, readDone, readSequentialAct, readRandomAct}
 use Rattle.filecalls.specs.Write.{directoryTests, writeDone, writeSequentialAct, writeDirectAct, writeRandomAct, writeZeroFillAct}
 use Rattle.filecalls.specs.Small.{protectTests, protectAct, userTests, userAct, setRandomTests, setRandomAct}
-use Rattle.filecalls.proofs.StateLaws.{is-open}
+use Rattle.filecalls.proofs.StateLaws.{is-open, both-clear}
 use Rattle.filecalls.specs.Leaves.{readSequentialLeaves, writeSequentialLeaves}
 use Rattle.filecalls.specs.Several.{onPiece, several}
 use Rattle.filecalls.proofs.SeveralLaws.{several-keeps}
-use Rattle.churawel.proofs.LastingLaws.{Lasts, Lasting, does, lasting-unless, outcome-lasts, held-lasts, protects-lasts, user-lasts, search-lasts, words-free, words-of, or-parts, hit-low, first-pattern}
+use Rattle.drive_bytes.specs.Layout.{storedWords}
+use Rattle.churawel.proofs.LastingLaws.{Lasts, Lasting, does, lasting-unless, outcome-lasts, held-lasts, protects-lasts, user-lasts, search-lasts, words-free, words-of, block-room, hit-low, first-pattern}
 
 module _ (d : Drive) (v f b : List ℕ) (l : Lasts d) where
   still : Lasts (changedState d v keeps)
@@ -44,21 +47,32 @@ module _ (d : Drive) (v f b : List ℕ) (l : Lasts d) where
   still = l
 
   -- ---- the writes
-  write-lasts : (n : ℕ) → Lasts (changedState d v (takes (needsBlock (d .geometry) v (d .user) (nameOf f) n) (writeBlock (d .geometry) (d .held) v (d .user) (nameOf f) n)))
+  -- a block that is newly given is one below T
+  write-lasts : (n : ℕ) → isNone (firstMet (directoryTests d v f n)) ≡ true
+      → Lasts (changedState d v (takes (needsBlock (d .geometry) v (d .user) (nameOf f) n) (writeBlock (d .geometry) (d .held) v (d .user) (nameOf f) n)))
   unfolding changedState
-  write-lasts n = go (needsBlock (d .geometry) v (d .user) (nameOf f) n)
+  write-lasts n h = go (needsBlock (d .geometry) v (d .user) (nameOf f) n)
     where
+      low : writeBlock (d .geometry) (d .held) v (d .user) (nameOf f) n < wordBits * storedWords (blocks (d .geometry))
+      low =
+          block-room (d .geometry) (is-open d (l .opens) .law) _
+          (write-passed (d .geometry) (d .held) v (d .user) (nameOf f) n (unmet Protected _ _ refl h .1) .block-high)
+
       go : (t : Bool) → Lasts (withHeld d (holdIf t (d .held) (writeBlock (d .geometry) (d .held) v (d .user) (nameOf f) n)))
-      go true = held-lasts d l _ (words-hold (d .held) (writeBlock (d .geometry) (d .held) v (d .user) (nameOf f) n) (words-of d (l .carried)))
+      go true = held-lasts d l _ (first-hold _ (d .held) _ low (words-of d (l .carried)))
       go false = held-lasts d l _ (words-of d (l .carried))
 
   pub write-sequential-lasting : Lasting d v (writeSequentialAct d v f b)
   unfolding writeSequentialAct writeDone
-  write-sequential-lasting = lasting-unless (sequentialTests d v f b ++ directoryTests d v f (position f)) _ (λ h. does (write-lasts (position f)))
+  write-sequential-lasting =
+      lasting-unless (sequentialTests d v f b ++ directoryTests d v f (position f)) _
+      (λ h. does (write-lasts (position f) (both-clear (sequentialTests d v f b) (directoryTests d v f (position f)) h .1)))
 
   write-direct-lasting : (fills : Bool) → Lasting d v (writeDirectAct fills d v f b)
   unfolding writeDone
-  write-direct-lasting fills = lasting-unless (randomTests d v f b ++ directoryTests d v f (random f)) _ (λ h. does (write-lasts (random f)))
+  write-direct-lasting fills =
+      lasting-unless (randomTests d v f b ++ directoryTests d v f (random f)) _
+      (λ h. does (write-lasts (random f) (both-clear (randomTests d v f b) (directoryTests d v f (random f)) h .1)))
 
   pub write-random-lasting : Lasting d v (writeRandomAct d v f b)
   unfolding writeRandomAct
@@ -74,7 +88,7 @@ module _ (d : Drive) (v f b : List ℕ) (l : Lasts d) where
   delete-lasting = lasting-unless (deleteLadder d v f) _ (λ h. does freed)
     where
       freed : Lasts (changedState d v (frees (d .user) (nameOf f)))
-      freed = unfold changedState in held-lasts d l _ (words-free (d .geometry) v (d .user) (nameOf f) (d .held) (words-of d (l .carried)))
+      freed = unfold changedState in held-lasts d l _ (words-free (d .geometry) (is-open d (l .opens) .law) v (d .user) (nameOf f) (d .held) (words-of d (l .carried)))
 
   pub make-lasting : Lasting d v (makeAct d v f)
   unfolding makeAct

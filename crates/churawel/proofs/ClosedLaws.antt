@@ -1,6 +1,6 @@
--- A state that counts as closed: every call but a log-in asks that first, and is refused by 32.
-use mathlib.Core.Path.{_≡_, refl}
-use mathlib.Core.Bool.{true, false, false≢true}
+-- A state that counts as closed: code asks that of its front; every call but a log-in asks it first, and is refused by 32.
+use mathlib.Core.Path.{_≡_, refl, ap, _∙_}
+use mathlib.Core.Bool.{Bool, true, false, false≢true}
 use mathlib.Core.List.{List, [], _∷_}
 use Prim.Native.Nat.{ℕ}
 use Rattle.disk_geometry.specs.declared.Geometry.{Geometry}
@@ -10,6 +10,8 @@ use Rattle.call_answers.specs.declared.Answer.the-variants.{Refused}
 use Rattle.call_answers.specs.Refusal.{Test, firstMet}
 use Rattle.call_answers.specs.Answer.{succeeded}
 use Rattle.filecalls.specs.declared.Drive.{Drive}
+use Rattle.filecalls.specs.declared.Front.{Front}
+use Rattle.filecalls.specs.CodeFront.{frontOf, joined}
 use Rattle.filecalls.specs.State.{isOpen}
 use Rattle.filecalls.specs.Tests.{closedState}
 use Rattle.filecalls.specs.Outcome.{Act, deny, unless, outcome}
@@ -27,6 +29,10 @@ use Rattle.call_served.specs.declared.Transfer.the-variants.{ReadSequential, Wr
 use Rattle.bdos.specs.Step.{carries, does}
 use Rattle.churawel.specs.Seam.{answered}
 use Rattle.churawel.specs.CodeSeam.{asksOpen}
+
+-- the state d is open, as code asks it of its front w
+pub front-open : (d : Drive) {w : Front} {t : Bool} → w ≡ frontOf d → ((held : List ℕ) → t ≡ isOpen (joined w held)) → t ≡ isOpen d
+front-open d is asks = asks (d .held) ∙ ap (λ (x : Front). isOpen (joined x (d .held))) is
 
 -- an answer that says 32 and no success
 pub record Shut (a : Answer) : Type 0 where

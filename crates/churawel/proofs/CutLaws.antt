@@ -1,30 +1,32 @@
 -- No call makes more stores than 528, so that their number fits into 16 bits; and what a cut leaves at the seam.
 use mathlib.Core.Path.{_≡_, refl, sym, ap, ap₂, _∙_}
-use mathlib.Core.Logic.{_≢_}
 use mathlib.Core.List.{List}
 use mathlib.Core.Bool.{Bool, true, false, not}
 use Prim.Native.Nat.{ℕ, _+_, _-_, _*_, _≤_, _<_, min}
 use native.Mathlib.Nat.{min-eq-left, min-eq-right}
 use native.Mathlib.Omega.{arith}
-use lib.Dec.{leb}
+use lib.Dec.{leb, eqb}
 use lib.ListN.{length, replicate}
-use borrow.Author.Tests.{not-true, not-false, eq-eqb, ne-eqb, leb-true, leb-false}
+use borrow.Author.Tests.{not-true, not-false, leb-true, leb-false}
 use Rattle.call_answers.specs.declared.Refusal.the-variants.{Closed}
 use Rattle.call_answers.specs.declared.Answer.the-variants.{Refused}
 use Rattle.disk_stores.specs.Stores.{Store, cut}
 use Rattle.call_served.specs.Asked.{Asked, asked}
 use Rattle.call_served.specs.Calls.{callOf}
 use Rattle.filecalls.specs.declared.Drive.{Drive}
+use Rattle.filecalls.specs.declared.Front.{Front}
+use Rattle.filecalls.specs.CodeFront.{frontOf, joined}
 use Rattle.filecalls.specs.State.{isOpen}
 use Rattle.filecalls.specs.Stores.{refusedBy}
-use Rattle.drive_bytes.specs.Layout.{driveBytes, decoded}
+use Rattle.drive_bytes.specs.Layout.{driveBytes, blocksAt, decoded}
 use Rattle.bdos.specs.Step.{step}
 use Rattle.bdos.specs.Stores.{storesOf, cutVolume}
-use Rattle.bdos.specs.CodeLent.{lentFcb, lentBuffer}
+use Rattle.churawel.specs.CodeLent.{lentFcb, lentBuffer}
 use Rattle.bdos.proofs.DoorLaws.{call-enough}
-use Rattle.bdos.proofs.LentLaws.{lent-alike}
+use Rattle.churawel.proofs.LentLaws.{lent-alike}
 use Rattle.churawel.specs.Seam.{answered, sealed, cutAtSeam}
 use Rattle.churawel.specs.CodeSeam.{CutOpen}
+use Rattle.churawel.proofs.ClosedLaws.{front-open}
 
 pub stores-most : (c : Asked) (d : Drive) (v : List ℕ) → length (storesOf c d v) ≤ 528
 stores-most c d v = call-enough (callOf (c .function)) (c .parameter) d v (c .fcb) (c .buffer)
@@ -57,25 +59,28 @@ lent-open n p f b {most} {d} {v} x =
       refused-is = x .refused-is ∙ ap refusedBy (same .answer-is);
     }
 
--- the state in the drive's bytes is open, as code learns it
-pub opens-by : (s : List ℕ) {d : Drive} {t : Bool} → d ≡ decoded s → t ≡ isOpen d → not t ≡ false → isOpen (decoded s) ≡ true
-opens-by s {d} {t} read asks h = ap isOpen (sym read) ∙ sym asks ∙ not-false t h
+-- the state in the drive's bytes is open, as code learns it of its front w
+module _ (s : List ℕ) {w : Front} {t : Bool} (is : w ≡ frontOf (decoded s)) (asks : (held : List ℕ) → t ≡ isOpen (joined w held)) where
+  pub opens-by : not t ≡ false → isOpen (decoded s) ≡ true
+  opens-by h = sym (front-open (decoded s) is asks) ∙ not-false t h
 
--- what each way through the seam leaves
-module _ (most n p : ℕ) (s v f b : List ℕ) where
-  pub cut-other-length : {r : ℕ} → length s ≢ driveBytes → r ≡ answered (Refused Closed) → sealed r s v f b ≡ cutAtSeam most n p s v f b
+  shut-by : not t ≡ true → isOpen (decoded s) ≡ false
+  shut-by h = sym (front-open (decoded s) is asks) ∙ not-true t h
+
+-- what each way through the seam leaves; x: whether the drive has the length that its T asks
+module _ (most n p : ℕ) (s v f b : List ℕ) {x : Bool} (has : x ≡ eqb (length s) (driveBytes (blocksAt s))) where
+  pub cut-other-length : {r : ℕ} → not x ≡ true → r ≡ answered (Refused Closed) → sealed r s v f b ≡ cutAtSeam most n p s v f b
   unfolding cutAtSeam
-  cut-other-length h e = rw (ne-eqb (length s) 64 h, e)
+  cut-other-length h e = rw (sym has ∙ not-true x h, e)
 
-  module _ (whole : length s ≡ driveBytes) {d : Drive} {t : Bool} (read : d ≡ decoded s) (asks : t ≡ isOpen d) {s′ : List ℕ} (closed : s′ ≡ replicate (length s) 0) where
+  module _ (whole : not x ≡ false) {w : Front} {t : Bool} (is : w ≡ frontOf (decoded s)) (asks : (held : List ℕ) → t ≡ isOpen (joined w held))
+      {s′ : List ℕ} (closed : s′ ≡ replicate (length s) 0) where
     pub cut-refused : {r : ℕ} → not t ≡ true → r ≡ answered (Refused Closed) → sealed r s′ v f b ≡ cutAtSeam most n p s v f b
     unfolding cutAtSeam
-    cut-refused h e =
-        let shut : isOpen (decoded s) ≡ false = ap isOpen (sym read) ∙ sym asks ∙ not-true t h in
-        rw (closed, eq-eqb (length s) 64 whole, shut, whole, e)
+    cut-refused h e = rw (closed, sym has ∙ not-false x whole, shut-by s is asks h, e)
 
     pub cut-done : {r : ℕ} {v′ : List ℕ} → not t ≡ false → v′ ≡ cutVolume (decoded s .geometry) (asked n p f b) (decoded s) v most
         → r ≡ refusedBy (step (decoded s .geometry) (asked n p f b) (decoded s) v .answer) + 65536 * min most (length (storesOf (asked n p f b) (decoded s) v))
         → sealed r s′ v′ f b ≡ cutAtSeam most n p s v f b
     unfolding cutAtSeam
-    cut-done h ev er = rw (closed, ev, er, eq-eqb (length s) 64 whole, opens-by s read asks h, whole)
+    cut-done h ev er = rw (closed, ev, er, sym has ∙ not-false x whole, opens-by s is asks h)

@@ -9,7 +9,7 @@ use native.Mathlib.Omega.{arith}
 use lib.ListN.{length}
 use borrow.Author.Tests.{not-false, eq-eqb}
 use Rattle.disk_geometry.specs.declared.Geometry.{Geometry}
-use Rattle.disk_geometry.specs.Geometry.{lawful}
+use Rattle.disk_geometry.specs.Geometry.{lawful, blocks}
 use Rattle.disk_geometry.proofs.GeometryLaws.{bounds}
 use Rattle.call_answers.specs.declared.Refusal.the-variants.{Closed}
 use Rattle.call_answers.specs.declared.Answer.the-variants as answer
@@ -17,9 +17,9 @@ use Rattle.call_answers.specs.Refusal.{isNone, firstMet}
 use Rattle.call_answers.specs.Answer.{succeeded}
 use Rattle.call_answers.proofs.Ladder.{unmet}
 use Rattle.disk_held.specs.Held.{freeCount}
-use Rattle.disk_held.proofs.WordsLaws.{Words, words-none}
+use Rattle.disk_held.proofs.WordsLaws.{first-none}
 use Rattle.disk_rules.specs.Named.{heldOf}
-use Rattle.disk_rules.proofs.NamedLaws.{words-held}
+use Rattle.disk_rules.proofs.NamedLaws.{first-held}
 use Rattle.filecalls.specs.declared.Drive.{Drive}
 use Rattle.filecalls.specs.declared.Reply.{Reply}
 use Rattle.filecalls.specs.State.{isOpen, closed, loggedIn}
@@ -36,12 +36,13 @@ use Rattle.call_served.specs.declared.Transfer.the-variants.{ReadSequential, Wr
 use Rattle.bdos.specs.Step.{keepsBuffer, keepsFcb, keepsVolume, carries, does, step}
 use Rattle.call_served.specs.Asked.{Asked, asked}
 use Rattle.call_served.specs.Calls.{callOf}
-use Rattle.drive_bytes.specs.Layout.{encoded, decoded}
+use Rattle.drive_bytes.specs.Layout.{storedWords, driveBytes, decoded, encodedIn}
 use Rattle.drive_bytes.specs.RoundTrip.{Carried}
-use Rattle.drive_bytes.proofs.RoundTripHolds.{decode-encode, encode-decode, read-carried, closed-is-zeros}
+use Rattle.drive_bytes.proofs.RoundTripHolds.{read-carried, closed-is-zeros}
+use Rattle.drive_bytes.proofs.LentLaws.{stored-room, open-length, lent-same, lent-back}
 use Rattle.churawel.specs.Seam.{answered, sealed, through, atSeam, logInAtSeam}
 use Rattle.churawel.specs.Faithful.{LogInCarried, LogInOpens, CallCarried, CallStaysOpen, LogInGeometry, CallGeometry, LogInFaithful, CallFaithful, RefusedLeavesAll, RefusedLogInCloses, RefusedResetCloses}
-use Rattle.churawel.proofs.LastingLaws.{Lasts, denied, outcome-lasts}
+use Rattle.churawel.proofs.LastingLaws.{Lasts, StoredOf, denied, outcome-lasts}
 use Rattle.churawel.proofs.CallsLast.{open-lasting, close-lasting, size-lasting, first-lasting, next-lasting, delete-lasting, make-lasting, rename-lasting, attributes-lasting, read-sequential-lasting, read-random-lasting, write-sequential-lasting, write-random-lasting, write-zero-fill-lasting, protect-lasting, user-lasting, set-random-lasting, read-several-lasts, write-several-lasts}
 
 -- ---- log-in
@@ -53,12 +54,13 @@ closed-carried =
       directory-blocks-16 = omega arith;
       last = omega arith;
       pattern = refl;
-      four = refl;
-      words = words-none .small;
+      all-words = refl;
+      words = first-none 4 .words .small;
+      rest = first-none 4 .rest;
       idle = λ e. refl;
     }
 
-logged-in-carried : (g : Geometry) (held : List ℕ) → lawful g ≡ true → Words held → Carried (loggedIn g held)
+logged-in-carried : (g : Geometry) (held : List ℕ) → lawful g ≡ true → StoredOf g held → Carried (loggedIn g held)
 logged-in-carried g held law w =
     let k = bounds g law in
     record {
@@ -67,8 +69,9 @@ logged-in-carried g held law w =
       directory-blocks-16 = omega (arith, k .directory-high);
       last = omega arith;
       pattern = refl;
-      four = w .four;
-      words = w .small;
+      all-words = w .words .size;
+      words = w .words .small;
+      rest = w .rest;
       idle = λ e. refl;
     }
 
@@ -92,7 +95,9 @@ pub log-in-carried : LogInCarried
 log-in-carried g v = go (isNone (firstMet (logInTests g v))) refl
   where
     go : (t : Bool) → isNone (firstMet (logInTests g v)) ≡ t → Carried (logIn g v .drive)
-    go true h = rw (taken g v h) (logged-in-carried g (heldOf g v) (accepted g v h) (words-held g v))
+    go true h =
+        let law = accepted g v h in
+        rw (taken g v h) (logged-in-carried g (heldOf g v) law (first-held g v (storedWords (blocks g)) (stored-room (blocks g) (bounds g law .blocks-high))))
     go false h = rw (turned-away g v h) closed-carried
 
 pub log-in-opens : LogInOpens
@@ -145,13 +150,21 @@ pub call-stays-open : CallStaysOpen
 call-stays-open d k o c small v n = ⊎-elim (λ e. absurd (n e)) (λ l. l .opens) (step-lasts d k o c small v)
 
 -- ---- the geometry
-pub log-in-geometry : LogInGeometry
-unfolding isOpen lawful
-log-in-geometry g v o = go (isNone (firstMet (logInTests g v))) refl
+-- a state that is not the closed one has the geometry of the log-in
+log-in-own : (g : Geometry) (v : List ℕ) → (logIn g v .drive .geometry ≡ g) ⊎ (logIn g v .drive ≡ closed)
+log-in-own g v = go (isNone (firstMet (logInTests g v))) refl
   where
-    go : (t : Bool) → isNone (firstMet (logInTests g v)) ≡ t → logIn g v .drive .geometry ≡ g
-    go true h = ap (λ (r : Reply). r .drive .geometry) (taken g v h)
-    go false h = absurd (false≢true (ap (λ (r : Reply). isOpen (r .drive)) (sym (turned-away g v h)) ∙ o))
+    go : (t : Bool) → isNone (firstMet (logInTests g v)) ≡ t → (logIn g v .drive .geometry ≡ g) ⊎ (logIn g v .drive ≡ closed)
+    go true h = inl (ap (λ (r : Reply). r .drive .geometry) (taken g v h))
+    go false h = inr (ap (λ (r : Reply). r .drive) (turned-away g v h))
+
+open-own : {d : Drive} {g : Geometry} → isOpen d ≡ true → (d .geometry ≡ g) ⊎ (d ≡ closed) → d .geometry ≡ g
+unfolding isOpen lawful
+open-own o (inl e) = e
+open-own o (inr e) = absurd (false≢true (sym (ap isOpen e) ∙ o))
+
+pub log-in-geometry : LogInGeometry
+log-in-geometry g v o = open-own o (log-in-own g v)
 
 -- no change of a state alters it, so no act does
 outcome-geometry : (d : Drive) (v f b : List ℕ) (act : Act) → outcome d v f b act .drive .geometry ≡ d .geometry
@@ -170,7 +183,7 @@ unfolding onPiece
 several-geometry single one d v f b k = several-keeps single (λ x w h c. x .geometry ≡ d .geometry) (λ i x w h c e. one x w h _ ∙ e) d v f b k refl
 
 module _ (d : Drive) (p : ℕ) (v f b : List ℕ) where
-  call-geometry-of : (call : Call) → (call ≡ LogIn) ⊎ (does (d .geometry) call p d v f b .drive .geometry ≡ d .geometry)
+  pub call-geometry-of : (call : Call) → (call ≡ LogIn) ⊎ (does (d .geometry) call p d v f b .drive .geometry ≡ d .geometry)
   unfolding does carries
   call-geometry-of LogIn = inl refl
   call-geometry-of Open = inr (outcome-geometry d v f [] _)
@@ -194,21 +207,33 @@ module _ (d : Drive) (p : ℕ) (v f b : List ℕ) where
   call-geometry-of (Moves WriteSeveral) = inr (several-geometry writeSequentialLeaves (λ x w h c. outcome-geometry x w h c _) d v f b p)
   call-geometry-of Unserved = inr (outcome-geometry d v f b _)
 
-pub call-geometry : CallGeometry
+step-own : (d : Drive) (c : Asked) (v : List ℕ) → (step (d .geometry) c d v .drive .geometry ≡ d .geometry) ⊎ (step (d .geometry) c d v .drive ≡ closed)
 unfolding step
-call-geometry d c v o =
-    ⊎-elim (λ e. let same = step-log-in (d .geometry) c d v e in ap (λ (x : Drive). x .geometry) same ∙ log-in-geometry (d .geometry) v (ap isOpen (sym same) ∙ o)) (λ e. e)
+step-own d c v =
+    ⊎-elim (λ e. rw (step-log-in (d .geometry) c d v e) (log-in-own (d .geometry) v)) inl
     (call-geometry-of d (c .parameter) v (c .fcb) (c .buffer) (callOf (c .function)))
 
+pub call-geometry : CallGeometry
+call-geometry d c v o = open-own o (step-own d c v)
+
 -- ---- what is read back is what was returned
+-- from bytes of the length that the geometry asks
+own-back : (g : Geometry) (d : Drive) (s : List ℕ) → length s ≡ driveBytes (blocks g) → Carried d → (d .geometry ≡ g) ⊎ (d ≡ closed) → decoded (encodedIn d s) ≡ d
+own-back g d s size k (inl e) = lent-back d s k (inl (size ∙ ap (λ (h : Geometry). driveBytes (blocks h)) (sym e)))
+own-back g d s size k (inr e) = lent-back d s k (inr e)
+
 pub log-in-faithful : LogInFaithful
 unfolding logInAtSeam
-log-in-faithful g v s e = rw (eq-eqb (length s) 64 e) (decode-encode (logIn g v .drive) (log-in-carried g v))
+log-in-faithful g v s e = rw (eq-eqb (length s) (driveBytes (blocks g)) e) (own-back g (logIn g v .drive) s e (log-in-carried g v) (log-in-own g v))
+
+pub step-back : (d : Drive) → Carried d → isOpen d ≡ true → (c : Asked) → c .parameter < 256 → (v s : List ℕ) → length s ≡ driveBytes (blocks (d .geometry))
+    → decoded (encodedIn (step (d .geometry) c d v .drive) s) ≡ step (d .geometry) c d v .drive
+step-back d k o c small v s size = own-back (d .geometry) _ s size (call-carried d k o c small v) (step-own d c v)
 
 pub call-faithful : CallFaithful
 unfolding atSeam
 call-faithful n p s v f b small bytes o =
-    rw o (decode-encode _ (call-carried (decoded s) (read-carried s bytes o) o (asked n p f b) small v))
+    rw o (step-back (decoded s) (read-carried s bytes o) o (asked n p f b) small v s (open-length s o))
 
 -- ---- a refusal alters nothing
 module _ (g : Geometry) (p : ℕ) (d : Drive) (v f b : List ℕ) where
@@ -246,8 +271,8 @@ pub refused-leaves-all : RefusedLeavesAll
 unfolding atSeam
 refused-leaves-all n p s v f b bytes o other e =
     rw o
-    (ap through (step-refused (decoded s .geometry) (asked n p f b) (decoded s) v other e)
-    ∙ ap (λ (x : List ℕ). sealed (answered (step (decoded s .geometry) (asked n p f b) (decoded s) v .answer)) x v f b) (encode-decode s bytes o))
+    (ap (through s) (step-refused (decoded s .geometry) (asked n p f b) (decoded s) v other e)
+    ∙ ap (λ (x : List ℕ). sealed (answered (step (decoded s .geometry) (asked n p f b) (decoded s) v .answer)) x v f b) (lent-same s bytes o))
 
 -- ---- a refused log-in closes
 log-in-closed : (g : Geometry) (v : List ℕ) → succeeded (logIn g v .answer) ≡ false → logIn g v .drive ≡ closed
@@ -259,7 +284,8 @@ log-in-closed g v s = go (isNone (firstMet (logInTests g v))) refl
 
 pub refused-log-in-closes : RefusedLogInCloses
 unfolding logInAtSeam
-refused-log-in-closes g v s e no-success = rw (eq-eqb (length s) 64 e) (ap encoded (log-in-closed g v no-success) ∙ closed-is-zeros)
+refused-log-in-closes g v s e no-success =
+    rw (eq-eqb (length s) (driveBytes (blocks g)) e) (ap (λ (d : Drive). encodedIn d s) (log-in-closed g v no-success) ∙ closed-is-zeros s)
 
 step-answer : (g : Geometry) (c : Asked) (d : Drive) (v : List ℕ) → callOf (c .function) ≡ LogIn → step g c d v .answer ≡ logIn g v .answer
 unfolding step does carries
@@ -271,4 +297,4 @@ refused-reset-closes n p s v f b o e no-success =
     let g = decoded s .geometry in
     let c = asked n p f b in
     let fails = ap succeeded (sym (step-answer g c (decoded s) v e)) ∙ no-success in
-    rw o (ap encoded (step-log-in g c (decoded s) v e ∙ log-in-closed g v fails) ∙ closed-is-zeros)
+    rw o (ap (λ (d : Drive). encodedIn d s) (step-log-in g c (decoded s) v e ∙ log-in-closed g v fails) ∙ closed-is-zeros s)

@@ -2,7 +2,7 @@
 use mathlib.Core.Path.{_≡_, refl, sym, ap, _∙_}
 use mathlib.Core.Bool.{Bool, true, false, not, cond, _&&_, _||_, true≢false}
 use mathlib.Core.List.{List}
-use Prim.Native.Nat.{ℕ, zero, suc, _≤_, _<_}
+use Prim.Native.Nat.{ℕ, zero, suc, _*_, _≤_, _<_}
 use native.Mathlib.Omega.{arith}
 use lib.Dec.{leb, ltb, eqb}
 use lib.ListN.{length}
@@ -11,14 +11,16 @@ use Rattle.lists.specs.Bounded.{fold}
 use Rattle.lists.specs.Bytes.{byte, part}
 use Rattle.lists.proofs.PartLaws.{part-part, byte-part}
 use Rattle.disk_geometry.specs.declared.Geometry.{Geometry}
-use Rattle.disk_geometry.specs.Geometry.{lawful, slots, inside, places}
+use Rattle.disk_geometry.specs.Geometry.{lawful, blocks, slots, inside, places}
 use Rattle.disk_volume.specs.Name.{nameAt, nameOf, goodName}
 use Rattle.disk_volume.specs.Entry.{Entry, blockIn, matches}
 use Rattle.disk_volume.specs.Directory.{slotAt}
 use Rattle.disk_geometry.proofs.GeometryLaws.{bounds}
+use Rattle.disk_geometry.proofs.InsideLaws.{inside-is}
 use Rattle.call_answers.specs.declared.Refusal.{Refusal}
 use Rattle.call_answers.specs.Refusal.{Test, isNone, firstMet}
-use Rattle.disk_held.proofs.WordsLaws.{Words, words-release}
+use Rattle.disk_held.specs.Held.{wordBits}
+use Rattle.disk_held.proofs.WordsLaws.{FirstWords, first-release}
 use Rattle.call_delete.specs.Delete.{freePlace, freeEntry, freeSlot, freeMatches}
 use Rattle.call_search.specs.Search.{patternOf}
 use Rattle.disk_stores.specs.Stores.{Store}
@@ -28,7 +30,9 @@ use Rattle.filecalls.specs.State.{goodPattern, goodKept, isOpen}
 use Rattle.filecalls.specs.Outcome.{withHeld, withUser, withProtection, withSearch, Change, Act, deny, done, unless, changedState, outcome}
 use Rattle.filecalls.specs.Search.{isKept}
 use Rattle.filecalls.proofs.StateLaws.{is-open}
+use Rattle.drive_bytes.specs.Layout.{storedWords}
 use Rattle.drive_bytes.specs.RoundTrip.{Carried}
+use Rattle.drive_bytes.proofs.LentLaws.{stored-room}
 
 -- a state that is carried and open
 pub record Lasts (d : Drive) : Type 0 where
@@ -36,40 +40,50 @@ pub record Lasts (d : Drive) : Type 0 where
   pub opens : isOpen d ≡ true
 
 -- ---- the held words
-words-fold : (step : List ℕ → ℕ → List ℕ) → ((l : List ℕ) (i : ℕ) → Words l → Words (step l i))
-    → (l : List ℕ) (i k : ℕ) → Words l → Words (fold step l i k)
+fold-keeps : (P : List ℕ → Type 0) (step : List ℕ → ℕ → List ℕ) → ((l : List ℕ) (i : ℕ) → P l → P (step l i))
+    → (l : List ℕ) (i k : ℕ) → P l → P (fold step l i k)
 unfolding fold
-words-fold step keep l i zero w = w
-words-fold step keep l i (suc k) w = words-fold step keep (step l i) (suc i) k (keep l i w)
+fold-keeps P step keep l i zero w = w
+fold-keeps P step keep l i (suc k) w = fold-keeps P step keep (step l i) (suc i) k (keep l i w)
 
-words-cond : (t : Bool) (l m : List ℕ) → Words l → Words m → Words (cond t l m)
-words-cond true l m w x = w
-words-cond false l m w x = x
+cond-keeps : (P : List ℕ → Type 0) (t : Bool) (l m : List ℕ) → (t ≡ true → P l) → P m → P (cond t l m)
+cond-keeps P true l m w x = w refl
+cond-keeps P false l m w x = x
 
-pub words-free : (g : Geometry) (v : List ℕ) (u : ℕ) (pattern held : List ℕ) → Words held → Words (freeMatches g v u pattern held)
+-- a state's words, those zero that a drive of so many blocks does not store
+abbrev pub StoredOf : Geometry → List ℕ → Type 0
+StoredOf g held = FirstWords (storedWords (blocks g)) held
+
+-- a block below T stands in a word that is stored
+pub block-room : (g : Geometry) → lawful g ≡ true → (b : ℕ) → b < blocks g → b < wordBits * storedWords (blocks g)
+block-room g law b h = omega (arith, h, stored-room (blocks g) (bounds g law .blocks-high))
+
+pub words-free : (g : Geometry) → lawful g ≡ true → (v : List ℕ) (u : ℕ) (pattern held : List ℕ) → StoredOf g held → StoredOf g (freeMatches g v u pattern held)
 unfolding freeMatches
-words-free g v u pattern held w = words-fold (freeSlot g v u pattern) slot held 0 (slots g) w
+words-free g law v u pattern held w = fold-keeps (StoredOf g) (freeSlot g v u pattern) slot held 0 (slots g) w
   where
-    place : (e : Entry) (l : List ℕ) (p : ℕ) → Words l → Words (freePlace g e l p)
-    place e l p x = unfold freePlace in words-cond (inside g (blockIn g e p)) _ l (words-release l (blockIn g e p) x) x
+    place : (e : Entry) (l : List ℕ) (p : ℕ) → StoredOf g l → StoredOf g (freePlace g e l p)
+    place e l p x =
+        unfold freePlace in cond-keeps (StoredOf g) (inside g (blockIn g e p)) _ l
+        (λ h. first-release (storedWords (blocks g)) l (blockIn g e p) (block-room g law (blockIn g e p) (inside-is g (blockIn g e p) h .1)) x) x
 
-    entry : (e : Entry) (l : List ℕ) → Words l → Words (freeEntry g e l)
-    entry e l x = unfold freeEntry in words-fold (freePlace g e) (λ m p y. place e m p y) l 0 (places g) x
+    entry : (e : Entry) (l : List ℕ) → StoredOf g l → StoredOf g (freeEntry g e l)
+    entry e l x = unfold freeEntry in fold-keeps (StoredOf g) (freePlace g e) (λ m p y. place e m p y) l 0 (places g) x
 
-    slot : (l : List ℕ) (i : ℕ) → Words l → Words (freeSlot g v u pattern l i)
-    slot l i x = unfold freeSlot in words-cond (matches u pattern (slotAt g v i)) _ l (entry (slotAt g v i) l x) x
+    slot : (l : List ℕ) (i : ℕ) → StoredOf g l → StoredOf g (freeSlot g v u pattern l i)
+    slot l i x = unfold freeSlot in cond-keeps (StoredOf g) (matches u pattern (slotAt g v i)) _ l (λ h. entry (slotAt g v i) l x) x
 
 -- ---- the changes of a state
-pub words-of : (d : Drive) → Carried d → Words (d .held)
-words-of d c = record { four = c .four; small = c .words }
+pub words-of : (d : Drive) → Carried d → StoredOf (d .geometry) (d .held)
+words-of d c = record { words = record { size = c .all-words; small = c .words }; rest = c .rest }
 
 module _ (d : Drive) (l : Lasts d) where
-  pub held-lasts : (held : List ℕ) → Words held → Lasts (withHeld d held)
+  pub held-lasts : (held : List ℕ) → StoredOf (d .geometry) held → Lasts (withHeld d held)
   unfolding isOpen
   held-lasts held w =
       let c = l .carried in
       record {
-        carried = record { block-bytes-16 = c .block-bytes-16; blocks-16 = c .blocks-16; directory-blocks-16 = c .directory-blocks-16; last = c .last; pattern = c .pattern; four = w .four; words = w .small; idle = c .idle };
+        carried = record { block-bytes-16 = c .block-bytes-16; blocks-16 = c .blocks-16; directory-blocks-16 = c .directory-blocks-16; last = c .last; pattern = c .pattern; all-words = w .words .size; words = w .words .small; rest = w .rest; idle = c .idle };
         opens = l .opens;
       }
 
@@ -78,7 +92,7 @@ module _ (d : Drive) (l : Lasts d) where
   protects-lasts =
       let c = l .carried in
       record {
-        carried = record { block-bytes-16 = c .block-bytes-16; blocks-16 = c .blocks-16; directory-blocks-16 = c .directory-blocks-16; last = c .last; pattern = c .pattern; four = c .four; words = c .words; idle = c .idle };
+        carried = record { block-bytes-16 = c .block-bytes-16; blocks-16 = c .blocks-16; directory-blocks-16 = c .directory-blocks-16; last = c .last; pattern = c .pattern; all-words = c .all-words; words = c .words; rest = c .rest; idle = c .idle };
         opens = l .opens;
       }
 
@@ -87,7 +101,7 @@ module _ (d : Drive) (l : Lasts d) where
       let c = l .carried in
       let o = is-open d (l .opens) in
       record {
-        carried = record { block-bytes-16 = c .block-bytes-16; blocks-16 = c .blocks-16; directory-blocks-16 = c .directory-blocks-16; last = c .last; pattern = c .pattern; four = c .four; words = c .words; idle = c .idle };
+        carried = record { block-bytes-16 = c .block-bytes-16; blocks-16 = c .blocks-16; directory-blocks-16 = c .directory-blocks-16; last = c .last; pattern = c .pattern; all-words = c .all-words; words = c .words; rest = c .rest; idle = c .idle };
         opens = unfold isOpen in rw (o .law, le-leb u 15 h) (o .kept);
       }
 
@@ -97,7 +111,7 @@ module _ (d : Drive) (l : Lasts d) where
       let c = l .carried in
       let o = is-open d (l .opens) in
       record {
-        carried = record { block-bytes-16 = c .block-bytes-16; blocks-16 = c .blocks-16; directory-blocks-16 = c .directory-blocks-16; last = low; pattern = size; four = c .four; words = c .words; idle = λ e. absurd (true≢false (sym kept ∙ ap isKept e)) };
+        carried = record { block-bytes-16 = c .block-bytes-16; blocks-16 = c .blocks-16; directory-blocks-16 = c .directory-blocks-16; last = low; pattern = size; all-words = c .all-words; words = c .words; rest = c .rest; idle = λ e. absurd (true≢false (sym kept ∙ ap isKept e)) };
         opens = unfold isOpen in rw (o .law, le-leb (d .user) 15 (o .user15)) good;
       }
 
@@ -123,10 +137,6 @@ outcome-lasts d v f b (done code change stores f′ b′) l (does k) = k
 or-true : (a : Bool) → (a || true) ≡ true
 or-true true = refl
 or-true false = refl
-
-pub or-parts : (a b : Bool) → (a || b) ≡ false → (a ≡ false) × (b ≡ false)
-or-parts false b e = (refl, e)
-or-parts true b e = absurd (true≢false e)
 
 -- the hit is a slot
 pub hit-low : (d : Drive) → lawful (d .geometry) ≡ true → {i : ℕ} → leb (slots (d .geometry)) i ≡ false → (i < slots (d .geometry)) × (i < 65536)

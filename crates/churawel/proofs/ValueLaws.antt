@@ -1,4 +1,4 @@
--- The value beside an answer fits 16 bits: a count is at most 256, a slot at most 2,048, and every other answer has 0.
+-- The value beside an answer fits 16 bits: a count is at most 4,096, a slot at most 2,048, and every other answer has 0.
 use mathlib.Core.Path.{_≡_, refl}
 use mathlib.Core.Bool.{Bool, true, false, not, cond}
 use mathlib.Core.List.{List, []}

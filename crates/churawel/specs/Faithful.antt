@@ -1,4 +1,4 @@
--- The drive's bytes carry the state from call to call: every state that a log-in or a call leaves is one that 64 bytes can
+-- The drive's bytes carry the state from call to call: every state that a log-in or a call leaves is one that they can
 -- carry, so the next call is given the very state that the last returned. Proved in `proofs/FaithfulHolds`.
 use mathlib.Core.Path.{_≡_}
 use mathlib.Core.Bool.{true, false}
@@ -6,6 +6,7 @@ use mathlib.Core.List.{List}
 use Prim.Native.Nat.{ℕ, _<_}
 use lib.ListN.{length, replicate}
 use Rattle.disk_geometry.specs.declared.Geometry.{Geometry}
+use Rattle.disk_geometry.specs.Geometry.{blocks}
 use Rattle.call_answers.specs.Answer.{succeeded}
 use Rattle.filecalls.specs.declared.Drive.{Drive}
 use Rattle.filecalls.specs.State.{isOpen}
@@ -49,7 +50,7 @@ CallGeometry =
 -- so the drive's bytes are read back as the state that was returned
 abbrev pub LogInFaithful : Type 0
 LogInFaithful =
-    (g : Geometry) (v s : List ℕ) → length s ≡ driveBytes → decoded (logInAtSeam g v s .drive) ≡ logIn g v .drive
+    (g : Geometry) (v s : List ℕ) → length s ≡ driveBytes (blocks g) → decoded (logInAtSeam g v s .drive) ≡ logIn g v .drive
 
 abbrev pub CallFaithful : Type 0
 CallFaithful =
@@ -64,14 +65,14 @@ RefusedLeavesAll =
     → atSeam n p s v fcb b
     ≡ sealed (answered (step (decoded s .geometry) (asked n p fcb b) (decoded s) v .answer)) s v fcb b
 
--- a refused log-in leaves "64 zero bytes", and so does function 13 or 37 that is refused
+-- a refused log-in leaves zeros, "closed is all zeros, of either length", and so does function 13 or 37 that is refused
 abbrev pub RefusedLogInCloses : Type 0
 RefusedLogInCloses =
-    (g : Geometry) (v s : List ℕ) → length s ≡ driveBytes → succeeded (logIn g v .answer) ≡ false
-    → logInAtSeam g v s .drive ≡ replicate driveBytes 0
+    (g : Geometry) (v s : List ℕ) → length s ≡ driveBytes (blocks g) → succeeded (logIn g v .answer) ≡ false
+    → logInAtSeam g v s .drive ≡ replicate (length s) 0
 
 abbrev pub RefusedResetCloses : Type 0
 RefusedResetCloses =
     (n p : ℕ) (s v fcb b : List ℕ) → isOpen (decoded s) ≡ true → callOf n ≡ LogIn
     → succeeded (step (decoded s .geometry) (asked n p fcb b) (decoded s) v .answer) ≡ false
-    → atSeam n p s v fcb b .drive ≡ replicate driveBytes 0
+    → atSeam n p s v fcb b .drive ≡ replicate (length s) 0

@@ -2,6 +2,7 @@
 pub mod Seam
 pub mod Faithful
 pub mod CodeSeam
+pub mod CodeLent
 pub mod Fault
 pub mod File
 pub mod Explains

@@ -5,6 +5,7 @@ use Prim.Native.Nat.{ℕ, _+_, _*_, min}
 use lib.Dec.{eqb}
 use lib.ListN.{length, replicate}
 use Rattle.disk_geometry.specs.declared.Geometry.{Geometry}
+use Rattle.disk_geometry.specs.Geometry.{blocks}
 use Rattle.call_answers.specs.declared.Refusal.the-variants.{Closed}
 use Rattle.call_answers.specs.declared.Answer.{Answer}
 use Rattle.call_answers.specs.declared.Answer.the-variants.{Refused}
@@ -17,7 +18,7 @@ use Rattle.filecalls.specs.LogIn.{logIn}
 use Rattle.bdos.specs.Step.{step}
 use Rattle.bdos.specs.Stores.{storesOf, cutVolume}
 use Rattle.call_served.specs.Asked.{Asked, asked}
-use Rattle.drive_bytes.specs.Layout.{driveBytes, encoded, decoded}
+use Rattle.drive_bytes.specs.Layout.{driveBytes, blocksAt, decoded, encodedIn}
 
 -- "the answer's number in the low 16 bits, log-in's count or slot in the high 16"
 unfoldable pub answered : Answer → ℕ
@@ -34,9 +35,9 @@ pub record Sealed : Type 0 where
 abbrev pub sealed : ℕ → List ℕ → List ℕ → List ℕ → List ℕ → Sealed
 sealed r s v fcb b = record { answer = r; drive = s; volume = v; fcb = fcb; buffer = b }
 
--- all that a call at the door leaves, the state as bytes
-abbrev pub through : Outcome → Sealed
-through o = sealed (answered (o .answer)) (encoded (o .drive)) (o .volume) (o .fcb) (o .buffer)
+-- all that a call at the door leaves, the state in the drive's bytes s
+abbrev pub through : List ℕ → Outcome → Sealed
+through s o = sealed (answered (o .answer)) (encodedIn (o .drive) s) (o .volume) (o .fcb) (o .buffer)
 
 -- "Any other length or byte pattern counts as closed: 32, nothing changed"
 abbrev pub refusedClosed : List ℕ → List ℕ → List ℕ → List ℕ → Sealed
@@ -46,29 +47,31 @@ refusedClosed s v fcb b = sealed (answered (Refused Closed)) s v fcb b
 -- drive's own, so that 13 and 37 log in anew with it.
 unfoldable pub atSeam : ℕ → ℕ → List ℕ → List ℕ → List ℕ → List ℕ → Sealed
 atSeam n p s v fcb b =
-    cond (isOpen (decoded s)) (through (step (decoded s .geometry) (asked n p fcb b) (decoded s) v))
+    cond (isOpen (decoded s)) (through s (step (decoded s .geometry) (asked n p fcb b) (decoded s) v))
     (refusedClosed s v fcb b)
 
--- log-in: by geometry, and the bytes of volume and drive; it is lent neither control block nor buffer
+-- log-in: by geometry, and the bytes of volume and drive; it is lent neither control block nor buffer. "The length that a drive
+-- must have is that of T alone"
 unfoldable pub logInAtSeam : Geometry → List ℕ → List ℕ → Sealed
 logInAtSeam g v s =
-    cond (eqb (length s) driveBytes) (sealed (answered (logIn g v .answer)) (encoded (logIn g v .drive)) v [] [])
+    cond (eqb (length s) (driveBytes (blocks g)))
+    (sealed (answered (logIn g v .answer)) (encodedIn (logIn g v .drive) s) v [] [])
     (refusedClosed s v [] [])
 
--- the drive when the machine is gone: 64 zero bytes, "the closed state"
-abbrev pub zeros : List ℕ
-zeros = replicate driveBytes 0
+-- the drive when the machine is gone: zero bytes, as many as it had, "the closed state"
+abbrev pub zeros : List ℕ → List ℕ
+zeros s = replicate (length s) 0
 
 -- a call with at most so many stores: "the call's refusal number (0 where the call is not refused) in the low 16 bits and how
 -- many stores were made in the high 16"; the volume so cut, control block and buffer as given, the drive closed
-abbrev pub cutOpen : ℕ → Asked → Drive → List ℕ → Sealed
-cutOpen most c d v =
-    sealed (refusedBy (step (d .geometry) c d v .answer) + 65536 * min most (length (storesOf c d v))) zeros
+abbrev pub cutOpen : ℕ → Asked → List ℕ → Drive → List ℕ → Sealed
+cutOpen most c s d v =
+    sealed (refusedBy (step (d .geometry) c d v .answer) + 65536 * min most (length (storesOf c d v))) (zeros s)
     (cutVolume (d .geometry) c d v most) (c .fcb) (c .buffer)
 
 -- "a drive of another length is 32 and stays as it is"; one that counts as closed is 32, and no store is made
 unfoldable pub cutAtSeam : ℕ → ℕ → ℕ → List ℕ → List ℕ → List ℕ → List ℕ → Sealed
 cutAtSeam most n p s v fcb b =
-    let asOpen : Sealed = cutOpen most (asked n p fcb b) (decoded s) v in
-    let closes : Sealed = cond (isOpen (decoded s)) asOpen (refusedClosed zeros v fcb b) in
-    cond (eqb (length s) driveBytes) closes (refusedClosed s v fcb b)
+    let asOpen : Sealed = cutOpen most (asked n p fcb b) s (decoded s) v in
+    let closes : Sealed = cond (isOpen (decoded s)) asOpen (refusedClosed (zeros s) v fcb b) in
+    cond (eqb (length s) (driveBytes (blocksAt s))) closes (refusedClosed s v fcb b)

@@ -9,7 +9,7 @@ ghost use Rattle.filecalls.specs.State.{isOpen};
 ghost use Rattle.filecalls.specs.Stores.{refusedBy};
 ghost use Rattle.bdos.specs.Step.{step};
 ghost use Rattle.bdos.specs.Stores.{storesOf, cutVolume};
-ghost use Rattle.bdos.specs.CodeLent.{bufferBytes, fcbLent, bufferLent};
+ghost use Rattle.churawel.specs.CodeLent.{bufferBytes, fcbLent, bufferLent};
 ghost use Rattle.drive_bytes.specs.Layout.{decoded};
 ghost use Rattle.churawel.specs.CodeSeam.{refusalTold, CutOpen};
 use crate::Told;

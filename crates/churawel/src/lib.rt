@@ -1,23 +1,30 @@
 // The seam to an emulator: log-in, every other call, a call that is cut off, why a volume is refused and which files it has,
 // exported for C, over lent bytes alone.
 ghost use mathlib.Core.Path.{_≡_};
-ghost use mathlib.Core.Bool.{_||_};
-ghost use mathlib.Core.List.{[]};
-ghost use Rattle.call_answers.specs.Answer.{numberOf, valueOf, succeeded};
+ghost use mathlib.Core.Bool.{true, _||_};
+ghost use mathlib.Core.List.{List, []};
+ghost use Rattle.call_answers.specs.Answer.{numberOf, valueOf};
+ghost use Rattle.call_served.specs.Calls.{callOf};
+ghost use Rattle.call_served.specs.declared.Call.the-variants.{LogIn};
 ghost use Rattle.disk_geometry.specs.Geometry.{geometryOf};
 ghost use Rattle.filecalls.specs.State.{isOpen};
+ghost use Rattle.filecalls.specs.CodeFront.{frontOf, joined};
+ghost use Rattle.bdos.specs.CodeWay.{wayOf, asks, changes};
+ghost use Rattle.drive_bytes.specs.Layout.{fields, isDrive};
 ghost use Rattle.churawel.specs.Seam.{answered, sealed, atSeam, logInAtSeam, cutAtSeam};
-ghost use Rattle.churawel.specs.CodeSeam.{asksOpen, laidBack, CallMost};
+ghost use Rattle.churawel.specs.CodeSeam.{asksOpen, Tells, WayMost, CallMost};
 ghost use Rattle.churawel.specs.Fault.{explained, faultAtSeam};
 ghost use Rattle.churawel.specs.File.{shown, fileAtSeam};
-ghost use Prim.Native.Nat.{_%_, _<_};
+ghost use Prim.Native.Nat.{ℕ, _%_, _<_};
+use bdos::Way;
 use call_answers::Answer;
 use call_answers::Refusal;
 use call_served::Call;
 use disk_geometry::Geometry;
-use drive_bytes::DRIVE_BYTES;
+use disk_held::WORDS;
 use filecalls::Drive;
 use filecalls::ENOUGH;
+use filecalls::Front;
 use files::line;
 
 mod cut;
@@ -52,6 +59,16 @@ struct Told {
     done: bool,
 }
 
+// What is told of an answer.
+fn tell(answer: Answer) -> Told
+    ensures { λ r. ⌜ Tells answer r ⌝ }
+{
+    Told {
+        answer: seal(answer),
+        done: call_answers::succeeded(answer),
+    }
+}
+
 // Does the call ask by itself whether the state is open?
 fn asks_open(kind: Call) -> bool
     ensures { λ r. ⌜ r ≡ asksOpen kind ⌝ }
@@ -76,29 +93,119 @@ fn asks_open(kind: Call) -> bool
 }
 
 // May the call go through the door? The seam asks where the call does not.
-fn may_enter(kind: Call, d: Drive) -> bool
-    ensures { λ r. ⌜ r ≡ (asksOpen kind || isOpen d) ⌝ }
+fn may_enter(kind: Call, front: Front) -> bool
+    ensures { λ r. ⌜ ((held : List ℕ) → r ≡ (asksOpen kind || isOpen (joined front held))) ⌝ }
 {
     if asks_open(kind) {
         return true;
     }
-    d.is_open()
+    front.is_open()
 }
 
-// Lays the state back where a call may have changed it: one that succeeded, or that asks for no open state, as a log-in. Answers
-// whether the call succeeded.
-fn lay_back(kind: Call, answer: Answer, next: Drive, drive: &mut [u8]) -> bool
-    ensures { λ _. ⌜ now (drive .exit) ≡ laidBack kind answer next (now (drive .entry)) ⌝ }
-    ensures { λ r. ⌜ r ≡ succeeded answer ⌝ }
+// Logs the volume in anew with the drive's own geometry, whatever is lent beside it.
+fn log_in_anew(front: Front, drive: &mut [u8], volume: &[u8]) -> Answer
+    requires { ⌜ (isDrive (now drive) ≡ true) × (front ≡ frontOf (fields (now drive))) ⌝ }
+    ensures { λ r. ⌜
+        ((most n p : ℕ) (f b : List ℕ) → callOf n ≡ LogIn
+        → WayMost most n p (now (drive .entry)) (now (volume .entry)) f b r (now (drive .exit)) (now (volume .entry)) f b most)
+        ⌝ }
 {
-    let done = call_answers::succeeded(answer);
-    if done | !asks_open(kind) {
-        drive_bytes::encode(next, drive);
+    if !front.is_open() {
+        return Answer::Refused(Refusal::Closed);
     }
-    done
+    let reply = Drive::log_in(front.geometry, volume);
+    let next = reply.drive;
+    drive_bytes::encode(next, drive);
+    reply.answer
 }
 
-// Logs the volume in: the drive becomes the state that calls take, or 64 zero bytes where the log-in is refused.
+// Does a call that asks. Where it succeeds its front is laid back; the held blocks are as they were.
+fn ask(
+    kind: Call,
+    parameter: u8,
+    front: Front,
+    drive: &mut [u8],
+    volume: &[u8],
+    fcb: &mut [u8],
+    buffer: &mut [u8],
+) -> Answer
+    requires { ⌜ (isDrive (now drive) ≡ true) × (front ≡ frontOf (fields (now drive))) ⌝ }
+    ensures { λ r. ⌜
+        ((most n : ℕ) → kind ≡ callOf n → asks (wayOf kind) ≡ true
+        → WayMost most n parameter (now (drive .entry)) (now (volume .entry)) (now (fcb .entry)) (now (buffer .entry)) r
+        (now (drive .exit)) (now (volume .entry)) (now (fcb .exit)) (now (buffer .exit)) most)
+        ⌝ }
+{
+    if !may_enter(kind, front) {
+        return Answer::Refused(Refusal::Closed);
+    }
+    let reply = bdos::ask(kind, parameter, front, volume, fcb, buffer);
+    let answer = reply.answer;
+    let next = reply.front;
+    if call_answers::succeeded(answer) {
+        drive_bytes::lay_front(drive, next);
+    }
+    answer
+}
+
+// Does a call that changes the volume, as long as a store is left. Where it succeeds the held blocks are laid back; the front is as
+// it was.
+fn change(
+    kind: Call,
+    parameter: u8,
+    front: Front,
+    drive: &mut [u8],
+    volume: &mut [u8],
+    fcb: &mut [u8],
+    buffer: &[u8],
+    left: &mut usize,
+) -> Answer
+    requires { ⌜ (isDrive (now drive) ≡ true) × (front ≡ frontOf (fields (now drive))) ⌝ }
+    ensures { λ r. ⌜
+        ((n : ℕ) → kind ≡ callOf n → changes (wayOf kind) ≡ true
+        → WayMost (now (left .entry)) n parameter (now (drive .entry)) (now (volume .entry)) (now (fcb .entry))
+        (now (buffer .entry)) r (now (drive .exit)) (now (volume .exit)) (now (fcb .exit)) (now (buffer .entry))
+        (now (left .exit)))
+        ⌝ }
+{
+    let mut held = [0u64; WORDS];
+    drive_bytes::load_words(drive, &mut held);
+    let reply = bdos::change(kind, parameter, front, &mut held, volume, fcb, buffer, left);
+    let answer = reply.answer;
+    if call_answers::succeeded(answer) {
+        drive_bytes::lay_words(drive, &held);
+    }
+    answer
+}
+
+// Does the call over a drive's bytes, by its way through the door, as long as a store is left.
+fn call_of_kind(
+    kind: Call,
+    parameter: u8,
+    front: Front,
+    drive: &mut [u8],
+    volume: &mut [u8],
+    fcb: &mut [u8],
+    buffer: &mut [u8],
+    left: &mut usize,
+) -> Answer
+    requires { ⌜ (isDrive (now drive) ≡ true) × (front ≡ frontOf (fields (now drive))) ⌝ }
+    ensures { λ r. ⌜
+        ((n : ℕ) → kind ≡ callOf n
+        → WayMost (now (left .entry)) n parameter (now (drive .entry)) (now (volume .entry)) (now (fcb .entry))
+        (now (buffer .entry)) r (now (drive .exit)) (now (volume .exit)) (now (fcb .exit)) (now (buffer .exit))
+        (now (left .exit)))
+        ⌝ }
+{
+    let way = bdos::way_of(kind);
+    match way {
+        Way::LogsIn => log_in_anew(front, drive, volume),
+        Way::Asks => ask(kind, parameter, front, drive, volume, fcb, buffer),
+        Way::Changes => change(kind, parameter, front, drive, volume, fcb, buffer, left),
+    }
+}
+
+// Logs the volume in: the drive becomes the state that calls take, or zero bytes where the log-in is refused.
 #[no_mangle]
 pub extern "C" fn churawel_log_in(
     block_bytes: u32,
@@ -112,14 +219,14 @@ pub extern "C" fn churawel_log_in(
         ≡ logInAtSeam (geometryOf «block_bytes» blocks «directory_blocks») (now (volume .entry)) (now (drive .entry))
         ⌝ }
 {
-    if drive.len() != DRIVE_BYTES {
-        return seal(Answer::Refused(Refusal::Closed));
-    }
     let g = Geometry {
         block_bytes: size(block_bytes),
         blocks: size(blocks),
         directory_blocks: size(directory_blocks),
     };
+    if drive.len() != drive_bytes::length_for(g.blocks) {
+        return seal(Answer::Refused(Refusal::Closed));
+    }
     let reply = Drive::log_in(g, volume);
     let next = reply.drive;
     drive_bytes::encode(next, drive);
@@ -128,7 +235,7 @@ pub extern "C" fn churawel_log_in(
 }
 
 // Does the call of this function's number over the drive's bytes as long as a store is left; a drive that counts as closed is
-// refused by 32. Calls ask that by themselves, and where one is refused the drive's bytes stay.
+// refused by 32. Where a call is refused the drive's bytes stay, unless it logs in.
 fn call_most(
     function: u8,
     parameter: u8,
@@ -143,24 +250,13 @@ fn call_most(
         (now (buffer .entry)) r (now (drive .exit)) (now (volume .exit)) (now (fcb .exit)) (now (buffer .exit)) (now (left .exit))
         ⌝ }
 {
-    let d = drive_bytes::decode(drive);
+    if !drive_bytes::is_drive(drive) {
+        return tell(Answer::Refused(Refusal::Closed));
+    }
+    let front = drive_bytes::fields(drive);
     let kind = call_served::call_of(function);
-    if !may_enter(kind, d) {
-        let answer = seal(Answer::Refused(Refusal::Closed));
-        return Told {
-            answer,
-            done: false,
-        };
-    }
-    let g = d.geometry;
-    let reply = bdos::serve(g, kind, parameter, d, volume, fcb, buffer, left);
-    let next = reply.drive;
-    let answer = reply.answer;
-    let done = lay_back(kind, answer, next, drive);
-    Told {
-        answer: seal(answer),
-        done,
-    }
+    let answer = call_of_kind(kind, parameter, front, drive, volume, fcb, buffer, left);
+    tell(answer)
 }
 
 // Does the call of this function's number over the drive's bytes.
@@ -200,10 +296,10 @@ pub extern "C" fn churawel_cut(
         ≡ cutAtSeam most function parameter (now (drive .entry)) (now (volume .entry)) (now (fcb .entry)) (now (buffer .entry))
         ⌝ }
 {
-    if drive.len() != DRIVE_BYTES {
+    if !drive_bytes::has_length(drive) {
         return seal(Answer::Refused(Refusal::Closed));
     }
-    let d = drive_bytes::decode(drive);
+    let d = drive_bytes::front(drive);
     if !d.is_open() {
         lists::fill(drive, 0);
         return seal(Answer::Refused(Refusal::Closed));
@@ -249,7 +345,7 @@ pub extern "C" fn churawel_file(drive: &[u8], volume: &[u8], from: u32, file: &m
         ≡ fileAtSeam (now (drive .entry)) (now (volume .entry)) from (now (file .entry))
         ⌝ }
 {
-    let d = drive_bytes::decode(drive);
+    let d = drive_bytes::front(drive);
     if !d.is_open() {
         return seal(Answer::Refused(Refusal::Closed));
     }

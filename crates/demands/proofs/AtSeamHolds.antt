@@ -8,7 +8,7 @@ use Prim.Native.Nat.{ℕ, _<_}
 use lib.ListN.{length}
 use borrow.Author.Tests.{eq-eqb}
 use Rattle.disk_geometry.specs.declared.Geometry.{Geometry}
-use Rattle.disk_geometry.specs.Geometry.{lawful, bytes, slots}
+use Rattle.disk_geometry.specs.Geometry.{lawful, bytes, slots, blocks}
 use Rattle.call_answers.specs.Answer.{succeeded}
 use Rattle.disk_rules.specs.GoodSlot.{lowestBad}
 use Rattle.filecalls.specs.declared.Drive.{Drive}
@@ -20,12 +20,12 @@ use Rattle.call_served.specs.declared.Call.the-variants.{LogIn}
 use Rattle.bdos.specs.Step.{does, step}
 use Rattle.call_served.specs.Asked.{Asked}
 use Rattle.call_served.specs.Calls.{callOf}
-use Rattle.drive_bytes.specs.Layout.{decoded}
+use Rattle.drive_bytes.specs.Layout.{driveBytes, decoded}
 use Rattle.drive_bytes.specs.RoundTrip.{Carried}
-use Rattle.drive_bytes.proofs.RoundTripHolds.{decode-encode}
+use Rattle.drive_bytes.proofs.LentLaws.{open-length}
 use Rattle.churawel.specs.Seam.{answered, Sealed, through, atSeam, logInAtSeam}
 use Rattle.churawel.proofs.LastingLaws.{Lasts}
-use Rattle.churawel.proofs.FaithfulHolds.{log-in-carried, log-in-opens, log-in-geometry, log-in-faithful, step-lasts, step-log-in, call-carried, call-geometry}
+use Rattle.churawel.proofs.FaithfulHolds.{log-in-carried, log-in-opens, log-in-geometry, log-in-faithful, step-lasts, step-log-in, step-back, call-carried, call-geometry}
 use Rattle.demands.specs.Run.{Seen, seen, answers, final, finalState}
 use Rattle.demands.specs.AtSeam.{SeenAtSeam, seenAtSeam, inNumbers, callAtSeam, succeededIn, answersAtSeam, finalAtSeam, driveAtSeam, touchedAtSeam, FromC, logsIn, volumeLeft, Runs, SeamRuns, Demand3AtSeam, AlwaysReady, whileOpen, SeamRunsOnAny}
 use Rattle.demands.specs.Demand3.{BytesLent, touches, touched}
@@ -51,32 +51,32 @@ record Same (g : Geometry) (c : Asked) (o : Sealed) (w : Outcome) : Type 0 where
   drive : Carry g (o .drive) (w .drive)
 
 -- a call from an open drive
-pub call-is-step : (c : Asked) (s v : List ℕ) → isOpen (decoded s) ≡ true → callAtSeam c s v ≡ through (step (decoded s .geometry) c (decoded s) v)
+pub call-is-step : (c : Asked) (s v : List ℕ) → isOpen (decoded s) ≡ true → callAtSeam c s v ≡ through s (step (decoded s .geometry) c (decoded s) v)
 unfolding atSeam
 call-is-step c s v o = rw o
 
 -- by the number C can tell whether it succeeded
-pub through-told : (g : Geometry) (c : Asked) (d : Drive) (v : List ℕ) → succeededIn c (through (step g c d v)) ≡ succeeded (step g c d v .answer)
-through-told g c d v = rw (low-half g c d v, high-half g c d v) (success-told g c d v)
+pub through-told : (s : List ℕ) (g : Geometry) (c : Asked) (d : Drive) (v : List ℕ) → succeededIn c (through s (step g c d v)) ≡ succeeded (step g c d v .answer)
+through-told s g c d v = rw (low-half g c d v, high-half g c d v) (success-told g c d v)
 
--- a call at the door, from an open state that is carried
-door-same : (c : Asked) → c .parameter < 256 → (d : Drive) (v : List ℕ) → Carried d → isOpen d ≡ true
-    → Same (d .geometry) c (through (step (d .geometry) c d v)) (step (d .geometry) c d v)
-door-same c small d v k o =
-    let next = call-carried d k o c small v in
+-- a call at the door, from an open state that is carried in bytes of its length
+door-same : (c : Asked) → c .parameter < 256 → (s : List ℕ) (d : Drive) (v : List ℕ) → length s ≡ driveBytes (blocks (d .geometry)) → Carried d → isOpen d ≡ true
+    → Same (d .geometry) c (through s (step (d .geometry) c d v)) (step (d .geometry) c d v)
+door-same c small s d v size k o =
     record {
-      succeeds = through-told (d .geometry) c d v;
+      succeeds = through-told s (d .geometry) c d v;
       sees = refl;
       volume = refl;
-      drive = record { read = decode-encode _ next; carried = next; own = call-geometry d c v };
+      drive = record { read = step-back d k o c small v s size; carried = call-carried d k o c small v; own = call-geometry d c v };
     }
 
 module _ (g : Geometry) (c : Asked) (small : c .parameter < 256) (s : List ℕ) (d : Drive) (v : List ℕ) (k : Carry g s d) where
   open-same : isOpen d ≡ true → Same g c (callAtSeam c s v) (whileOpen (step g) c d v)
   unfolding atSeam whileOpen
   open-same o =
+      let size : length s ≡ driveBytes (blocks (d .geometry)) = rw (k .read) at (open-length s (ap isOpen (k .read) ∙ o)) in
       rw (k .read, o)
-      (subst (λ (x : Geometry). Same x c (through (step (d .geometry) c d v)) (step x c d v)) (k .own o) (door-same c small d v (k .carried) o))
+      (subst (λ (x : Geometry). Same x c (through s (step (d .geometry) c d v)) (step x c d v)) (k .own o) (door-same c small s d v size (k .carried) o))
 
   closed-same : isOpen d ≡ false → Same g c (callAtSeam c s v) (whileOpen (step g) c d v)
   unfolding atSeam whileOpen
@@ -110,7 +110,7 @@ same-run g s d v (c ∷ cs) small k =
     }
 
 -- ---- log-in first
-log-in-carry : (g : Geometry) (v s : List ℕ) → length s ≡ 64 → Carry g (logInAtSeam g v s .drive) (logIn g v .drive)
+log-in-carry : (g : Geometry) (v s : List ℕ) → length s ≡ driveBytes (blocks g) → Carry g (logInAtSeam g v s .drive) (logIn g v .drive)
 log-in-carry g v s e = record { read = log-in-faithful g v s e; carried = log-in-carried g v; own = log-in-geometry g v }
 
 pub seam-runs-on-any : SeamRunsOnAny
@@ -118,7 +118,7 @@ unfolding logInAtSeam step does callOf
 seam-runs-on-any g v s e cs small =
     let run = same-run g (logInAtSeam g v s .drive) (logIn g v .drive) v cs small (log-in-carry g v s e) in
     record {
-      shows = ap₂ {C = List SeenAtSeam} (λ a l. a ∷ l) (rw (eq-eqb (length s) 64 e)) (run .sees);
+      shows = ap₂ {C = List SeenAtSeam} (λ a l. a ∷ l) (rw (eq-eqb (length s) (driveBytes (blocks g)) e)) (run .sees);
       volume-is = run .volume;
       state-is = run .drive;
       touches-are = run .files;
@@ -166,7 +166,7 @@ stays-open g d v (c ∷ cs) same l k small =
     }
 
 -- a run at the seam and at the door, on a volume that passes inspection
-module _ (g : Geometry) (law : lawful g ≡ true) (v : List ℕ) (size : length v ≡ bytes g) (ok : lowestBad g v ≡ slots g) (s : List ℕ) (e : length s ≡ 64)
+module _ (g : Geometry) (law : lawful g ≡ true) (v : List ℕ) (size : length v ≡ bytes g) (ok : lowestBad g v ≡ slots g) (s : List ℕ) (e : length s ≡ driveBytes (blocks g))
     (cs : List Asked) (small : FromC cs) where
   after-log-in : StaysOpen g (logIn g v .drive) v cs
   after-log-in =
@@ -200,9 +200,9 @@ pub bytes-lent : (cs : List Asked) → FromC cs → BytesLent cs
 bytes-lent [] small = tt
 bytes-lent (c ∷ cs) small = (small .1, bytes-lent cs (small .2))
 
-pub log-in-answer : (g : Geometry) (v s : List ℕ) → length s ≡ 64 → logInAtSeam g v s .answer ≡ answered (logIn g v .answer)
+pub log-in-answer : (g : Geometry) (v s : List ℕ) → length s ≡ driveBytes (blocks g) → logInAtSeam g v s .answer ≡ answered (logIn g v .answer)
 unfolding logInAtSeam
-log-in-answer g v s e = rw (eq-eqb (length s) 64 e)
+log-in-answer g v s e = rw (eq-eqb (length s) (driveBytes (blocks g)) e)
 
 -- log-in touches no file
 log-in-touches : (g : Geometry) (v : List ℕ) (cs : List Asked) (u : ℕ) (name : List ℕ)

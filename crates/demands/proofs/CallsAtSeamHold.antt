@@ -7,9 +7,10 @@ use mathlib.Core.List.{List, [], _∷_}
 use Prim.Native.Nat.{ℕ, _/_, _%_, _<_}
 use native.Mathlib.Omega.{arith}
 use lib.Dec.{ltb}
-use lib.ListN.{length, replicate}
+use lib.ListN.{length}
 use borrow.Author.Tests.{ltb-true, lt-ltb}
 use Rattle.disk_geometry.specs.declared.Geometry.{Geometry}
+use Rattle.disk_geometry.specs.Geometry.{blocks}
 use Rattle.call_answers.specs.Answer.{numberOf, succeeded}
 use Rattle.filecalls.specs.declared.Drive.{Drive}
 use Rattle.filecalls.specs.Outcome.{Outcome}
@@ -18,9 +19,10 @@ use Rattle.call_served.specs.declared.Call.the-variants.{LogIn}
 use Rattle.bdos.specs.Step.{does, step}
 use Rattle.call_served.specs.Asked.{Asked, asked}
 use Rattle.call_served.specs.Calls.{callOf}
-use Rattle.drive_bytes.specs.Layout.{encoded, decoded}
-use Rattle.drive_bytes.proofs.RoundTripHolds.{decode-encode, read-carried, closed-is-zeros}
-use Rattle.churawel.specs.Seam.{answered, Sealed, sealed, through, atSeam, logInAtSeam}
+use Rattle.drive_bytes.specs.Layout.{driveBytes, decoded, encodedIn}
+use Rattle.drive_bytes.proofs.RoundTripHolds.{read-carried, closed-is-zeros}
+use Rattle.drive_bytes.proofs.LentLaws.{open-length}
+use Rattle.churawel.specs.Seam.{answered, Sealed, sealed, through, atSeam, logInAtSeam, zeros}
 use Rattle.churawel.proofs.LastingLaws.{Lasts}
 use Rattle.churawel.proofs.FaithfulHolds as faithful
 use Rattle.demands.specs.Demand1.{call}
@@ -34,11 +36,11 @@ use Rattle.demands.proofs.AtSeamHolds.{call-is-step, through-told, is-l
 
 -- ---- one call
 module _ (c : Asked) (s v : List ℕ) (opens : isOpen (decoded s) ≡ true) where
-  is : callAtSeam c s v ≡ through (behind c s v)
+  is : callAtSeam c s v ≡ through s (behind c s v)
   is = call-is-step c s v opens
 
   success : succeededIn c (callAtSeam c s v) ≡ succeeded (behind c s v .answer)
-  success = ap (succeededIn c) is ∙ through-told (decoded s .geometry) c (decoded s) v
+  success = ap (succeededIn c) is ∙ through-told s (decoded s .geometry) c (decoded s) v
 
 leaves-same : (c : Asked) (s v : List ℕ) → OpenDrive s → LeavesSame c s v
 leaves-same c s v o =
@@ -75,11 +77,11 @@ module _ (c : Asked) (s v : List ℕ) (o : OpenDrive s) where
       own-answer (faithful.refused-leaves-all (c .function) (c .parameter) s v (c .fcb) (c .buffer) (o .bytes-are) (o .opens) n (answers-as h))
 
   refused-log-in-closes : call c ≡ LogIn → succeededIn c (callAtSeam c s v) ≡ false
-      → callAtSeam c s v ≡ sealed (callAtSeam c s v .answer) (replicate 64 0) v (c .fcb) (c .buffer)
+      → callAtSeam c s v ≡ sealed (callAtSeam c s v .answer) (zeros s) v (c .fcb) (c .buffer)
   refused-log-in-closes e h =
       let k = demand1 .refused-log-in-closes (decoded s .geometry) c (decoded s) v e (answers-as h) in
-      let zeros = ap encoded (k .state-is) ∙ closed-is-zeros in
-      own-answer (is c s v (o .opens) ∙ (λ i. sealed (answered (behind c s v .answer)) (zeros i) (k .volume-kept i) (k .fcb-kept i) (k .buffer-kept i)))
+      let zeros-are = ap (λ (d : Drive). encodedIn d s) (k .state-is) ∙ closed-is-zeros s in
+      own-answer (is c s v (o .opens) ∙ (λ i. sealed (answered (behind c s v .answer)) (zeros-are i) (k .volume-kept i) (k .fcb-kept i) (k .buffer-kept i)))
 
 pub demand1-at-seam : Demand1AtSeam
 demand1-at-seam = record {
@@ -108,7 +110,8 @@ goes : (c : Asked) → call c ≢ LogIn → c .parameter < 256 → (s v : List �
 goes c other small s v l =
     let same = is c s v (l .opens) in
     let next : Lasts (behind c s v .drive) = ⊎-elim (λ e. absurd (other e)) (λ x. x) (faithful.step-lasts (decoded s) (l .carried) (l .opens) c small v) in
-    let back : decoded (callAtSeam c s v .drive) ≡ behind c s v .drive = ap (λ (x : Sealed). decoded (x .drive)) same ∙ decode-encode _ (next .carried) in
+    let back : decoded (callAtSeam c s v .drive) ≡ behind c s v .drive = ap (λ (x : Sealed). decoded (x .drive)) same
+    ∙ faithful.step-back (decoded s) (l .carried) (l .opens) c small v s (open-length s (l .opens)) in
     record {
       succeeds = success c s v (l .opens);
       state = back;
@@ -132,7 +135,7 @@ sequence-same g p small (r ∷ rs) s v f same l =
     (ap₂ _&&_ (k .succeeds) (rest .0 ∙ (λ i. allWrittenBy (step g) p rs (k .state i) (k .volume i) (k .fcb i))), rest .1 ∙ (λ i. volumeBy (step g) p rs (k .state i) (k .volume i) (k .fcb i)))
 
 -- ---- demand 2: log-in
-module _ (g : Geometry) (v s : List ℕ) (e : length s ≡ 64) where
+module _ (g : Geometry) (v s : List ℕ) (e : length s ≡ driveBytes (blocks g)) where
   abbrev log-in : Outcome
   log-in = step g logsIn closed v
 

@@ -83,9 +83,6 @@ module _ (g : Geometry) (held v : List ℕ) (u : ℕ) (name : List ℕ) (n : ℕ
   abbrev b : ℕ
   b = writeBlock g held v u name n
 
-  pub data-size : length w ≡ bytes g
-  data-size = only .length-same ∙ size
-
   pub data-sound : Orderly g (slotAt g w)
   data-sound = sound-less g (slotAt g v) (slotAt g w) sound (λ j j< l. only .slots-same j j<)
 

@@ -68,10 +68,10 @@ module _ (g : Geometry) (law : lawful g ≡ true) (v : List ℕ) (size : length 
   hit-live j q = user-live (slotAt g v j) (omega (arith, matched u pattern (slotAt g v j) q .user))
 
   pub delete-held : Held g h′ (slotAt g v′)
-  delete-held = record { four = freed g law v u u15 pattern h (held .four) .four; sound = sound-after; whole = whole-after }
+  delete-held = record { size = freed g law v u u15 pattern h (held .size) .words; sound = sound-after; whole = whole-after }
     where
       is : (b : ℕ) → g .«directory_blocks» ≤ b → b < g .blocks → holds h′ b ≡ (holds h b && not (anyFrom (matchNames g v u pattern b) 0 (slots g)))
-      is b low high = freed g law v u u15 pattern h (held .four) .inside-blocks b (is-inside g b low high)
+      is b low high = freed g law v u u15 pattern h (held .size) .inside-blocks b (is-inside g b low high)
 
       sound-after : (b : ℕ) → g .«directory_blocks» ≤ b → b < g .blocks → holds h′ b ≡ true → HeldBy g (slotAt g v′) b
       sound-after b low high t =

@@ -19,7 +19,7 @@ use Rattle.disk_geometry.specs.declared.Geometry.{Geometry}
 use Rattle.disk_geometry.specs.Geometry.{lawful, bytes, slots, inside, placeOf}
 use Rattle.disk_volume.specs.Name.{nameOf}
 use Rattle.disk_geometry.proofs.GeometryLaws.{bounds}
-use Rattle.disk_held.specs.Held.{digit, holds, isFree, freeCount}
+use Rattle.disk_held.specs.Held.{heldWords, digit, holds, isFree, freeCount}
 use Rattle.disk_held.proofs.WordsLaws.{length-words}
 use Rattle.call_answers.specs.declared.Refusal.the-variants.{Closed, VolumeLength, BadSlot, NoBlock}
 use Rattle.call_answers.specs.Refusal.{Test, test, refusalNumber, isNone, firstMet}
@@ -172,7 +172,7 @@ module _ (g : Geometry) (v : List ℕ) where
       holds-held g v b (omega (arith, bounds g l)) ∙ rw (le-leb (g .«directory_blocks») b low, lt-ltb b (g .blocks) high)
 
   -- no other: neither one outside D to T-1, nor one past the words
-  far : (b : ℕ) → 256 ≤ b → holds (heldOf g v) b ≡ false
+  far : (b : ℕ) → 4096 ≤ b → holds (heldOf g v) b ≡ false
   unfolding holds digit heldOf
   far b h =
       let z = List·getD-eq-default (heldOf g v) 0 {n = b / 64} (omega (arith, length-words (named g v))) in
@@ -180,7 +180,7 @@ module _ (g : Geometry) (v : List ℕ) where
 
   pub holds-inside : (b : ℕ) → holds (heldOf g v) b ≡ true → (g .«directory_blocks» ≤ b) × (b < g .blocks)
   unfolding named inside
-  holds-inside b h = elim (decLt b 256) [
+  holds-inside b h = elim (decLt b 4096) [
     | yes l ↦ parts (and-parts (leb (g .«directory_blocks») b && ltb b (g .blocks)) _ (sym (holds-held g v b l) ∙ h) .0)
     | no l ↦ absurd (false≢true (sym (far b (omega arith)) ∙ h))
   ]
@@ -203,12 +203,12 @@ module _ (g : Geometry) (v : List ℕ) where
       let i = inside-is g b (and-parts (inside g b) (namedBelow g v (slots g) b) q .0) in
       holds-held g v b (omega (arith, bounds g l .blocks-high, i .1)) ∙ q
 
-  four : length (heldOf g v) ≡ 4
+  size : length (heldOf g v) ≡ heldWords
   unfolding heldOf
-  four = length-words (named g v)
+  size = length-words (named g v)
 
   logged-in-sound : Accepted → Sound (loggedIn g (heldOf g v)) v
-  logged-in-sound a = record { inspected = a .all-good; words = four; holds-named = held-named (a .law) }
+  logged-in-sound a = record { inspected = a .all-good; words = size; holds-named = held-named (a .law) }
 
 -- log-in at the door
 at-door : (g : Geometry) (k : Call) (p : ℕ) (d : Drive) (v f b : List ℕ) → k ≡ LogIn → does g k p d v f b ≡ left (logIn g v) v f b

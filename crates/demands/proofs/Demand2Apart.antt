@@ -20,7 +20,7 @@ use Rattle.disk_volume.specs.Record.{recordSlot, recordBlock}
 use Rattle.disk_volume.proofs.DirectoryLaws.{slot-length}
 use Rattle.disk_volume.proofs.FindLaws.{found-fits}
 use Rattle.disk_geometry.proofs.GeometryLaws.{bounds, place-lt}
-use Rattle.disk_held.specs.Held.{holds, hold}
+use Rattle.disk_held.specs.Held.{room, heldWords, holds, hold}
 use Rattle.disk_held.proofs.HoldLaws.{length-hold, holds-hold-same, holds-hold-other}
 use Rattle.call_answers.specs.Refusal.{isNone, firstMet}
 use Rattle.disk_rules.specs.GoodSlot.{lowestBad}
@@ -34,7 +34,8 @@ use Rattle.call_entry.proofs.AllocLaws.{alloc-given}
 use Rattle.call_entry.proofs.GrowLaws.{written-other}
 use Rattle.call_decide.proofs.WriteLaws.{write-passed}
 use Rattle.disk_geometry.proofs.InsideLaws.{inside-is}
-use Rattle.demands.proofs.Demand2Entries.{file-used, like-no-block}
+use Rattle.demands.proofs.Demand2Entries.{file-used}
+use Rattle.demands.proofs.NewEntry.{like-block}
 
 -- a place of the map of an entry
 pub record At (g : Geometry) (v : List ℕ) (i p : ℕ) : Type 0 where
@@ -43,7 +44,7 @@ pub record At (g : Geometry) (v : List ℕ) (i p : ℕ) : Type 0 where
   pub place : p < places g
 
 pub record Apart (g : Geometry) (held v : List ℕ) : Type 0 where
-  pub four : length held ≡ 4
+  pub size : length held ≡ heldWords
   pub range : (i p : ℕ) → At g v i p → blockIn g (slotAt g v i) p ≢ 0
       → (g .«directory_blocks» ≤ blockIn g (slotAt g v i) p) × (blockIn g (slotAt g v i) p < g .blocks)
   pub once : (i p j q : ℕ) → At g v i p → At g v j q → blockIn g (slotAt g v i) p ≢ 0 → blockIn g (slotAt g v i) p ≡ blockIn g (slotAt g v j) q
@@ -51,10 +52,10 @@ pub record Apart (g : Geometry) (held v : List ℕ) : Type 0 where
   pub held-is : (i p : ℕ) → At g v i p → blockIn g (slotAt g v i) p ≢ 0 → holds held (blockIn g (slotAt g v i) p) ≡ true
 
 -- ---- an inspected directory
-pub inspected : (g : Geometry) (held v : List ℕ) → length held ≡ 4 → lowestBad g v ≡ slots g
+pub inspected : (g : Geometry) (held v : List ℕ) → length held ≡ heldWords → lowestBad g v ≡ slots g
     → ((b : ℕ) → named g v b ≡ true → holds held b ≡ true) → Apart g held v
-inspected g held v four ok h = record {
-  four = four;
+inspected g held v size ok h = record {
+  size = size;
   range = λ i p a n. inside-is g (blockIn g (slotAt g v i) p) (⊎-elim (λ z. absurd (n z)) (λ w. w) (good-entry g v ok i (a .slot) (a .used) .block p (a .place)));
   once = λ i p j q a b. one-place g v ok i p j q (record { slot = a .slot; used = a .used; place = a .place }) (record { slot = b .slot; used = b .used; place = b .place });
   held-is = λ i p a n. h (blockIn g (slotAt g v i) p) (place-named g v ok i p (record { slot = a .slot; used = a .used; place = a .place }) n);
@@ -93,14 +94,14 @@ module _ (g : Geometry) (held v : List ℕ) (u : ℕ) (name : List ℕ) (n : ℕ
   unfolding baseEntry
   new-entry e = rw e
 
-  new-blocks : hasGroup g v u name n ≡ false → (p : ℕ) → p < places g → blockIn g (baseEntry g v u name n) p ≡ 0
-  new-blocks e p h =
+  new-blocks : hasGroup g v u name n ≡ false → (p : ℕ) → blockIn g (baseEntry g v u name n) p ≡ 0
+  new-blocks e p =
       let f = write-passed g held v u name n passed .file in
-      rw (new-entry e) (like-no-block g (slotAt g v (findSlot g v u name File)) (slot-length g good v size (findSlot g v u name File) f) p h)
+      rw (new-entry e) (like-block (slotAt g v (findSlot g v u name File)) (slot-length g good v size (findSlot g v u name File) f) g p)
 
   new-needs : hasGroup g v u name n ≡ false → needsBlock g v u name n ≡ true
   unfolding needsBlock
-  new-needs e = eq-eqb (recordBlock g (baseEntry g v u name n) n) 0 (new-blocks e (placeOf g n) (place-lt g good n))
+  new-needs e = eq-eqb (recordBlock g (baseEntry g v u name n) n) 0 (new-blocks e (placeOf g n))
 
   pub has-group : needsBlock g v u name n ≡ false → Own
   has-group e = go (hasGroup g v u name n) refl
@@ -174,7 +175,7 @@ module _ (g : Geometry) (held v : List ℕ) (u : ℕ) (name : List ℕ) (n : ℕ
                     same = grown-same ∙ ap (λ (y : Entry). blockIn g y p) (o .entry-is) ∙ ap (λ (j : ℕ). before j p) (sym x);
                     other = λ z. k (z .1);
                   }
-              at-group false q = absurd (nz (grown-same ∙ new-blocks q p (at .place)))
+              at-group false q = absurd (nz (grown-same ∙ new-blocks q p))
 
           elsewhere : i ≢ writeSlot g v u name n → Kept i p
           elsewhere k =
@@ -197,21 +198,21 @@ module _ (g : Geometry) (held v : List ℕ) (u : ℕ) (name : List ℕ) (n : ℕ
       kept-apart i p nz k q = block-apart i p (k .at) (λ z. nz (k .same ∙ z)) (k .other) (sym (k .same) ∙ q)
 
       -- ---- the held blocks
-      still-four : length (heldAfter g held v u name n) ≡ 4
-      still-four = go (needsBlock g v u name n)
+      still-size : length (heldAfter g held v u name n) ≡ heldWords
+      still-size = go (needsBlock g v u name n)
         where
-          go : (t : Bool) → length (cond t (hold held (writeBlock g held v u name n)) held) ≡ 4
-          go true = length-hold held (writeBlock g held v u name n) ∙ a .four
-          go false = a .four
+          go : (t : Bool) → length (cond t (hold held (writeBlock g held v u name n)) held) ≡ heldWords
+          go true = length-hold held (writeBlock g held v u name n) ∙ a .size
+          go false = a .size
 
-      low : writeBlock g held v u name n < 256
-      low = omega (arith, bounds g good .blocks-high, write-passed g held v u name n passed .block-high)
+      low : writeBlock g held v u name n < room held
+      low = omega (arith, bounds g good .blocks-high, write-passed g held v u name n passed .block-high, a .size)
 
       now-held : holds (heldAfter g held v u name n) (writeBlock g held v u name n) ≡ true
       now-held = go (needsBlock g v u name n) refl
         where
           go : (t : Bool) → needsBlock g v u name n ≡ t → holds (cond t (hold held (writeBlock g held v u name n)) held) (writeBlock g held v u name n) ≡ true
-          go true e = holds-hold-same held (a .four) (writeBlock g held v u name n) low
+          go true e = holds-hold-same held (writeBlock g held v u name n) low
           go false e =
               let d = bounds g good .directory-low in
               let l = write-passed g held v u name n passed .block-low in
@@ -222,7 +223,7 @@ module _ (g : Geometry) (held v : List ℕ) (u : ℕ) (name : List ℕ) (n : ℕ
       still-held c k h = go (needsBlock g v u name n)
         where
           go : (t : Bool) → holds (cond t (hold held (writeBlock g held v u name n)) held) c ≡ true
-          go true = holds-hold-other held (a .four) (writeBlock g held v u name n) low c k ∙ h
+          go true = holds-hold-other held (writeBlock g held v u name n) low c k ∙ h
           go false = h
 
       -- ---- all stands apart
@@ -256,4 +257,4 @@ module _ (g : Geometry) (held v : List ℕ) (u : ℕ) (name : List ℕ) (n : ℕ
           kept k = still-held (now i p) (kept-apart i p nz k) (ap (holds held) (k .same) ∙ a .held-is i p (k .at) (λ z. nz (k .same ∙ z)))
 
       pub apart-after : Apart g (heldAfter g held v u name n) (written g held v u name n fills r)
-      apart-after = record { four = still-four; range = range-after; once = once-after; held-is = held-after }
+      apart-after = record { size = still-size; range = range-after; once = once-after; held-is = held-after }

@@ -1,25 +1,23 @@
 -- Facts of single entries and records that the laws of a write's neighbours use.
-use mathlib.Core.Path.{_≡_, sym, ap, _∙_}
+use mathlib.Core.Path.{_≡_, sym, _∙_}
 use mathlib.Core.Bool.{Bool, true, false, cond}
-use mathlib.Core.Logic.{_⊎_, inl, inr}
-use mathlib.Core.List.{List, _++_}
-use Prim.Native.Nat.{ℕ, _+_, _*_, _/_, _%_, _≤_, _<_, min, max}
+use mathlib.Core.List.{List}
+use Prim.Native.Nat.{ℕ, _+_, _/_, _%_, _≤_, _<_, min, max}
 use native.Mathlib.Decide.{ℕ-discrete, decLt}
 use native.Mathlib.Omega.{arith}
 use lib.Dec.{ltb, eqb}
-use lib.ListN.{length, replicate, set, getD-replicate}
-use lib.Seq.{getD-append-add, getD-set-same, getD-set-other}
+use lib.ListN.{length, set}
+use lib.Seq.{getD-set-same, getD-set-other}
 use borrow.Author.Tests.{eqb-true, ne-eqb}
-use Rattle.lists.specs.Bytes.{byte, part}
+use Rattle.lists.specs.Bytes.{byte}
 use Rattle.lists.proofs.BoolLaws.{and-left}
-use Rattle.lists.proofs.PartLaws.{length-part}
 use Rattle.disk_geometry.specs.declared.Geometry.{Geometry}
-use Rattle.disk_geometry.specs.Geometry.{lawful, records, groupOf, placeOf, places}
+use Rattle.disk_geometry.specs.Geometry.{lawful, records, groupOf, placeOf}
 use Rattle.disk_volume.specs.Name.{nameOf, same}
-use Rattle.disk_volume.specs.Entry.{Entry, isEmpty, extent, blockIn, countOf, ofFile}
+use Rattle.disk_volume.specs.Entry.{Entry, isEmpty, extent, countOf, ofFile}
 use Rattle.disk_volume.proofs.EntryLaws.{count-above, count-own}
-use Rattle.disk_geometry.proofs.GeometryLaws.{bounds}
-use Rattle.call_entry.specs.Grown.{likeEntry, grown}
+use Rattle.disk_geometry.proofs.GeometryLaws.{record-number}
+use Rattle.call_entry.specs.Grown.{grown}
 use Rattle.call_entry.proofs.GrowLaws.{grown-own, grown-earlier, grown-full, grown-other}
 
 -- an entry of a user 0..15 is not an empty slot
@@ -28,14 +26,6 @@ unfolding ofFile
 file-used u name e l h =
     let q = eqb-true (byte e 0) u (and-left (eqb (byte e 0) u) (same (nameOf e) name) h) in
     ne-eqb (byte e 0) 229 (omega arith)
-
--- a new entry's map is empty
-pub like-no-block : (g : Geometry) (e : Entry) → length e ≡ 32 → (p : ℕ) → p < places g → blockIn g (likeEntry e) p ≡ 0
-unfolding likeEntry blockIn places
-like-no-block g e l p h =
-    let k = length-part e 0 12 (omega arith) in
-    let z : 16 + p ≡ length (part e 0 12) + (4 + p) = omega arith in
-    ap (byte (part e 0 12 ++ replicate 20 0)) z ∙ getD-append-add (part e 0 12) (replicate 20 0) (4 + p) 0 ∙ getD-replicate 20 (4 + p) 0 0 (omega arith)
 
 -- ---- counts
 count-le : (e : Entry) (x : ℕ) → countOf e x ≤ 128
@@ -64,15 +54,6 @@ count-grows e n x l = go (decLt (extent e) (n / 128)) (decLt x (n / 128)) (ℕ-d
         rw (grown-own e n b, count-own (set e 15 (max (byte e 15) (n % 128 + 1))) x own, rc, count-own e x (a ∙ sym b)) (omega arith)
 
 -- ---- a record is told by its group, its place and its number in the block
-whole : (b : ℕ) → (b ≡ 1024) ⊎ ((b ≡ 2048) ⊎ (b ≡ 4096)) → (m : ℕ)
-    → m / 128 / (b / 1024) * (128 * (b / 1024)) + m % (128 * (b / 1024)) / (b / 128) * (b / 128) + m % (b / 128) ≡ m
-whole b (inl e) m = rw e (omega arith)
-whole b (inr (inl e)) m = rw e (omega arith)
-whole b (inr (inr e)) m = rw e (omega arith)
-
 pub same-record : (g : Geometry) → lawful g ≡ true → (m n : ℕ) → groupOf g (m / 128) ≡ groupOf g (n / 128) → placeOf g m ≡ placeOf g n
     → m % records g ≡ n % records g → m ≡ n
-unfolding groupOf placeOf
-same-record g good m n x y z =
-    let sizes = bounds g good .block-sizes in
-    sym (whole (g .«block_bytes») sizes m) ∙ rw (x, y, z) (whole (g .«block_bytes») sizes n)
+same-record g good m n x y z = record-number g good m ∙ rw (x, y, z) (sym (record-number g good n))

@@ -13,7 +13,7 @@ use Rattle.call_answers.specs.Answer.{succeeded}
 use Rattle.disk_rules.specs.GoodSlot.{lowestBad}
 use Rattle.disk_rules.specs.Named.{heldOf}
 use Rattle.disk_rules.proofs.AcceptedLaws.{one-place}
-use Rattle.call_sweep.proofs.EditLaws.{or-false}
+use Rattle.lists.proofs.BoolLaws.{or-parts}
 use Rattle.filecalls.specs.declared.Drive.{Drive}
 use Rattle.filecalls.specs.State.{loggedIn}
 use Rattle.filecalls.specs.Outcome.{Outcome, withHeld}
@@ -66,9 +66,9 @@ runs g (c ∷ cs) d k v same s small =
     let k′ = plain (step g) c (withHeld d k) v .drive .held in
     let rest = runs g cs d′ k′ v′ (keeps .geometry ∙ same) (keeps .consistent) (small .1) in
     let here : (u : ℕ) (name : List ℕ) → u ≤ 15 → ((succeeded (step g c d v .answer) && touches c d u name) || touched (step g) cs d′ v′ u name) ≡ false → Leaves g v v′ u name
-    = λ u name u15 h. subst (λ (x : Geometry). Leaves x v v′ u name) same (keeps .others u name u15 (or-false (succeeded (step g c d v .answer) && touches c d u name) (touched (step g) cs d′ v′ u name) h .0)) in
+    = λ u name u15 h. subst (λ (x : Geometry). Leaves x v v′ u name) same (keeps .others u name u15 (or-parts (succeeded (step g c d v .answer) && touches c d u name) (touched (step g) cs d′ v′ u name) h .0)) in
     let later : (u : ℕ) (name : List ℕ) → ((succeeded (step g c d v .answer) && touches c d u name) || touched (step g) cs d′ v′ u name) ≡ false → touched (step g) cs d′ v′ u name ≡ false
-    = λ u name h. or-false (succeeded (step g c d v .answer) && touches c d u name) (touched (step g) cs d′ v′ u name) h .1 in
+    = λ u name h. or-parts (succeeded (step g c d v .answer) && touches c d u name) (touched (step g) cs d′ v′ u name) h .1 in
     record {
       answers-same = ap₂ {C = List Seen} (λ a l. a ∷ l) (seen-alike alike) (rest .answers-same ∙ ap₂ (answers (plain (step g)) cs) (sym (alike .drive)) (alike .volume));
       volume-same = rest .volume-same ∙ ap₂ (final (plain (step g)) cs) (sym (alike .drive)) (alike .volume);
@@ -111,7 +111,7 @@ demand3 g law v size ok login first cs small d e =
     let rest : (u : ℕ) (name : List ℕ)
     → ((succeeded (step g login d v .answer) && touches login d u name) || touched (step g) cs (step g login d v .drive) (step g login d v .volume) u name) ≡ false
     → touched (step g) cs (loggedIn g (heldOf g v)) v u name ≡ false
-    = λ u name h. (rw a at (or-false (succeeded (step g login d v .answer) && touches login d u name) (touched (step g) cs (step g login d v .drive) (step g login d v .volume) u name) h .1)) in
+    = λ u name h. (rw a at (or-parts (succeeded (step g login d v .answer) && touches login d u name) (touched (step g) cs (step g login d v .drive) (step g login d v .volume) u name) h .1)) in
     record {
       answers-same = rw (a, b) (ap {B = List Seen} (λ l. seen (ready g law v size ok login first) ∷ l) (r .answers-same));
       volume-same = rw (a, b) (r .volume-same);

@@ -4,7 +4,7 @@
 use mathlib.Core.Path.{_≡_, refl, sym, ap, _∙_}
 use mathlib.Core.Bool.{Bool, true, false, _&&_, true≢false}
 use mathlib.Core.List.{List}
-use Prim.Native.Nat.{ℕ, _+_, _≤_, _<_}
+use Prim.Native.Nat.{ℕ, _≤_, _<_}
 use native.Mathlib.Omega.{arith}
 use lib.Dec.{eqb}
 use lib.ListN.{length}
@@ -14,6 +14,7 @@ use Rattle.disk_geometry.specs.Geometry.{lawful, bytes, slots, groupOf}
 use Rattle.disk_volume.specs.Name.{nameOf, goodName, same}
 use Rattle.disk_volume.specs.Entry.{Entry, extent, blockIn, ofFile}
 use Rattle.disk_volume.specs.Directory.{slotAt}
+use Rattle.disk_volume.proofs.MapLaws.{block-same}
 use Rattle.disk_volume.proofs.DirectoryLaws.{slot-length}
 use Rattle.disk_rules.proofs.TwinLaws.{Twins}
 use Rattle.demands.proofs.Orderly.{InOrder, Orderly, Changed, Held, sound-changed, held-changed}
@@ -58,14 +59,13 @@ module _ (g : Geometry) (law : lawful g ≡ true) (v : List ℕ) (size : length 
   group-same : (j : ℕ) → After j → groupOf g (extent (slotAt g w j)) ≡ groupOf g (extent (slotAt g v j))
   group-same j a = rw (rest-same j a 12 (omega arith), rest-same j a 14 (omega arith))
 
-  block-same : (j : ℕ) → After j → (p : ℕ) → blockIn g (slotAt g w j) p ≡ blockIn g (slotAt g v j) p
-  unfolding blockIn
-  block-same j a p = rest-same j a (16 + p) (omega arith)
+  blocks-same : (j : ℕ) → After j → (p : ℕ) → blockIn g (slotAt g w j) p ≡ blockIn g (slotAt g v j) p
+  blocks-same j a = block-same g (slotAt g w j) (slotAt g v j) (λ k l. rest-same j a k (omega arith))
 
   changed : Changed g (slotAt g v) (slotAt g w)
   changed = record {
     empty = λ j j<. ap (λ (x : ℕ). eqb x 229) (user-same j (after j j<));
-    blocks = λ j p j< p<. block-same j (after j j<) p;
+    blocks = λ j p j< p<. blocks-same j (after j j<) p;
     order = λ j j< l k. order j k (after j j<);
     twins = λ i j i< j< li lj k. twins i j i< j< k (after i i<) (after j j<);
   }
@@ -85,8 +85,8 @@ module _ (g : Geometry) (law : lawful g ≡ true) (v : List ℕ) (size : length 
             };
             name = rw (r .name) good;
             top-bits = r .top-bits (k .top-bits);
-            range = λ p p< nz. let b = block-same j a p in rw b (k .range p p< (λ o. nz (b ∙ o)));
-            once = λ p q p< q< nz s. k .once p q p< q< (λ o. nz (block-same j a p ∙ o)) (sym (block-same j a p) ∙ s ∙ block-same j a q);
+            range = λ p p< nz. let b = blocks-same j a p in rw b (k .range p p< (λ o. nz (b ∙ o)));
+            once = λ p q p< q< nz s. k .once p q p< q< (λ o. nz (blocks-same j a p ∙ o)) (sym (blocks-same j a p) ∙ s ∙ blocks-same j a q);
           }
 
       twins : (i j : ℕ) → i < slots g → j < slots g → Twins g (slotAt g w i) (slotAt g w j) → After i → After j → Twins g (slotAt g v i) (slotAt g v j)

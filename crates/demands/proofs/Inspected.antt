@@ -87,7 +87,7 @@ module _ (g : Geometry) (v : List ℕ) where
 
   pub held-of : lawful g ≡ true → Held g (heldOf g v) (slotAt g v)
   held-of law = record {
-    four = words-held g v .four;
+    size = words-held g v .size;
     sound = λ b low high t. held-sound b (sym (holds-held g v b (omega (arith, bounds g law .blocks-high))) ∙ t);
     whole = λ b low high w. holds-held g v b (omega (arith, bounds g law .blocks-high)) ∙ held-whole b (is-inside g b low high) w;
   }

@@ -105,7 +105,7 @@ module _ (d : Drive) (v f : List ℕ) (c : Consistent d v) (r : Ready d v f) whe
 
   anew : HeldAnew g (d .held) (d .held) (slotAt g v) i e
   anew = record {
-    four = c .held .four;
+    size = c .held .size;
     live = live;
     stays = λ b h. h;
     only = λ b low high h. inl h;

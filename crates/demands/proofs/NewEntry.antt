@@ -4,7 +4,7 @@ use mathlib.Core.Path.{_≡_, refl, sym, ap, _∙_}
 use mathlib.Core.Logic.{_≢_}
 use mathlib.Core.Bool.{true, false}
 use mathlib.Core.List.{List, _∷_, _++_}
-use Prim.Native.Nat.{ℕ, zero, suc, _+_, _≤_, _<_}
+use Prim.Native.Nat.{ℕ, zero, suc, _+_, _-_, _≤_, _<_}
 use native.Mathlib.Omega.{arith}
 use lib.ListN.{length, take, drop, replicate, length-append}
 use lib.Seq.{take-at, getD-append-add, take-all}
@@ -14,6 +14,7 @@ use Rattle.disk_geometry.specs.declared.Geometry.{Geometry}
 use Rattle.disk_volume.specs.Name.{strip, nameAt, nameOf, goodName}
 use Rattle.disk_volume.specs.Entry.{Entry, blockIn}
 use Rattle.disk_volume.proofs.NameLaws.{length-strip, byte-strip, strip-strip}
+use Rattle.disk_volume.proofs.MapLaws.{block-zero}
 use Rattle.disk_rules.proofs.GoodLaws.{top-bits-good, good-top-bits}
 use Rattle.call_make.specs.Make.{freshEntry}
 use Rattle.call_entry.specs.Grown.{likeEntry}
@@ -41,10 +42,10 @@ module _ (l : List ℕ) (twelve : length l ≡ 12) where
   new-zero k = ap (λ (x : ℕ). byte (l ++ replicate 20 0) (x + k)) (sym twelve) ∙ getD-append-add l (replicate 20 0) k 0 ∙ byte-zeros 20 k
 
   new-block : (g : Geometry) (p : ℕ) → blockIn g (l ++ replicate 20 0) p ≡ 0
-  unfolding blockIn
-  new-block g p =
-      let z : 16 + p ≡ 12 + (4 + p) = omega arith in
-      rw z (new-zero (4 + p))
+  new-block g =
+      block-zero g (l ++ replicate 20 0) (λ k h.
+      let z : k ≡ 12 + (k - 12) = omega arith in
+      ap (byte (l ++ replicate 20 0)) z ∙ new-zero (k - 12))
 
   new-name : nameOf (l ++ replicate 20 0) ≡ nameOf l
   unfolding nameAt

@@ -13,7 +13,7 @@ use Rattle.disk_geometry.specs.declared.Geometry.{Geometry}
 use Rattle.disk_geometry.specs.Geometry.{slots, inside, places}
 use Rattle.disk_volume.specs.Name.{nameOf, goodName}
 use Rattle.disk_volume.specs.Entry.{Entry, isEmpty, blockIn}
-use Rattle.disk_held.specs.Held.{holds}
+use Rattle.disk_held.specs.Held.{heldWords, holds}
 use Rattle.disk_rules.specs.GoodSlot.{goodTopBits}
 use Rattle.disk_rules.proofs.GoodLaws.{Fields}
 use Rattle.disk_rules.proofs.TwinLaws.{Twins}
@@ -145,7 +145,7 @@ pub record HeldBy (g : Geometry) (d : Directory) (b : ℕ) : Type 0 where
 
 -- of the blocks from D to T-1, these words hold exactly those that entries name
 pub record Held (g : Geometry) (held : List ℕ) (d : Directory) : Type 0 where
-  pub four : length held ≡ 4
+  pub size : length held ≡ heldWords
   pub sound : (b : ℕ) → g .«directory_blocks» ≤ b → b < g .blocks → holds held b ≡ true → HeldBy g d b
   pub whole : (b : ℕ) → g .«directory_blocks» ≤ b → b < g .blocks → HeldBy g d b → holds held b ≡ true
 
@@ -160,7 +160,7 @@ held-agree g h k d x y b low high = go (holds h b) refl (holds k b) refl
 
 pub held-changed : (g : Geometry) (h : List ℕ) (d d′ : Directory) → Changed g d d′ → Held g h d → Held g h d′
 held-changed g h d d′ k x = record {
-  four = x .four;
+  size = x .size;
   sound = λ b low high t. forth b (x .sound b low high t);
   whole = λ b low high w. x .whole b low high (back b w);
 }
@@ -180,7 +180,7 @@ pub record InMap (g : Geometry) (e : Entry) (b : ℕ) : Type 0 where
 
 -- what the new words h′ owe to the old ones and to the new entry e of slot i
 pub record HeldAnew (g : Geometry) (h h′ : List ℕ) (d : Directory) (i : ℕ) (e : Entry) : Type 0 where
-  pub four : length h′ ≡ 4
+  pub size : length h′ ≡ heldWords
   pub live : Live e
   pub stays : (b : ℕ) → holds h b ≡ true → holds h′ b ≡ true
   pub only : (b : ℕ) → g .«directory_blocks» ≤ b → b < g .blocks → holds h′ b ≡ true → (holds h b ≡ true) ⊎ InMap g e b
@@ -188,7 +188,7 @@ pub record HeldAnew (g : Geometry) (h h′ : List ℕ) (d : Directory) (i : ℕ)
   pub holds-all : (p : ℕ) → p < places g → g .«directory_blocks» ≤ blockIn g e p → blockIn g e p < g .blocks → holds h′ (blockIn g e p) ≡ true
 
 pub held-laid : (g : Geometry) (h h′ : List ℕ) (d d′ : Directory) (i : ℕ) (e : Entry) → i < slots g → Held g h d → Laid g d d′ i e → HeldAnew g h h′ d i e → Held g h′ d′
-held-laid g h h′ d d′ i e i< held laid anew = record { four = anew .four; sound = sound; whole = whole }
+held-laid g h h′ d d′ i e i< held laid anew = record { size = anew .size; sound = sound; whole = whole }
   where
     at-i : (b : ℕ) → InMap g e b → HeldBy g d′ b
     at-i b m = record { slot = i; place = m .place; slot< = i<; place< = m .place<; live = rw (laid .here) (anew .live); is = rw (laid .here) (m .is) }

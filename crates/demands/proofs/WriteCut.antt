@@ -45,7 +45,7 @@ pub sound-of : (d : Drive) (v : List ℕ) → Consistent d v → Sound d v
 unfolding named
 sound-of d v s = record {
   inspected = sound-accepted (d .geometry) v (s .sound);
-  words = s .held .four;
+  words = s .held .size;
   holds-named = λ b e.
       let i = inside-is (d .geometry) b (and-left (inside (d .geometry) b) (namedBelow (d .geometry) v (slots (d .geometry)) b) e) in
       s .held .whole b (i .0) (i .1) (held-sound (d .geometry) v b e);

@@ -22,7 +22,7 @@ use Rattle.disk_volume.specs.Record.{recordSlot, recordBlock, recordAt}
 use Rattle.disk_volume.proofs.FindLaws.{found-fits, not-found}
 use Rattle.disk_geometry.proofs.GeometryLaws.{bounds, place-lt}
 use Rattle.disk_volume.proofs.DirectoryLaws.{slot-length}
-use Rattle.disk_held.specs.Held.{holds, hold}
+use Rattle.disk_held.specs.Held.{room, heldWords, holds, hold}
 use Rattle.disk_held.proofs.HoldLaws.{length-hold, holds-hold-same, holds-hold-other}
 use Rattle.call_answers.specs.Refusal.{isNone, firstMet}
 use Rattle.disk_rules.proofs.TwinLaws.{Twins}
@@ -120,8 +120,8 @@ module _ (g : Geometry) (law : lawful g ≡ true) (v : List ℕ) (size : length 
   high : b < g .blocks
   high = write-passed g h v u name n passed .block-high
 
-  below-256 : b < 256
-  below-256 = omega (arith, bounds g law .blocks-high, high)
+  has-bit : (h : List ℕ) → length h ≡ heldWords → b < room h
+  has-bit h size = omega (arith, bounds g law .blocks-high, high, size)
 
   some-directory : 1 ≤ g .«directory_blocks»
   some-directory = bounds g law .directory-low
@@ -272,7 +272,7 @@ module _ (g : Geometry) (law : lawful g ≡ true) (v : List ℕ) (size : length 
 
   anew-kept : blockIn g base at ≡ b → HeldAnew g h h (slotAt g v) i e
   anew-kept y = record {
-    four = held .four;
+    size = held .size;
     live = e-live;
     stays = λ c t. t;
     only = λ c lo hi t. inl t;
@@ -293,7 +293,7 @@ module _ (g : Geometry) (law : lawful g ≡ true) (v : List ℕ) (size : length 
 
   anew-taken : blockIn g base at ≡ 0 → HeldAnew g h (hold h b) (slotAt g v) i e
   anew-taken y = record {
-    four = length-hold h b ∙ held .four;
+    size = length-hold h b ∙ held .size;
     live = e-live;
     stays = stays;
     only = λ c lo hi t. only c t (ℕ-discrete c b);
@@ -305,12 +305,12 @@ module _ (g : Geometry) (law : lawful g ≡ true) (v : List ℕ) (size : length 
       stays c t = go (ℕ-discrete c b)
         where
           go : Dec (c ≡ b) → holds (hold h b) c ≡ true
-          go (yes z) = rw z (holds-hold-same h (held .four) b below-256)
-          go (no z) = holds-hold-other h (held .four) b below-256 c z ∙ t
+          go (yes z) = rw z (holds-hold-same h b (has-bit h (held .size)))
+          go (no z) = holds-hold-other h b (has-bit h (held .size)) c z ∙ t
 
       only : (c : ℕ) → holds (hold h b) c ≡ true → Dec (c ≡ b) → (holds h c ≡ true) ⊎ InMap g e c
       only c t (yes z) = inr (record { place = at; place< = place-lt g law n; is = here ∙ sym z })
-      only c t (no z) = inl (sym (holds-hold-other h (held .four) b below-256 c z) ∙ t)
+      only c t (no z) = inl (sym (holds-hold-other h b (has-bit h (held .size)) c z) ∙ t)
 
       keeps : (p : ℕ) → p < places g → Live (slotAt g v i) → g .«directory_blocks» ≤ blockIn g (slotAt g v i) p → Dec (p ≡ at) → From → InMap g e (blockIn g (slotAt g v i) p)
       keeps p p< l lo d (new em zs none) = absurd (true≢false (sym em ∙ l))
@@ -321,7 +321,7 @@ module _ (g : Geometry) (law : lawful g ≡ true) (v : List ℕ) (size : length 
 
       all : (p : ℕ) → p < places g → g .«directory_blocks» ≤ blockIn g e p → blockIn g e p < g .blocks → Dec (p ≡ at) → holds (hold h b) (blockIn g e p) ≡ true
       all p p< lo hi (no ne) = stays (blockIn g e p) (old-held p p< ne lo hi from)
-      all p p< lo hi (yes z) = let x : blockIn g e p ≡ b = ap (blockIn g e) z ∙ here in rw x (holds-hold-same h (held .four) b below-256)
+      all p p< lo hi (yes z) = let x : blockIn g e p ≡ b = ap (blockIn g e) z ∙ here in rw x (holds-hold-same h b (has-bit h (held .size)))
 
   anew : HeldAnew g h (heldAfter g h v u name n) (slotAt g v) i e
   anew = go block

@@ -8,14 +8,13 @@ use lib.ListN.{length, set, length-set}
 use lib.Seq.{getD-set-same, getD-set-other}
 use Rattle.lists.specs.Bytes.{byte}
 use Rattle.disk_geometry.specs.declared.Geometry.{Geometry}
-use Rattle.disk_geometry.specs.Geometry.{placeOf}
 use Rattle.disk_volume.specs.Name.{nameOf}
-use Rattle.disk_volume.specs.Entry.{Entry, extent, withBlock}
+use Rattle.disk_volume.specs.Entry.{Entry, extent}
 use Rattle.disk_rules.specs.GoodSlot.{goodTopBits}
 use Rattle.disk_rules.proofs.GoodLaws.{Fields, top-bits-good, good-top-bits}
 use Rattle.call_entry.specs.Grown.{grown, writtenEntry}
 use Rattle.call_entry.proofs.HeadLaws.{head-byte, head-name}
-use Rattle.call_entry.proofs.GrowLaws.{grown-later, grown-own, grown-earlier, byte-grown, head-written, length-written}
+use Rattle.call_entry.proofs.GrowLaws.{grown-later, grown-own, grown-earlier, byte-grown, byte-written, head-written, length-written}
 
 module _ (e : Entry) (n : ℕ) (e32 : length e ≡ 32) (n< : n < 65536) (f : Fields e) where
   grown-fields : Fields (grown e n)
@@ -54,13 +53,10 @@ module _ (e : Entry) (n : ℕ) (e32 : length e ≡ 32) (n< : n < 65536) (f : Fie
       go (no h) (no k) = own (omega arith)
 
   module _ (g : Geometry) (b : ℕ) where
-    below-map : (k : ℕ) → k < 16 → byte (writtenEntry g e n b) k ≡ byte (grown e n) k
-    unfolding writtenEntry withBlock
-    below-map k h = getD-set-other (grown e n) (16 + placeOf g n) k b 0 (omega arith)
-
     pub written-fields : Fields (writtenEntry g e n b)
     written-fields =
         let k = grown-fields in
+        let below-map = byte-written g e n b in
         record {
           user = omega (arith, below-map 0 (omega arith), k .user);
           ex = omega (arith, below-map 12 (omega arith), k .ex);

@@ -76,7 +76,7 @@ disk =
 
 -- the state after its log-in: block 1 is held
 abbrev pub ready : Drive
-ready = loggedIn small (2 ∷ 0 ∷ 0 ∷ 0 ∷ [])
+ready = loggedIn small (2 ∷ replicate 63 0)
 
 -- one in which block 1 stands in the entries of A and B
 abbrev shared : List ℕ

@@ -25,7 +25,7 @@ use Rattle.filecalls.specs.Outcome.{left}
 use Rattle.filecalls.specs.State.{isOpen, closed}
 use Rattle.bdos.specs.Step.{step}
 use Rattle.call_served.specs.Asked.{Asked, asked}
-use Rattle.drive_bytes.specs.Layout.{decoded}
+use Rattle.drive_bytes.specs.Layout.{driveBytes, decoded}
 use Rattle.churawel.specs.Seam.{answered, Sealed, atSeam, logInAtSeam}
 use Rattle.demands.specs.Run.{Seen, seen, Way, answers, final, finalState, plain}
 use Rattle.demands.specs.Order.{codesOf, isSeveral}
@@ -115,11 +115,11 @@ pub record Runs (way : Way) (g : Geometry) (v s : List ℕ) (cs : List Asked) : 
   pub state-is : decoded (driveLeft g v s cs) ≡ finalState way cs (step g logsIn closed v .drive) v
   pub touches-are : (u : ℕ) (name : List ℕ) → filesTouched g v s cs u name ≡ touched way cs (step g logsIn closed v .drive) v u name
 
--- any geometry within the rules, any volume of its length that passes inspection, 64 bytes for the drive, any calls
+-- any geometry within the rules, any volume of its length that passes inspection, a drive of the length that T asks, any calls
 abbrev pub OverSeamRuns : (Geometry → List ℕ → List ℕ → List Asked → Type 0) → Type 0
 OverSeamRuns Says =
     (g : Geometry) → lawful g ≡ true → (v : List ℕ) → length v ≡ bytes g → lowestBad g v ≡ slots g
-    → (s : List ℕ) → length s ≡ 64 → (cs : List Asked) → FromC cs → Says g v s cs
+    → (s : List ℕ) → length s ≡ driveBytes (blocks g) → (cs : List Asked) → FromC cs → Says g v s cs
 
 abbrev pub SeamRuns : Type 0
 SeamRuns = OverSeamRuns (λ g v s cs. Runs (step g) g v s cs)
@@ -130,7 +130,7 @@ SeamRuns = OverSeamRuns (λ g v s cs. Runs (step g) g v s cs)
 pub record KeptAtSeam (g : Geometry) (v s : List ℕ) (cs : List Asked) (e : Drive) : Type 0 where
   pub shows-plain : seenInRun g v s cs ≡ map inNumbers (answers (plain (step g)) (logsIn ∷ cs) e v)
   pub kept : Kept (step g) g v (logsIn ∷ cs) e (answers (step g) (logsIn ∷ cs) closed v) (volumeLeft g v s cs) (filesTouched g v s cs)
-  pub accepts-again : (t : List ℕ) → length t ≡ 64
+  pub accepts-again : (t : List ℕ) → length t ≡ driveBytes (blocks g)
       → logInAtSeam g (volumeLeft g v s cs) t .answer ≡ answered (Ready (freeCount (heldOf g (volumeLeft g v s cs)) (directoryBlocks g) (blocks g)))
 
 abbrev pub Demand3AtSeam : Type 0
@@ -152,4 +152,4 @@ unfoldable pub whileOpen : Way → Way
 whileOpen way c d v = cond (isOpen d) (way c d v) (left (record { answer = Refused Closed; drive = d }) v (c .fcb) (c .buffer))
 
 abbrev pub SeamRunsOnAny : Type 0
-SeamRunsOnAny = (g : Geometry) (v s : List ℕ) → length s ≡ 64 → (cs : List Asked) → FromC cs → Runs (whileOpen (step g)) g v s cs
+SeamRunsOnAny = (g : Geometry) (v s : List ℕ) → length s ≡ driveBytes (blocks g) → (cs : List Asked) → FromC cs → Runs (whileOpen (step g)) g v s cs

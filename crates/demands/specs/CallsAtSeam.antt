@@ -7,7 +7,7 @@ use mathlib.Core.Bool.{Bool, true, false, not, _&&_}
 use mathlib.Core.Logic.{_≢_}
 use mathlib.Core.List.{List, [], _∷_}
 use Prim.Native.Nat.{ℕ, _+_, _-_, _≤_, _<_}
-use lib.ListN.{length, getD, replicate}
+use lib.ListN.{length, getD}
 use Rattle.lists.specs.Bounded.{countFrom}
 use Rattle.disk_geometry.specs.declared.Geometry.{Geometry}
 use Rattle.disk_geometry.specs.Geometry.{lawful, bytes, slots, blocks, directoryBlocks}
@@ -23,8 +23,8 @@ use Rattle.filecalls.specs.State.{isOpen}
 use Rattle.call_served.specs.declared.Call.the-variants.{LogIn}
 use Rattle.bdos.specs.Step.{step}
 use Rattle.call_served.specs.Asked.{Asked, asked}
-use Rattle.drive_bytes.specs.Layout.{decoded}
-use Rattle.churawel.specs.Seam.{sealed, logInAtSeam}
+use Rattle.drive_bytes.specs.Layout.{driveBytes, decoded}
+use Rattle.churawel.specs.Seam.{sealed, logInAtSeam, zeros}
 use Rattle.demands.specs.Order.{numbersOf, refusalsOf, among, answersOf}
 use Rattle.demands.specs.Demand1.{call, tests}
 use Rattle.demands.specs.Demand2.{Writes, Reads, earlier, NoneFree, Sound, Present}
@@ -60,9 +60,9 @@ pub record Demand1AtSeam : Type 0 where
   -- "a refused call leaves volume, control block, buffer and state as given": the drive's bytes too
   pub refused-leaves-all : (c : Asked) (s v : List ℕ) → OpenDrive s → call c ≢ LogIn → succeededIn c (callAtSeam c s v) ≡ false
       → callAtSeam c s v ≡ sealed (callAtSeam c s v .answer) s v (c .fcb) (c .buffer)
-  -- "a refused log-in hands back the closed value": 64 zero bytes, as of a refused `churawel_log_in` (`RefusedLogInCloses`)
+  -- "a refused log-in hands back the closed value": zeros, as of a refused `churawel_log_in` (`RefusedLogInCloses`)
   pub refused-log-in-closes : (c : Asked) (s v : List ℕ) → OpenDrive s → call c ≡ LogIn → succeededIn c (callAtSeam c s v) ≡ false
-      → callAtSeam c s v ≡ sealed (callAtSeam c s v .answer) (replicate 64 0) v (c .fcb) (c .buffer)
+      → callAtSeam c s v ≡ sealed (callAtSeam c s v .answer) (zeros s) v (c .fcb) (c .buffer)
   -- "the answer is one of the paper's for that call"
   pub success-of-paper : (c : Asked) (s v : List ℕ) → OpenDrive s → succeededIn c (callAtSeam c s v) ≡ true
       → answersOf (call c) (numberIn (callAtSeam c s v)) ≡ true
@@ -118,16 +118,16 @@ pub record Demand2AtSeam : Type 0 where
       → allWrittenAtSeam p rs s v fcb ≡ true
       → (j : ℕ) → j < length rs → Present (decoded s) fcb (volumeWritten p rs s v fcb) (position fcb + j) (getD rs j [])
   -- "Log-in accepts exactly when all slots are good": it answers 0
-  pub accepts-good : (g : Geometry) (v s : List ℕ) → length s ≡ 64 → lawful g ≡ true → length v ≡ bytes g
+  pub accepts-good : (g : Geometry) (v s : List ℕ) → length s ≡ driveBytes (blocks g) → lawful g ≡ true → length v ≡ bytes g
       → ((i : ℕ) → i < slots g → goodSlot g v i ≡ true) → numberIn (logInAtSeam g v s) ≡ 0
-  pub accepted-is-good : (g : Geometry) (v s : List ℕ) → length s ≡ 64 → numberIn (logInAtSeam g v s) ≡ 0
+  pub accepted-is-good : (g : Geometry) (v s : List ℕ) → length s ≡ driveBytes (blocks g) → numberIn (logInAtSeam g v s) ≡ 0
       → (i : ℕ) → i < slots g → goodSlot g v i ≡ true
-  pub accepted-is-sound : (g : Geometry) (v s : List ℕ) → length s ≡ 64 → numberIn (logInAtSeam g v s) ≡ 0
+  pub accepted-is-sound : (g : Geometry) (v s : List ℕ) → length s ≡ driveBytes (blocks g) → numberIn (logInAtSeam g v s) ≡ 0
       → Sound (decoded (logInAtSeam g v s .drive)) v
   -- "log-in's count equals the number of free blocks", and "its held blocks are exactly those named by entries"
-  pub log-in-count : (g : Geometry) (v s : List ℕ) → length s ≡ 64 → numberIn (logInAtSeam g v s) ≡ 0
+  pub log-in-count : (g : Geometry) (v s : List ℕ) → length s ≡ driveBytes (blocks g) → numberIn (logInAtSeam g v s) ≡ 0
       → valueIn (logInAtSeam g v s) ≡ countFrom (λ b. not (namedBelow g v (slots g) b)) (directoryBlocks g) (blocks g - directoryBlocks g)
-  pub log-in-holds : (g : Geometry) (v s : List ℕ) → length s ≡ 64 → numberIn (logInAtSeam g v s) ≡ 0
+  pub log-in-holds : (g : Geometry) (v s : List ℕ) → length s ≡ driveBytes (blocks g) → numberIn (logInAtSeam g v s) ≡ 0
       → (b : ℕ) → directoryBlocks g ≤ b → b < blocks g → holds (decoded (logInAtSeam g v s .drive) .held) b ≡ namedBelow g v (slots g) b
-  pub log-in-holds-no-other : (g : Geometry) (v s : List ℕ) → length s ≡ 64 → numberIn (logInAtSeam g v s) ≡ 0
+  pub log-in-holds-no-other : (g : Geometry) (v s : List ℕ) → length s ≡ driveBytes (blocks g) → numberIn (logInAtSeam g v s) ≡ 0
       → (b : ℕ) → holds (decoded (logInAtSeam g v s .drive) .held) b ≡ true → (directoryBlocks g ≤ b) × (b < blocks g)

@@ -16,7 +16,7 @@ use Rattle.call_served.specs.Asked.{Asked}
 use Rattle.filecalls.specs.Stores.{refusedBy}
 use Rattle.bdos.specs.Step.{step}
 use Rattle.bdos.specs.Stores.{storesOf}
-use Rattle.drive_bytes.specs.Layout.{decoded}
+use Rattle.drive_bytes.specs.Layout.{driveBytes, decoded}
 use Rattle.churawel.specs.Seam.{answered, Sealed, sealed, zeros, logInAtSeam, cutAtSeam}
 use Rattle.demands.specs.AtSeam.{callAtSeam, volumeLeft, driveLeft, FromC, OverSeamRuns}
 use Rattle.demands.specs.Cuts.{CutAnywhere}
@@ -30,16 +30,16 @@ module _ (g : Geometry) (v s : List ℕ) (cs : List Asked) (c : Asked) where
   cutLeaves most = cutAtSeam most (c .function) (c .parameter) (driveLeft g v s cs) (volumeLeft g v s cs) (c .fcb) (c .buffer)
 
 pub record CutAtSeam (g : Geometry) (v s : List ℕ) (cs : List Asked) (c : Asked) : Type 0 where
-  -- the refusal's number and how many stores were made; the drive closed, the volume cut, all else as given
+  -- the refusal's number and how many stores were made; the drive closed, as long as it was lent, the volume cut, all else as given
   pub leaves : (most : ℕ) → cutLeaves g v s cs c most
       ≡ sealed (refusedBy (step g c (decoded (driveLeft g v s cs)) (volumeLeft g v s cs) .answer) + 65536 * min most (length (storesAtSeam g v s cs c)))
-      zeros (cut g (volumeLeft g v s cs) most (storesAtSeam g v s cs c)) (c .fcb) (c .buffer)
+      (zeros s) (cut g (volumeLeft g v s cs) most (storesAtSeam g v s cs c)) (c .fcb) (c .buffer)
   -- all that is said of such a cut at the door
   pub anywhere : CutAnywhere storesOf g c (decoded (driveLeft g v s cs)) (volumeLeft g v s cs)
   -- "the call is that function with enough of them"
   pub enough : (most : ℕ) → length (storesAtSeam g v s cs c) ≤ most
       → cutLeaves g v s cs c most .volume ≡ callAtSeam c (driveLeft g v s cs) (volumeLeft g v s cs) .volume
-  pub accepts-cut : (most : ℕ) (t : List ℕ) → length t ≡ 64
+  pub accepts-cut : (most : ℕ) (t : List ℕ) → length t ≡ driveBytes (blocks g)
       → logInAtSeam g (cutLeaves g v s cs c most .volume) t .answer
       ≡ answered (Ready (freeCount (heldOf g (cutLeaves g v s cs c most .volume)) (directoryBlocks g) (blocks g)))
 

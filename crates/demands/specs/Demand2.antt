@@ -16,7 +16,7 @@ use Rattle.disk_geometry.specs.Geometry.{lawful, bytes, slots, blocks, director
 use Rattle.disk_volume.specs.Name.{nameOf}
 use Rattle.disk_volume.specs.Record.{present}
 use Rattle.call_fcb.specs.Fcb.{position, random}
-use Rattle.disk_held.specs.Held.{holds}
+use Rattle.disk_held.specs.Held.{heldWords, holds}
 use Rattle.call_answers.specs.Refusal.{Test, isNone, firstMet}
 use Rattle.call_answers.specs.Answer.{numberOf, valueOf, succeeded}
 use Rattle.disk_rules.specs.GoodSlot.{namedBelow, goodSlot, lowestBad}
@@ -64,7 +64,7 @@ NoneFree d = (b : ℕ) → directoryBlocks (d .geometry) ≤ b → b < blocks (d
 -- demand 3 says that it stays so
 pub record Sound (d : Drive) (v : List ℕ) : Type 0 where
   pub inspected : lowestBad (d .geometry) v ≡ slots (d .geometry)
-  pub words : length (d .held) ≡ 4
+  pub words : length (d .held) ≡ heldWords
   pub holds-named : (b : ℕ) → named (d .geometry) v b ≡ true → holds (d .held) b ≡ true
 
 -- record n of the file that a call means is present with the bytes r

@@ -16,7 +16,7 @@ use Rattle.disk_volume.specs.Name.{strip, nameAt, same, goodName}
 use Rattle.call_typing.specs.Typing.{typeableByte, blankBefore, typeable}
 use Rattle.disk_volume.specs.Entry.{Entry, blockIn, ofFile, ofGroup}
 use Rattle.disk_volume.specs.Directory.{slotAt, putSlot, findSlot, mapSlot}
-use Rattle.disk_held.specs.Held.{digit, holds, wordOf, wordsOf, freeCount}
+use Rattle.disk_held.specs.Held.{digit, holds, wordOf, wordsOf, noneHeld, freeCount}
 use Rattle.call_answers.specs.declared.Answer.the-variants.{Done, Ready}
 use Rattle.call_answers.specs.Refusal.{firstMet}
 use Rattle.disk_rules.specs.GoodSlot.{goodFields, goodTopBits, inPlaces, namesBlock, namedBelow, goodPlace, seenBelow, goodSlot, lowestBad}
@@ -37,7 +37,7 @@ abbrev pub geometryV : Geometry
 geometryV = geometryOf 1024 40 1
 
 abbrev pub stateV : Drive
-stateV = loggedIn geometryV (62 ∷ 0 ∷ 0 ∷ 0 ∷ [])
+stateV = loggedIn geometryV (62 ∷ replicate 63 0)
 
 -- SIGLA.TXT, SIGLA.$$$, LESARTEN.BAK; and LEMMATA.TXT
 abbrev pub draft : List ℕ
@@ -154,7 +154,7 @@ on-v = record { there-is = refl; on-is = refl; direct-is = refl; back-is = refl 
 -- ---- an altered volume: B 1,024, T 2, D 1, and an entry with a top bit on byte 1. All is met but inspection, and renaming
 -- there and back takes the top bit off: so the second half of the request can't do without inspection
 abbrev pub stateAltered : Drive
-stateAltered = loggedIn (geometryOf 1024 2 1) (0 ∷ 0 ∷ 0 ∷ 0 ∷ [])
+stateAltered = loggedIn (geometryOf 1024 2 1) noneHeld
 
 abbrev pub volumeAltered : Entry → List ℕ
 volumeAltered e = e ++ (replicate 992 0xE5 ++ replicate 1024 7)

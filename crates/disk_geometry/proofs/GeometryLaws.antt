@@ -1,18 +1,33 @@
 -- What a lawful geometry's sizes are, and where its records and slots lie: inside the volume, and apart from each other.
 -- Only `start-in` and `start-apart` know how records lie. Of two things apart the first lies before the second, or behind it.
 use mathlib.Core.Path.{_≡_, refl, sym, ap, _∙_}
-use mathlib.Core.Bool.{Bool, true, false, _||_}
+use mathlib.Core.Bool.{Bool, true, false, _&&_, _||_, false≢true, true≢false}
 use mathlib.Core.Logic.{_⊎_, inl, inr, ⊎-elim, _≢_}
-use Prim.Native.Nat.{ℕ, suc, _+_, _*_, _/_, _%_, _≤_, _<_}
+use Prim.Native.Nat.{ℕ, suc, _+_, _*_, _/_, _%_, _^_, _≤_, _<_}
 use native.Mathlib.Decide.{ℕ-discrete}
 use native.Mathlib.Nat.{mul-comm, mul-le-mul, mul-le-mul-right, mod-lt, div-lt-iff-lt-mul, div-add-mod', div-div-eq-div-mul}
 use native.Mathlib.Omega.{arith}
 use lib.Arith.{digits-lt, digits-div, mod-mul}
-use lib.Dec.{ltb}
-use borrow.Author.Tests.{leb-true, ltb-true, ltb-false, eqb-true}
+use lib.Dec.{leb, ltb}
+use borrow.Author.Tests.{leb-true, ltb-true, ltb-false, le-ltb, eqb-true}
 use Rattle.lists.proofs.BoolLaws.{and-parts}
 use Rattle.disk_geometry.specs.declared.Geometry.{Geometry}
-use Rattle.disk_geometry.specs.Geometry.{lawful, bytes, records, extents, start, slots, slotStart, recordStart, groupOf, placeOf, places}
+use Rattle.disk_geometry.specs.Geometry.{lawful, bytes, numberBytes, records, extents, start, slots, slotStart, recordStart, groupOf, placeOf, places}
+
+-- ---- the map of an entry, of any geometry: its numbers take one byte or two, and fill it
+pub record MapSizes (g : Geometry) : Type 0 where
+  pub some-bytes : 1 ≤ numberBytes g
+  pub few-bytes : numberBytes g ≤ 2
+  pub full : places g * numberBytes g ≡ 16
+  pub places-high : places g ≤ 16
+
+pub map-sizes : (g : Geometry) → MapSizes g
+unfolding places
+map-sizes g = go (leb (g .blocks) 256) refl
+  where
+    go : (t : Bool) → leb (g .blocks) 256 ≡ t → MapSizes g
+    go true q = record { some-bytes = rw q (omega arith); few-bytes = rw q (omega arith); full = rw q; places-high = rw q (omega arith) }
+    go false q = record { some-bytes = rw q (omega arith); few-bytes = rw q (omega arith); full = rw q; places-high = rw q (omega arith) }
 
 -- ---- the sizes
 pub record Bounds (g : Geometry) : Type 0 where
@@ -20,32 +35,79 @@ pub record Bounds (g : Geometry) : Type 0 where
   pub block-low : 1024 ≤ g .«block_bytes»
   pub block-high : g .«block_bytes» ≤ 4096
   pub blocks-low : 2 ≤ g .blocks
-  pub blocks-high : g .blocks ≤ 256
+  pub blocks-high : g .blocks ≤ 4096
   pub directory-low : 1 ≤ g .«directory_blocks»
   pub directory-high : g .«directory_blocks» ≤ 16
   pub directory-below : g .«directory_blocks» < g .blocks
   pub block-records : records g * 128 ≡ g .«block_bytes»
-  pub block-extents : records g ≡ 8 * extents g
+  pub number-fits : g .blocks ≤ 256 ^ numberBytes g
   pub some-records : 0 < records g
   pub some-extents : 0 < extents g
+  pub few-extents : extents g ≤ 4
   pub entry-records : places g * records g ≡ 128 * extents g
-  pub whole : g .blocks * g .«block_bytes» ≤ 1048576
+  pub whole : g .blocks * g .«block_bytes» ≤ 8388608
   pub part : g .«directory_blocks» * g .«block_bytes» ≤ g .blocks * g .«block_bytes»
   pub whole-records : g .blocks * g .«block_bytes» ≡ g .blocks * records g * 128
   pub part-records : g .«directory_blocks» * records g ≤ g .blocks * records g
   pub slots-bytes : slots g * 32 ≡ g .«directory_blocks» * g .«block_bytes»
   pub slots-high : slots g ≤ 2048
 
--- each of the three block sizes is a number of extents
-in-extents : (b : ℕ) → (b ≡ 1024) ⊎ ((b ≡ 2048) ⊎ (b ≡ 4096)) → (b ≡ 1024 * (b / 1024)) × ((1024 ≤ b) × (b ≤ 4096))
-in-extents b (inl e) = (omega arith, (omega arith, omega arith))
-in-extents b (inr (inl e)) = (omega arith, (omega arith, omega arith))
-in-extents b (inr (inr e)) = (omega arith, (omega arith, omega arith))
+-- each of the three block sizes is a number of records
+in-records : (b : ℕ) → (b ≡ 1024) ⊎ ((b ≡ 2048) ⊎ (b ≡ 4096)) → (b / 128 * 128 ≡ b) × ((1024 ≤ b) × (b ≤ 4096))
+in-records b (inl e) = (omega arith, (omega arith, omega arith))
+in-records b (inr (inl e)) = (omega arith, (omega arith, omega arith))
+in-records b (inr (inr e)) = (omega arith, (omega arith, omega arith))
 
 one-of-three : (a b c : Bool) {x y z : Type 0} → (a ≡ true → x) → (b ≡ true → y) → (c ≡ true → z) → (a || b || c) ≡ true → x ⊎ (y ⊎ z)
 one-of-three true b c f g h e = inl (f refl)
 one-of-three false true c f g h e = inr (inl (g refl))
 one-of-three false false c f g h e = inr (inr (h e))
+
+-- what numbers of w bytes give an entry, for blocks of b bytes of which there are t
+record Entries (t b w : ℕ) : Type 0 where
+  fits : t ≤ 256 ^ w
+  some : 0 < b / (1024 * w)
+  few : b / (1024 * w) ≤ 4
+  filled : 16 / w * (b / 128) ≡ 128 * (b / (1024 * w))
+
+one-byte : (t b : ℕ) → (b ≡ 1024) ⊎ ((b ≡ 2048) ⊎ (b ≡ 4096)) → t ≤ 256 → Entries t b 1
+one-byte t b sizes low =
+    let k = in-records b sizes in
+    record { fits = low; some = omega arith; few = omega arith; filled = filled sizes }
+  where
+    filled : (b ≡ 1024) ⊎ ((b ≡ 2048) ⊎ (b ≡ 4096)) → 16 * (b / 128) ≡ 128 * (b / 1024)
+    filled (inl e) = omega arith
+    filled (inr (inl e)) = omega arith
+    filled (inr (inr e)) = omega arith
+
+two-bytes : (t b : ℕ) → (b ≡ 1024) ⊎ ((b ≡ 2048) ⊎ (b ≡ 4096)) → t ≤ 4096 → 2048 ≤ b → Entries t b 2
+two-bytes t b sizes low wide =
+    let k = in-records b sizes in
+    record { fits = omega arith; some = omega arith; few = omega arith; filled = filled sizes }
+  where
+    filled : (b ≡ 1024) ⊎ ((b ≡ 2048) ⊎ (b ≡ 4096)) → 8 * (b / 128) ≡ 128 * (b / 2048)
+    filled (inl e) = absurd (omega arith)
+    filled (inr (inl e)) = omega arith
+    filled (inr (inr e)) = omega arith
+
+-- the two kinds of volume: up to T 256, and above
+record Sized (g : Geometry) : Type 0 where
+  high : g .blocks ≤ 4096
+  whole : g .blocks * g .«block_bytes» ≤ 8388608
+  entries : Entries (g .blocks) (g .«block_bytes») (numberBytes g)
+
+sized : (g : Geometry) → (g .«block_bytes» ≡ 1024) ⊎ ((g .«block_bytes» ≡ 2048) ⊎ (g .«block_bytes» ≡ 4096))
+    → leb (g .blocks) 256 || (leb (g .blocks) 4096 && leb 2048 (g .«block_bytes») && leb (bytes g) 8388608) ≡ true → Sized g
+sized g sizes e = go (leb (g .blocks) 256) refl e
+  where
+    go : (t : Bool) → leb (g .blocks) 256 ≡ t → t || (leb (g .blocks) 4096 && leb 2048 (g .«block_bytes») && leb (bytes g) 8388608) ≡ true → Sized g
+    go true q f =
+        let low : g .blocks ≤ 256 = leb-true _ _ q in
+        record { high = omega arith; whole = omega (arith, mul-le-mul low (in-records (g .«block_bytes») sizes .1 .1)); entries = rw q (one-byte _ _ sizes low) }
+    go false q f =
+        let p = and-parts _ _ f in
+        let r = and-parts _ _ (p .0) in
+        record { high = leb-true _ _ (r .0); whole = leb-true _ _ (p .1); entries = rw q (two-bytes _ _ sizes (leb-true _ _ (r .0)) (leb-true _ _ (r .1))) }
 
 pub bounds : (g : Geometry) → lawful g ≡ true → Bounds g
 unfolding lawful places
@@ -56,10 +118,10 @@ bounds g e =
     let p₄ = and-parts _ _ (p₃ .0) in
     let p₅ = and-parts _ _ (p₄ .0) in
     let three = one-of-three _ _ _ (eqb-true (g .«block_bytes») 1024) (eqb-true (g .«block_bytes») 2048) (eqb-true (g .«block_bytes») 4096) (p₅ .0) in
-    let s = in-extents (g .«block_bytes») three in
-    let r : g .«block_bytes» / 128 * 128 ≡ g .«block_bytes» = omega arith in
+    let s = in-records (g .«block_bytes») three in
+    let k = sized g three (p₄ .1) in
+    let r : g .«block_bytes» / 128 * 128 ≡ g .«block_bytes» = s .0 in
     let lt : g .«directory_blocks» < g .blocks = ltb-true _ _ (p₁ .1) in
-    let th : g .blocks ≤ 256 = leb-true _ _ (p₄ .1) in
     let dh : g .«directory_blocks» ≤ 16 = leb-true _ _ (p₂ .1) in
     let t : g .blocks * g .«block_bytes» ≡ g .blocks * (g .«block_bytes» / 128 * 128) = ap (λ (x : ℕ). g .blocks * x) (sym r) in
     let d : g .«directory_blocks» * g .«block_bytes» ≡ g .«directory_blocks» * (g .«block_bytes» / 128 * 128) = ap (λ (x : ℕ). g .«directory_blocks» * x) (sym r) in
@@ -69,16 +131,17 @@ bounds g e =
       block-low = s .1 .0;
       block-high = s .1 .1;
       blocks-low = leb-true _ _ (p₅ .1);
-      blocks-high = th;
+      blocks-high = k .high;
       directory-low = leb-true _ _ (p₃ .1);
       directory-high = dh;
       directory-below = lt;
       block-records = r;
-      block-extents = omega arith;
       some-records = omega arith;
-      some-extents = omega arith;
-      entry-records = omega arith;
-      whole = mul-le-mul th (s .1 .1);
+      number-fits = k .entries .fits;
+      some-extents = k .entries .some;
+      few-extents = k .entries .few;
+      entry-records = k .entries .filled;
+      whole = k .whole;
       part = mul-le-mul (omega arith) (omega arith);
       whole-records = omega arith;
       part-records = mul-le-mul-right (g .«block_bytes» / 128) (omega arith);

@@ -1,16 +1,20 @@
--- The geometry: "T blocks of B bytes in logical record order .. the first D blocks are directory".
-use mathlib.Core.Bool.{Bool, _&&_, _||_}
+-- The geometry: "T blocks of B bytes in logical record order .. the first D blocks are directory". Request (xi): "block numbers
+-- in entries take two bytes" where T is above 256.
+use mathlib.Core.Bool.{Bool, cond, _&&_, _||_}
 use Prim.Native.Nat.{ℕ, _+_, _*_, _/_, _%_}
 use lib.Dec.{leb, ltb, eqb}
 use Rattle.disk_geometry.specs.declared.Geometry.{Geometry}
 
--- bytes of a record and of an entry, records of an extent, slots of a directory record, bytes of a block for each extent of
--- its entry
+-- bytes of a record, of an entry and of its map, records of an extent, slots of a directory record, bytes of a block for each
+-- extent of its entry and each byte of a block number
 abbrev pub recordBytes : ℕ
 recordBytes = 128
 
 abbrev pub entryBytes : ℕ
 entryBytes = 32
+
+abbrev pub mapBytes : ℕ
+mapBytes = 16
 
 abbrev pub extentRecords : ℕ
 extentRecords = 128
@@ -20,6 +24,16 @@ recordSlots = 4
 
 abbrev pub extentBlockBytes : ℕ
 extentBlockBytes = 1024
+
+-- the most blocks whose numbers take one byte, the most at all, and the most bytes of a volume with more than the first
+abbrev pub narrowBlocks : ℕ
+narrowBlocks = 256
+
+abbrev pub mostBlocks : ℕ
+mostBlocks = 4096
+
+abbrev pub mostBytes : ℕ
+mostBytes = 8 * 1024 * 1024
 
 -- B, T and D
 abbrev pub blockBytes : Geometry → ℕ
@@ -34,26 +48,31 @@ directoryBlocks g = g .«directory_blocks»
 abbrev pub geometryOf : ℕ → ℕ → ℕ → Geometry
 geometryOf b t d = record { «block_bytes» = b; blocks = t; «directory_blocks» = d }
 
--- "B is 1,024, 2,048 or 4,096; T is 2 to 256; .. D from 1 to 16 and below T"
-unfoldable pub lawful : Geometry → Bool
-lawful g =
-    (eqb (blockBytes g) 1024 || eqb (blockBytes g) 2048 || eqb (blockBytes g) 4096)
-    && leb 2 (blocks g)
-    && leb (blocks g) 256
-    && leb 1 (directoryBlocks g)
-    && leb (directoryBlocks g) 16
-    && ltb (directoryBlocks g) (blocks g)
-
 -- "Its length is T times B."
 abbrev pub bytes : Geometry → ℕ
 bytes g = blocks g * blockBytes g
 
--- "R = B/128 records a block, X = B/1,024 extents an entry"
+-- "B is 1,024, 2,048 or 4,096; T is 2 to 256; .. D from 1 to 16 and below T"; (xi): "From T 257 to 4,096, with B 2,048 or
+-- 4,096 and at most 8 MiB"
+unfoldable pub lawful : Geometry → Bool
+lawful g =
+    (eqb (blockBytes g) 1024 || eqb (blockBytes g) 2048 || eqb (blockBytes g) 4096)
+    && leb 2 (blocks g)
+    && (leb (blocks g) narrowBlocks || (leb (blocks g) mostBlocks && leb 2048 (blockBytes g) && leb (bytes g) mostBytes))
+    && leb 1 (directoryBlocks g)
+    && leb (directoryBlocks g) 16
+    && ltb (directoryBlocks g) (blocks g)
+
+-- how many bytes a block number takes in an entry: nothing else knows where that changes
+abbrev pub numberBytes : Geometry → ℕ
+numberBytes g = cond (leb (blocks g) narrowBlocks) 1 2
+
+-- "R = B/128 records a block, X = B/1,024 extents an entry"; (xi): "an entry has B/2,048 extents"
 abbrev pub records : Geometry → ℕ
 records g = blockBytes g / recordBytes
 
 abbrev pub extents : Geometry → ℕ
-extents g = blockBytes g / extentBlockBytes
+extents g = blockBytes g / (extentBlockBytes * numberBytes g)
 
 -- where logical record q of the volume begins: nothing else knows how records lie
 unfoldable pub start : Geometry → ℕ → ℕ
@@ -78,9 +97,9 @@ recordStart g b n = start g (recordOf g b n)
 unfoldable pub groupOf : Geometry → ℕ → ℕ
 groupOf g x = x / extents g
 
--- how many places an entry's map has, "16..31 sixteen block numbers", and the place of record n in it
+-- how many places an entry's map has, "16..31 sixteen block numbers", (xi) "eight to an entry", and the place of record n in it
 unfoldable pub places : Geometry → ℕ
-places g = 16
+places g = mapBytes / numberBytes g
 
 unfoldable pub placeOf : Geometry → ℕ → ℕ
 placeOf g n = n % (extentRecords * extents g) / records g

@@ -2,8 +2,9 @@
 ghost use mathlib.Core.Path.{_≡_};
 ghost use mathlib.Core.Bool.{true};
 ghost use Prim.Native.Nat.{_+_, _*_, _/_, _%_, _≤_, _<_};
-ghost use Rattle.disk_geometry.specs.Geometry.{recordBytes, entryBytes, recordSlots, lawful, bytes, records, extents, start, slots, slotStart, recordOf, recordStart, groupOf, places, placeOf, inside, blocks};
+ghost use Rattle.disk_geometry.specs.Geometry.{recordBytes, entryBytes, mapBytes, recordSlots, lawful, bytes, numberBytes, records, extents, start, slots, slotStart, recordOf, recordStart, groupOf, places, placeOf, inside, blocks};
 ghost use Rattle.disk_geometry.specs.Shift.{bsh, blm};
+ghost use Rattle.disk_geometry.specs.CodeMost.{mostOf};
 
 // How the volume is cut up: B, T and D of the paper.
 pub struct Geometry {
@@ -13,17 +14,24 @@ pub struct Geometry {
 }
 
 impl Geometry {
-    // Bytes of a record and of an entry, records of an extent, slots of a directory record, bytes of a block for each
-    // extent of its entry.
+    // Bytes of a record, of an entry and of its map, records of an extent, slots of a directory record, bytes of a block for
+    // each extent of its entry and each byte of a block number.
     pub const RECORD_BYTES: usize = 128;
 
     pub const ENTRY_BYTES: usize = 32;
+
+    pub const MAP_BYTES: usize = 16;
 
     pub const EXTENT_RECORDS: usize = 128;
 
     pub const RECORD_SLOTS: usize = 4;
 
     pub const EXTENT_BLOCK_BYTES: usize = 1024;
+
+    // The most blocks whose numbers take one byte, and the most bytes of a volume with more.
+    pub const NARROW_BLOCKS: usize = 256;
+
+    pub const MOST_BYTES: usize = 8 * 1024 * 1024;
 
     // More extents than an entry has.
     const EXTENTS_BELOW: usize = 8;
@@ -32,12 +40,25 @@ impl Geometry {
     pub fn is_lawful(self) -> bool
         ensures { λ r. ⌜ r ≡ lawful self ⌝ }
     {
-        ((self.block_bytes == 1024) | (self.block_bytes == 2048) | (self.block_bytes == 4096))
-            & (2 <= self.blocks)
-            & (self.blocks <= 256)
+        let most = self.most_blocks();
+        (2 <= self.blocks)
+            & (self.blocks <= most)
             & (1 <= self.directory_blocks)
             & (self.directory_blocks <= 16)
             & (self.directory_blocks < self.blocks)
+    }
+
+    // The most blocks that the block size allows, 0 for a size that is none.
+    fn most_blocks(self) -> usize
+        ensures { λ r. ⌜ r ≡ mostOf self ⌝ }
+    {
+        let bls = self.block_bytes;
+        match bls {
+            1024 => Geometry::NARROW_BLOCKS,
+            2048 => Geometry::MOST_BYTES / 2048,
+            4096 => Geometry::MOST_BYTES / 4096,
+            _ => 0,
+        }
     }
 
     // T times B: the volume's length.
@@ -81,11 +102,22 @@ impl Geometry {
         }
     }
 
+    // How many bytes a block number takes in an entry.
+    pub fn number_bytes(self) -> usize
+        ensures { λ r. ⌜ (r ≡ numberBytes self) × ((1 ≤ r) × (r ≤ 2)) ⌝ }
+    {
+        if self.blocks <= Geometry::NARROW_BLOCKS {
+            1
+        } else {
+            2
+        }
+    }
+
     // X: extents an entry.
     pub fn extents(self) -> usize
         ensures { λ r. ⌜ r ≡ extents self ⌝ }
     {
-        self.block_bytes / Geometry::EXTENT_BLOCK_BYTES
+        self.block_bytes / (Geometry::EXTENT_BLOCK_BYTES * self.number_bytes())
     }
 
     // How many slots the directory has.
@@ -146,9 +178,9 @@ impl Geometry {
 
     // How many places an entry's map has.
     pub fn places(self) -> usize
-        ensures { λ r. ⌜ (r ≡ places self) × (r ≤ 16) ⌝ }
+        ensures { λ r. ⌜ (r ≡ places self) × (r ≤ mapBytes) ⌝ }
     {
-        16
+        Geometry::MAP_BYTES / self.number_bytes()
     }
 
     // The map place of record n.

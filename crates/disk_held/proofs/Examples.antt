@@ -1,15 +1,11 @@
 -- Definitions evaluated.
 use mathlib.Core.Path.{_≡_, refl}
-use mathlib.Core.List.{List, [], _∷_}
+use mathlib.Core.List.{List, [], _∷_, _++_}
 use Prim.Native.Nat.{ℕ}
 use lib.Dec.{eqb}
 use lib.ListN.{replicate}
 use Rattle.lists.specs.Bounded.{lowFrom, countFrom}
 use Rattle.disk_held.specs.Held.{digit, holds, hold, release, wordOf, wordsOf, noneHeld, lowestFree, freeCount}
-
--- the code's cleared words hold nothing
-none-filled : replicate 4 0 ≡ noneHeld
-none-filled = refl
 
 -- the paper's volume V, T 40 and D 1: 39 free, the lowest is 1; then blocks 1, 2 and 3 are taken
 v-free : freeCount noneHeld 1 40 ≡ 39
@@ -21,7 +17,7 @@ unfolding lowestFree lowFrom holds digit
 v-lowest = refl
 
 abbrev three : List ℕ
-three = 14 ∷ 0 ∷ 0 ∷ 0 ∷ []
+three = 14 ∷ replicate 63 0
 
 v-three : hold (hold (hold noneHeld 1) 2) 3 ≡ three
 unfolding hold
@@ -60,7 +56,39 @@ many-changed : release (hold (hold many 131) 200) 255 ≡ 18446744073709551614 �
 unfolding hold release
 many-changed = refl
 
--- a set by its test: block 255 alone
-last-set : wordsOf (λ b. eqb b 255) ≡ 0 ∷ 0 ∷ 0 ∷ 9223372036854775808 ∷ []
+-- a set by its test: block 255 alone, and block 4,095, the highest that there is
+last-set : wordsOf (λ b. eqb b 255) ≡ 0 ∷ 0 ∷ 0 ∷ 9223372036854775808 ∷ replicate 60 0
 unfolding wordsOf wordOf
 last-set = refl
+
+highest : List ℕ
+highest = replicate 63 0 ++ (9223372036854775808 ∷ [])
+
+highest-set : wordsOf (λ b. eqb b 4095) ≡ highest
+unfolding highest wordsOf wordOf
+highest-set = refl
+
+-- held and freed again: block 256, whose number takes two bytes, and block 4,095
+two-byte-held : hold noneHeld 256 ≡ 0 ∷ 0 ∷ 0 ∷ 0 ∷ 1 ∷ replicate 59 0
+unfolding hold
+two-byte-held = refl
+
+two-byte-freed : release (hold noneHeld 256) 256 ≡ noneHeld
+unfolding hold release
+two-byte-freed = refl
+
+highest-held : hold noneHeld 4095 ≡ highest
+unfolding highest hold
+highest-held = refl
+
+-- blocks 1 to 320 held: the lowest free one is 321, in the sixth word, and of T 4,096 with D 1 the rest are free
+abbrev five : List ℕ
+five = 18446744073709551614 ∷ 18446744073709551615 ∷ 18446744073709551615 ∷ 18446744073709551615 ∷ 18446744073709551615 ∷ 1 ∷ replicate 58 0
+
+five-lowest : lowestFree five 1 4096 ≡ 321
+unfolding lowestFree lowFrom holds digit
+five-lowest = refl
+
+five-free : freeCount five 1 4096 ≡ 3775
+unfolding freeCount countFrom holds digit
+five-free = refl

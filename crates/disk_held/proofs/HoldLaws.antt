@@ -9,7 +9,7 @@ use borrow.Author.Tests.{eq-eqb, ne-eqb}
 use lib.Dec.{eqb}
 use lib.ListN.{length, getD, set, length-set}
 use lib.Seq.{getD-set-same, getD-set-other}
-use Rattle.disk_held.specs.Held.{digit, holds, hold, release, HoldSays, ReleaseSays}
+use Rattle.disk_held.specs.Held.{room, digit, holds, hold, release, HoldSays, ReleaseSays}
 use Rattle.disk_held.proofs.Bits.{set-bit-same, set-bit-other, clear-bit-same, clear-bit-other}
 
 pub length-hold : (held : List ℕ) (b : ℕ) → length (hold held b) ≡ length held
@@ -43,7 +43,7 @@ unfolding holds
 digit-holds held b = eqb-one (digit held b) (digit-lt held b)
 
 -- b's word becomes w, which differs in b's bit alone: the other blocks stay
-module _ (held : List ℕ) (four : length held ≡ 4) (b : ℕ) (low : b < 256) (w : ℕ) where
+module _ (held : List ℕ) (b : ℕ) (low : b < room held) (w : ℕ) where
   digit-set-same : digit (set held (b / 64) w) b ≡ w / 2 ^ (b % 64) % 2
   unfolding digit
   digit-set-same = ap (λ (x : ℕ). x / 2 ^ (b % 64) % 2) (getD-set-same held (b / 64) w 0 (omega arith))
@@ -60,32 +60,32 @@ module _ (held : List ℕ) (four : length held ≡ 4) (b : ℕ) (low : b < 256) 
     | no m ↦ ap (λ (x : ℕ). x / 2 ^ (c % 64) % 2) (getD-set-other held (b / 64) (c / 64) w 0 m)
   ]
 
-module _ (held : List ℕ) (four : length held ≡ 4) (b : ℕ) (low : b < 256) where
+module _ (held : List ℕ) (b : ℕ) (low : b < room held) where
   pub holds-hold-same : holds (hold held b) b ≡ true
   unfolding holds hold
-  holds-hold-same = ap (λ (x : ℕ). eqb x 1) (digit-set-same held four b low _ ∙ set-bit-same (getD held (b / 64) 0) (b % 64))
+  holds-hold-same = ap (λ (x : ℕ). eqb x 1) (digit-set-same held b low _ ∙ set-bit-same (getD held (b / 64) 0) (b % 64))
 
   pub holds-hold-other : (c : ℕ) → (c ≡ b → ⊥) → holds (hold held b) c ≡ holds held c
   unfolding holds hold
-  holds-hold-other c n = ap (λ (x : ℕ). eqb x 1) (digit-set-other held four b low _ (set-bit-other (getD held (b / 64) 0) (b % 64)) c n)
+  holds-hold-other c n = ap (λ (x : ℕ). eqb x 1) (digit-set-other held b low _ (set-bit-other (getD held (b / 64) 0) (b % 64)) c n)
 
   pub holds-release-same : holds (release held b) b ≡ false
   unfolding holds release
-  holds-release-same = ap (λ (x : ℕ). eqb x 1) (digit-set-same held four b low _ ∙ clear-bit-same (getD held (b / 64) 0) (b % 64))
+  holds-release-same = ap (λ (x : ℕ). eqb x 1) (digit-set-same held b low _ ∙ clear-bit-same (getD held (b / 64) 0) (b % 64))
 
   pub holds-release-other : (c : ℕ) → (c ≡ b → ⊥) → holds (release held b) c ≡ holds held c
   unfolding holds release
-  holds-release-other c n = ap (λ (x : ℕ). eqb x 1) (digit-set-other held four b low _ (clear-bit-other (getD held (b / 64) 0) (b % 64)) c n)
+  holds-release-other c n = ap (λ (x : ℕ). eqb x 1) (digit-set-other held b low _ (clear-bit-other (getD held (b / 64) 0) (b % 64)) c n)
 
 -- ---- so the two sentences hold
 pub hold-says : HoldSays
-hold-says held four b low c = elim (ℕ-discrete c b) [
-  | yes e ↦ rw (e, holds-hold-same held four b low, eq-eqb b b refl, or-true)
-  | no n ↦ rw (holds-hold-other held four b low c n, ne-eqb c b n, or-false)
+hold-says held b low c = elim (ℕ-discrete c b) [
+  | yes e ↦ rw (e, holds-hold-same held b low, eq-eqb b b refl, or-true)
+  | no n ↦ rw (holds-hold-other held b low c n, ne-eqb c b n, or-false)
 ]
 
 pub release-says : ReleaseSays
-release-says held four b low c = elim (ℕ-discrete c b) [
-  | yes e ↦ rw (e, holds-release-same held four b low, eq-eqb b b refl, and-false)
-  | no n ↦ rw (holds-release-other held four b low c n, ne-eqb c b n, and-true)
+release-says held b low c = elim (ℕ-discrete c b) [
+  | yes e ↦ rw (e, holds-release-same held b low, eq-eqb b b refl, and-false)
+  | no n ↦ rw (holds-release-other held b low c n, ne-eqb c b n, and-true)
 ]

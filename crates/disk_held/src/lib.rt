@@ -1,49 +1,49 @@
-// The held blocks: bits in words, the lowest free block, and the count of free ones by the ones operation.
+// The held blocks: bits in words, the lowest free block, and the count of free ones by the ones operation. The words are lent,
+// however many there are; a state has `WORDS` of them.
 ghost use mathlib.Core.Path.{_≡_};
 ghost use Prim.Native.Nat.{_+_, _*_, _/_, _%_, _^_, _≤_, _<_, min};
 ghost use lib.Count.{ones};
+ghost use lib.ListN.{length};
 ghost use Rattle.lists.specs.Bounded.{countFrom};
-ghost use Rattle.disk_held.specs.Held.{holds, hold, release, lowestFree, freeCount};
+ghost use Rattle.disk_held.specs.Held.{wordBits, room, holds, hold, release, lowestFree, freeCount};
 
-// Bits of a word.
+// Bits of a word, and words of a state.
 const BITS: usize = 64;
 
+pub const WORDS: usize = 64;
+
 // Does the state hold block b?
-pub fn is_held(held: [u64; 4], b: usize) -> bool
-    requires { ⌜ b < 256 ⌝ }
-    ensures { λ r. ⌜ r ≡ holds held b ⌝ }
+pub fn is_held(held: &[u64], b: usize) -> bool
+    requires { ⌜ b < room (now held) ⌝ }
+    ensures { λ r. ⌜ r ≡ holds (now (held .entry)) b ⌝ }
 {
     let word = held[b / BITS];
     (word >> (b % BITS)) % 2 == 1
 }
 
 // Block b is held from now on.
-pub fn hold(held: [u64; 4], b: usize) -> [u64; 4]
-    requires { ⌜ b < 256 ⌝ }
-    ensures { λ r. ⌜ r ≡ hold held b ⌝ }
+pub fn hold(held: &mut [u64], b: usize)
+    requires { ⌜ b < room (now held) ⌝ }
+    ensures { λ _. ⌜ now (held .exit) ≡ hold (now (held .entry)) b ⌝ }
 {
-    let mut next = held;
     let at = b / BITS;
-    next[at] = next[at] | (1 << (b % BITS));
-    next
+    held[at] = held[at] | (1 << (b % BITS));
 }
 
 // Block b is no longer held.
-pub fn release(held: [u64; 4], b: usize) -> [u64; 4]
-    requires { ⌜ b < 256 ⌝ }
-    ensures { λ r. ⌜ r ≡ release held b ⌝ }
+pub fn release(held: &mut [u64], b: usize)
+    requires { ⌜ b < room (now held) ⌝ }
+    ensures { λ _. ⌜ now (held .exit) ≡ release (now (held .entry)) b ⌝ }
 {
-    let mut next = held;
     let at = b / BITS;
     let bit: u64 = 1 << (b % BITS);
-    next[at] = (next[at] | bit) ^ bit;
-    next
+    held[at] = (held[at] | bit) ^ bit;
 }
 
 // The lowest free block from d to t - 1, t where none is; a full word is passed over whole.
-pub fn lowest_free(held: [u64; 4], d: usize, t: usize) -> usize
-    requires { ⌜ (d ≤ t) × (t ≤ 256) ⌝ }
-    ensures { λ r. ⌜ (r ≡ lowestFree held d t) × (r ≤ t) ⌝ }
+pub fn lowest_free(held: &[u64], d: usize, t: usize) -> usize
+    requires { ⌜ (d ≤ t) × (t ≤ room (now held)) ⌝ }
+    ensures { λ r. ⌜ (r ≡ lowestFree (now (held .entry)) d t) × (r ≤ t) ⌝ }
 {
     let mut b = d;
     while b < t {
@@ -61,17 +61,17 @@ pub fn lowest_free(held: [u64; 4], d: usize, t: usize) -> usize
 
 // The first block behind b's word, t at most.
 fn word_end(b: usize, t: usize) -> usize
-    requires { ⌜ (b < t) × (t ≤ 256) ⌝ }
-    ensures { λ r. ⌜ r ≡ min (b / 64 * 64 + 64) t ⌝ }
+    requires { ⌜ b < t ⌝ }
+    ensures { λ r. ⌜ r ≡ min (b / wordBits * wordBits + wordBits) t ⌝ }
 {
-    let end = b / BITS * BITS + BITS;
-    if end < t { end } else { t }
+    let rest = BITS - b % BITS;
+    if rest < t - b { b + rest } else { t }
 }
 
 // How many of the blocks from d to t - 1 are free.
-pub fn free_count(held: [u64; 4], d: usize, t: usize) -> usize
-    requires { ⌜ (d ≤ t) × (t ≤ 256) ⌝ }
-    ensures { λ r. ⌜ (r ≡ freeCount held d t) × (r ≤ 256) ⌝ }
+pub fn free_count(held: &[u64], d: usize, t: usize) -> usize
+    requires { ⌜ (d ≤ t) × (t ≤ room (now held)) ⌝ }
+    ensures { λ r. ⌜ (r ≡ freeCount (now (held .entry)) d t) × (r ≤ t) ⌝ }
 {
     let below_t = held_below(held, t);
     let below_d = held_below(held, d);
@@ -79,22 +79,27 @@ pub fn free_count(held: [u64; 4], d: usize, t: usize) -> usize
 }
 
 // How many of the blocks below n are held.
-fn held_below(held: [u64; 4], n: usize) -> usize
-    requires { ⌜ n ≤ 256 ⌝ }
-    ensures { λ r. ⌜ r ≡ countFrom (holds held) 0 n ⌝ }
+fn held_below(held: &[u64], n: usize) -> usize
+    requires { ⌜ n ≤ room (now held) ⌝ }
+    ensures { λ r. ⌜ r ≡ countFrom (holds (now (held .entry))) 0 n ⌝ }
 {
+    let whole = n / BITS;
+    let rest = n % BITS;
     let mut sum = 0;
     let mut i = 0;
-    while BITS * i < n {
-        sum += ones_below(held[i], n - BITS * i);
+    while i < whole {
+        sum += ones_below(held[i], BITS);
         i += 1;
     }
-    sum
+    if rest == 0 {
+        return sum;
+    }
+    sum + ones_below(held[i], rest)
 }
 
 // How many of the k lowest bits of a word are set; a word has 64.
 fn ones_below(word: u64, k: usize) -> usize
-    ensures { λ r. ⌜ (r ≡ ones (word % 2 ^ min k 64)) × (r ≤ 64) ⌝ }
+    ensures { λ r. ⌜ (r ≡ ones (word % 2 ^ min k wordBits)) × (r ≤ min k wordBits) ⌝ }
 {
     if k < BITS {
         u64::count_ones(word % (1 << k)) as usize

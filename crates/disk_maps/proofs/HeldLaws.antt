@@ -1,6 +1,6 @@
 -- The held blocks as inspection goes on: how one place more and one slot more change them, and what they tell of a place.
 use mathlib.Core.Path.{_≡_, refl, sym, _∙_}
-use mathlib.Core.Bool.{Bool, true, false, not, _&&_, _||_, and-false, or-false, or-true, true≢false}
+use mathlib.Core.Bool.{Bool, true, false, not, _&&_, _||_, and-false, or-false, or-true}
 use mathlib.Core.List.{List}
 use Prim.Native.Nat.{ℕ, _+_, _<_}
 use native.Mathlib.Decide.{ℕ-discrete}
@@ -13,12 +13,19 @@ use Rattle.disk_geometry.specs.Geometry.{lawful, slots, inside, places}
 use Rattle.disk_volume.specs.Entry.{Entry, isEmpty, blockIn}
 use Rattle.disk_volume.specs.Directory.{slotAt}
 use Rattle.disk_geometry.proofs.GeometryLaws.{bounds}
+use Rattle.disk_geometry.proofs.InsideLaws.{inside-low}
 use Rattle.disk_held.specs.Held.{holds, hold, wordsOf, noneHeld}
 use Rattle.disk_held.proofs.WordsLaws.{hold-words, words-none, holds-none, holds-words, words-are, words-ext}
 use Rattle.disk_rules.specs.GoodSlot.{inPlaces, namesBlock, namedBelow, goodPlace}
 use Rattle.disk_rules.specs.Named.{named, heldOf}
 use Rattle.disk_maps.specs.CodeHeldBelow.{heldBelow, heldUpTo}
 use Rattle.lists.proofs.AnyLaws.{any-more}
+
+not-either : (x y : Bool) → not y && not x ≡ not (x || y)
+not-either true true = refl
+not-either true false = refl
+not-either false true = refl
+not-either false false = refl
 
 -- ---- one place more
 module _ (g : Geometry) (v : List ℕ) (i k : ℕ) where
@@ -48,34 +55,24 @@ module _ (g : Geometry) (v : List ℕ) (i k : ℕ) where
   unfolding heldUpTo
   now-held b e in-g = rw (in-g, places-more (slotAt g v i) b, eq-eqb (blockIn g (slotAt g v i) k) b (sym e), or-true, or-true)
 
-  pub block-place : (b : ℕ) → b ≡ blockIn g (slotAt g v i) k → b < 256 → inside g b ≡ true
+  pub block-place : lawful g ≡ true → (b : ℕ) → b ≡ blockIn g (slotAt g v i) k → inside g b ≡ true
       → hold (wordsOf (heldUpTo g v i k)) b ≡ wordsOf (heldUpTo g v i (k + 1))
-  block-place b e h in-g =
-      hold-words (heldUpTo g v i k) (heldUpTo g v i (k + 1)) b h (now-held b e in-g) (λ c n. other-block c (λ q. n (sym q ∙ sym e)))
+  block-place good b e in-g =
+      hold-words (heldUpTo g v i k) (heldUpTo g v i (k + 1)) b (inside-low g good b in-g) (now-held b e in-g) (λ c n. other-block c (λ q. n (sym q ∙ sym e)))
 
   -- what the tests of a place tell
   pub zero-good : blockIn g (slotAt g v i) k ≡ 0 → goodPlace g v i k ≡ true
   unfolding goodPlace
   zero-good z = rw (eq-eqb (blockIn g (slotAt g v i) k) 0 z)
 
-  -- r and s are what the two tests answered
-  pub place-tests : (b : ℕ) → b ≡ blockIn g (slotAt g v i) k → b < 256 → (b ≡ 0 → ⊥) → (held : List ℕ) → held ≡ wordsOf (heldUpTo g v i k)
-      → (r s : Bool) → r ≡ inside g b → s ≡ holds held b → goodPlace g v i k ≡ not (not r || s)
+  pub place-test : lawful g ≡ true → (b : ℕ) → b ≡ blockIn g (slotAt g v i) k → (b ≡ 0 → ⊥) → (held : List ℕ) → held ≡ wordsOf (heldUpTo g v i k)
+      → goodPlace g v i k ≡ inside g b && not (holds held b)
   unfolding goodPlace heldUpTo
-  place-tests b e h n held w r s x y =
-      rw (← e, ne-eqb b 0 n, x, y, w, holds-words (heldUpTo g v i k) b h)
-      (tests (inside g b) (namedBelow g v i b) (inPlaces g (slotAt g v i) k b))
+  place-test good b e n held w = rw (← e, ne-eqb b 0 n) (go (inside g b) refl)
     where
-      tests : (x y z : Bool) → x && not z && not y ≡ not (not x || (x && (y || z)))
-      tests false y z = refl
-      tests true true true = refl
-      tests true true false = refl
-      tests true false true = refl
-      tests true false false = refl
-
-pub inside-test : (x y : Bool) → not x || y ≡ false → x ≡ true
-inside-test true y e = refl
-inside-test false y e = absurd (true≢false e)
+      go : (t : Bool) → inside g b ≡ t → t && not (inPlaces g (slotAt g v i) k b) && not (namedBelow g v i b) ≡ t && not (holds held b)
+      go true q = rw (w, holds-words (heldUpTo g v i k) b (inside-low g good b q), q) (not-either (namedBelow g v i b) (inPlaces g (slotAt g v i) k b))
+      go false q = refl
 
 -- ---- one slot more
 module _ (g : Geometry) (v : List ℕ) (i : ℕ) where

@@ -1,39 +1,19 @@
 -- Marks: an entry whose mark is not set has no twin in a lower slot, and one slot more keeps every mark set.
 use mathlib.Core.Path.{_≡_, refl, sym, ap, _∙_}
 use mathlib.Core.Bool.{Bool, true, false, _||_, or-true, true≢false}
-use mathlib.Core.Logic.{_≢_}
 use mathlib.Core.List.{List}
-use Prim.Native.Nat.{ℕ, _+_, _/_, _%_, _^_, _<_}
+use Prim.Native.Nat.{ℕ, _+_, _<_}
 use native.Mathlib.Decide.{ℕ-discrete}
 use native.Mathlib.Omega.{arith}
-use lib.Bits.{bitOr}
-use lib.ListN.{length, getD}
-use lib.Seq.{getD-set-same, getD-set-other}
 use Rattle.lists.proofs.BoundedLaws.{any-none, every-true, every-intro}
 use Rattle.disk_geometry.specs.declared.Geometry.{Geometry}
 use Rattle.disk_volume.specs.Entry.{isEmpty}
 use Rattle.disk_volume.specs.Directory.{slotAt}
-use Rattle.disk_held.specs.Held.{digit, holds, hold}
-use Rattle.disk_held.proofs.Bits.{set-bit-same, set-bit-other}
+use Rattle.disk_held.specs.Held.{room, holds, hold}
+use Rattle.disk_held.proofs.HoldLaws.{holds-hold-same, holds-hold-other}
 use Rattle.disk_rules.specs.GoodSlot.{seenBelow}
 use Rattle.disk_marks.specs.CodeMarks.{entryMark, allMarked}
 use Rattle.disk_rules.proofs.TwinLaws.{twin, Twins, twin-true}
-
--- ---- one mark set, in any number of words
-module _ (marks : List ℕ) (m : ℕ) (fits : m / 64 < length marks) where
-  word : ℕ
-  word = bitOr (getD marks (m / 64) 0) (2 ^ (m % 64))
-
-  set-same : holds (hold marks m) m ≡ true
-  unfolding holds digit hold word
-  set-same = rw (getD-set-same marks (m / 64) word 0 fits, set-bit-same (getD marks (m / 64) 0) (m % 64))
-
-  set-other : (c : ℕ) → c ≢ m → holds (hold marks m) c ≡ holds marks c
-  unfolding holds digit hold word
-  set-other c n = elim (ℕ-discrete (c / 64) (m / 64)) [
-    | yes e ↦ rw (e, getD-set-same marks (m / 64) word 0 fits, set-bit-other (getD marks (m / 64) 0) (m % 64) (c % 64) (λ z. n (omega arith)))
-    | no k ↦ rw (getD-set-other marks (m / 64) (c / 64) word 0 k)
-  ]
 
 module _ (g : Geometry) (v : List ℕ) where
   -- slot j is empty, or the mark of its entry is set
@@ -71,7 +51,7 @@ module _ (g : Geometry) (v : List ℕ) where
       | no n ↦ every-true (markedAt marks) 0 i below j (omega arith) (omega arith)
     ])
 
-    pub now-marked : entryMark g (slotAt g v i) / 64 < length marks → allMarked g v (hold marks (entryMark g (slotAt g v i))) (i + 1) ≡ true
+    pub now-marked : entryMark g (slotAt g v i) < room marks → allMarked g v (hold marks (entryMark g (slotAt g v i))) (i + 1) ≡ true
     unfolding allMarked
     now-marked fits = every-intro (markedAt (hold marks m)) 0 (i + 1) (λ j a l. at j (omega arith) (ℕ-discrete (entryMark g (slotAt g v j)) m) (isEmpty (slotAt g v j)) refl)
       where
@@ -80,10 +60,10 @@ module _ (g : Geometry) (v : List ℕ) where
 
         at : (j : ℕ) → j < i + 1 → Dec (entryMark g (slotAt g v j) ≡ m) → (x : Bool) → isEmpty (slotAt g v j) ≡ x → markedAt (hold marks m) j ≡ true
         at j l d true q = rw q
-        at j l (yes z) false q = rw (z, set-same marks m fits, or-true)
+        at j l (yes z) false q = rw (z, holds-hold-same marks m fits, or-true)
         at j l (no n) false q =
             let k : j < i = elim (ℕ-discrete j i) [ yes z ↦ absurd (n (ap (λ (x : ℕ). entryMark g (slotAt g v x)) z)) | no w ↦ omega arith ] in
-            rw (set-other marks m fits (entryMark g (slotAt g v j)) n, set-below j k q, or-true)
+            rw (holds-hold-other marks m fits (entryMark g (slotAt g v j)) n, set-below j k q, or-true)
 
   -- no slot at all
   pub none-marked : (marks : List ℕ) → allMarked g v marks 0 ≡ true

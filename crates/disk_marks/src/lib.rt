@@ -15,12 +15,10 @@ use disk_volume::entry;
 use disk_volume::fields;
 use disk_volume::names;
 
-// How many marks there are, bits of a word, and words for all marks.
+// How many marks there are, and words for all of them.
 const MARKS: usize = 65536;
 
-const BITS: usize = 64;
-
-pub const WORDS: usize = MARKS / BITS;
+pub const WORDS: usize = MARKS / 64;
 
 // The mark of a user, name and group; the factor spreads names that differ in their numbers only.
 fn mark_of(user: u8, name: &[u8], k: usize) -> usize
@@ -69,8 +67,7 @@ pub fn is_seen(g: Geometry, volume: &[u8], i: usize, e: &[u8], marks: &mut [u64]
 {
     let k = g.group(entry::extent_of(e));
     let mark = mark_of(e[fields::USER], &e[fields::NAME..fields::NAME_END], k);
-    let word = marks[mark / BITS];
-    if (word >> (mark % BITS)) % 2 == 1 {
+    if disk_held::is_held(marks, mark) {
         return is_below(
             g,
             volume,
@@ -80,6 +77,6 @@ pub fn is_seen(g: Geometry, volume: &[u8], i: usize, e: &[u8], marks: &mut [u64]
             k,
         );
     }
-    marks[mark / BITS] = word | (1 << (mark % BITS));
+    disk_held::hold(marks, mark);
     false
 }

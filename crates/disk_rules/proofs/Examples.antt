@@ -1,4 +1,5 @@
--- Inspection evaluated: B 1,024, T 8, D 1, so 32 slots and blocks 1 to 7.
+-- Inspection evaluated: B 1,024, T 8, D 1, so 32 slots and blocks 1 to 7; then B 2,048, T 257, D 1, so 64 slots, blocks 1 to 256 and
+-- numbers of two bytes.
 use mathlib.Core.Path.{_≡_, refl}
 use mathlib.Core.List.{List, [], _∷_, _++_}
 use Prim.Native.Nat.{ℕ, _-_}
@@ -30,18 +31,31 @@ sigla ex b c = entry 0 83 84 ex b c
 abbrev volume : List ℕ → List ℕ
 volume entries = entries ++ replicate (8192 - length entries) 229
 
+-- the second geometry, SIGLA.TXT in extent ex with the number of these two bytes in place 0 and of those in place 7, and the
+-- directory with these entries: inspection looks at nothing else
+abbrev wide : Geometry
+wide = geometryOf 2048 257 1
+
+abbrev sigla-wide : ℕ → ℕ → ℕ → ℕ → ℕ → Entry
+sigla-wide ex low high low₇ high₇ =
+    0 ∷ 83 ∷ 73 ∷ 71 ∷ 76 ∷ 65 ∷ 32 ∷ 32 ∷ 32 ∷ 84 ∷ 88 ∷ 84 ∷ ex ∷ 0 ∷ 0 ∷ 21
+    ∷ low ∷ high ∷ 0 ∷ 0 ∷ 0 ∷ 0 ∷ 0 ∷ 0 ∷ 0 ∷ 0 ∷ 0 ∷ 0 ∷ 0 ∷ 0 ∷ low₇ ∷ high₇ ∷ []
+
+abbrev directory : List ℕ → List ℕ
+directory entries = entries ++ replicate (2048 - length entries) 229
+
 pub record Examples : Type 0 where
   all-empty : lowestBad G (volume []) ≡ 32
   all-empty-held : heldOf G (volume []) ≡ noneHeld
   -- two extents of one file, which are two groups
   two-good : lowestBad G (volume (sigla 0 1 2 ++ sigla 1 7 0)) ≡ 32
-  two-good-held : heldOf G (volume (sigla 0 1 2 ++ sigla 1 7 0)) ≡ 134 ∷ 0 ∷ 0 ∷ 0 ∷ []
+  two-good-held : heldOf G (volume (sigla 0 1 2 ++ sigla 1 7 0)) ≡ 134 ∷ replicate 63 0
   -- a block twice in one entry, and in two slots
   twice : lowestBad G (volume (sigla 0 2 2)) ≡ 0
   in-two-slots : lowestBad G (volume (sigla 0 1 2 ++ sigla 1 2 0)) ≡ 1
   -- in a slot that is empty it doesn't count
   in-empty-slot : lowestBad G (volume (entry 229 83 84 0 1 2 ++ sigla 1 2 0)) ≡ 32
-  in-empty-slot-held : heldOf G (volume (entry 229 83 84 0 1 2 ++ sigla 1 2 0)) ≡ 4 ∷ 0 ∷ 0 ∷ 0 ∷ []
+  in-empty-slot-held : heldOf G (volume (entry 229 83 84 0 1 2 ++ sigla 1 2 0)) ≡ 4 ∷ replicate 63 0
   -- the same user, name and group, though one has the read-only bit; another user
   same-group : lowestBad G (volume (sigla 0 1 0 ++ entry 0 83 212 0 2 0)) ≡ 1
   another-user : lowestBad G (volume (sigla 0 1 0 ++ entry 1 83 84 0 2 0)) ≡ 32
@@ -55,6 +69,14 @@ pub record Examples : Type 0 where
   highest : lowestBad G (volume (sigla 0 7 0)) ≡ 32
   -- a block of the directory
   below-D : lowestBad (geometryOf 1024 8 2) (volume (sigla 0 1 0)) ≡ 0
+  -- numbers of two bytes, low first: blocks 256 and 255 are good and held; two extents are two groups
+  wide-good : lowestBad wide (directory (sigla-wide 0 0 1 255 0 ++ sigla-wide 1 1 0 2 0)) ≡ 64
+  wide-held : heldOf wide (directory (sigla-wide 0 0 1 255 0 ++ sigla-wide 1 1 0 2 0)) ≡ 6 ∷ 0 ∷ 0 ∷ 9223372036854775808 ∷ 1 ∷ replicate 59 0
+  -- block T; a block in the first and in the eighth place, and in two slots; two blocks with the same low byte are two
+  wide-beyond : lowestBad wide (directory (sigla-wide 0 1 1 0 0)) ≡ 0
+  wide-twice : lowestBad wide (directory (sigla-wide 0 0 1 0 1)) ≡ 0
+  wide-in-two-slots : lowestBad wide (directory (sigla-wide 0 0 1 0 0 ++ sigla-wide 1 0 0 0 1)) ≡ 1
+  wide-low-same : lowestBad (geometryOf 2048 300 1) (directory (sigla-wide 0 5 1 5 0)) ≡ 64
 
 pub examples : Examples
 unfolding lowestBad goodSlot goodFields goodTopBits goodPlace inPlaces namesBlock namedBelow seenBelow heldOf named lowFrom anyFrom everyFrom part all start slotStart groupOf inside strip nameAt same goodName places blockIn ofFile ofGroup slotAt wordOf wordsOf
@@ -75,4 +97,10 @@ examples = record {
   beyond = refl;
   highest = refl;
   below-D = refl;
+  wide-good = refl;
+  wide-held = refl;
+  wide-beyond = refl;
+  wide-twice = refl;
+  wide-in-two-slots = refl;
+  wide-low-same = refl;
 }

@@ -1,20 +1,20 @@
 -- The blocks that entries name, and the words that hold them: "the held blocks, which log-in alone works out".
 use mathlib.Core.Path.{_≡_}
-use mathlib.Core.Bool.{true, false, not}
+use mathlib.Core.Bool.{true, false, not, and-false}
 use mathlib.Core.Logic.{_≢_}
 use mathlib.Core.List.{List}
-use Prim.Native.Nat.{ℕ, _<_}
+use Prim.Native.Nat.{ℕ, _*_, _≤_, _<_}
 use native.Mathlib.Omega.{arith}
-use borrow.Author.Tests.{not-true, eqb-true, eq-eqb}
+use borrow.Author.Tests.{not-true, eqb-true, eq-eqb, le-ltb}
 use lib.Dec.{eqb}
 use Rattle.lists.proofs.BoolLaws.{and-parts}
 use Rattle.lists.proofs.BoundedLaws.{any-true, any-intro}
 use Rattle.disk_geometry.specs.declared.Geometry.{Geometry}
-use Rattle.disk_geometry.specs.Geometry.{slots, inside, places}
+use Rattle.disk_geometry.specs.Geometry.{mostBlocks, blocks, slots, inside, places}
 use Rattle.disk_volume.specs.Entry.{isEmpty, blockIn}
 use Rattle.disk_volume.specs.Directory.{slotAt}
-use Rattle.disk_held.specs.Held.{holds}
-use Rattle.disk_held.proofs.WordsLaws.{Words, holds-words, words-words}
+use Rattle.disk_held.specs.Held.{wordBits, holds}
+use Rattle.disk_held.proofs.WordsLaws.{Words, FirstWords, holds-words, words-words, first-words}
 use Rattle.disk_rules.specs.GoodSlot.{inPlaces, namesBlock, namedBelow}
 use Rattle.disk_rules.specs.Named.{named, heldOf}
 use Rattle.disk_rules.proofs.GoodLaws.{not-named-below}
@@ -54,13 +54,21 @@ module _ (g : Geometry) (v : List ℕ) (n b : ℕ) where
 
 -- ---- the words
 module _ (g : Geometry) (v : List ℕ) where
-  pub holds-held : (b : ℕ) → b < 256 → holds (heldOf g v) b ≡ named g v b
+  pub holds-held : (b : ℕ) → b < mostBlocks → holds (heldOf g v) b ≡ named g v b
   unfolding heldOf
   holds-held b h = holds-words (named g v) b h
 
   pub words-held : Words (heldOf g v)
   unfolding heldOf
   words-held = words-words (named g v)
+
+  -- they stand in the first n words, where those have a bit for each block below T
+  pub first-held : (n : ℕ) → blocks g ≤ wordBits * n → FirstWords n (heldOf g v)
+  unfolding heldOf
+  first-held n h = first-words n (named g v) none
+    where
+      none : (b : ℕ) → wordBits * n ≤ b → named g v b ≡ false
+      none b l = unfold named inside in rw (le-ltb b (blocks g) (omega arith), and-false)
 
   -- a block from D to T-1 that isn't held is in no entry
   pub unnamed-nowhere : (b : ℕ) → inside g b ≡ true → named g v b ≡ false

@@ -110,15 +110,3 @@ pub record-most : (g : Geometry) → lawful g ≡ true → (fills : Bool) (b n :
 unfolding recordStores
 record-most g good true b n r = omega (arith, fill-length g b n r (records g) 0, bounds g good)
 record-most g good false b n r = omega arith
-
-pub write-enough : (g : Geometry) → lawful g ≡ true → (v : List ℕ) → length v ≡ bytes g → (fills : Bool) (b n : ℕ) (r : List ℕ) (i : ℕ) (e : Entry) → i < slots g
-    → length (putFilled g fills v b n r) ≡ length v → (most : ℕ) → 33 ≤ most
-    → cut g v most (recordStores g fills b n r ++ entryStores g (laid g v (recordStores g fills b n r)) i e) ≡ putSlot g (putFilled g fills v b n r) i e
-write-enough g good v size fills b n r i e i< same most h =
-    let a = recordStores g fills b n r in
-    let l = length-append (recordStores g fills b n r) (entryStores g (laid g v (recordStores g fills b n r)) i e) in
-    let o = entry-length g (laid g v (recordStores g fills b n r)) i e in
-    let m = record-most g good fills b n r in
-    cut-enough g v (a ++ entryStores g (laid g v a) i e) most (omega arith)
-    ∙ laid-append g a (entryStores g (laid g v a) i e) v
-    ∙ rw (record-laid g b n r fills v) (entry-laid g good (putFilled g fills v b n r) (same ∙ size) i i< e)

@@ -1,13 +1,14 @@
 -- An entry: "byte 0 user 0..15, or E5H for an empty slot; 1..8 name; 9..11 type; 12 ex; 13 s1; 14 s2; 15 rc;
--- 16..31 sixteen block numbers, 0 for none". It is its 32 bytes; bytes that a call doesn't name stay.
+-- 16..31 sixteen block numbers, 0 for none"; (xi): "block numbers .. take two bytes, low first, eight to an entry". It is its 32
+-- bytes; bytes that a call doesn't name stay.
 use mathlib.Core.Bool.{Bool, cond, _&&_}
 use mathlib.Core.List.{List}
 use Prim.Native.Nat.{ℕ, _+_, _*_, min}
 use lib.Dec.{leb, ltb, eqb}
-use lib.ListN.{set}
 use Rattle.lists.specs.Bytes.{byte}
+use Rattle.numbers.specs.Numbers.{number, bytesFrom, withNumber}
 use Rattle.disk_geometry.specs.declared.Geometry.{Geometry}
-use Rattle.disk_geometry.specs.Geometry.{extentRecords, groupOf}
+use Rattle.disk_geometry.specs.Geometry.{extentRecords, numberBytes, groupOf}
 use Rattle.disk_volume.specs.Fields.{USER, T1, EX, S2, RC, MAP, EMPTY}
 use Rattle.disk_volume.specs.Name.{TOPBIT, nameOf, same, like}
 
@@ -25,13 +26,18 @@ readOnly e = leb TOPBIT (byte e T1)
 abbrev pub extent : List ℕ → ℕ
 extent e = 32 * byte e S2 + byte e EX
 
--- the map: the block number in place p, and place p given another. Nothing else knows how block numbers are written, but
--- for `places`, how many the map has.
+-- the map: where the block number in place p begins, the number, and place p given another. Nothing else knows how block
+-- numbers are written, but for `places`, how many the map has.
+abbrev pub placeStart : Geometry → ℕ → ℕ
+placeStart g p = MAP + p * numberBytes g
+
 unfoldable pub blockIn : Geometry → Entry → ℕ → ℕ
-blockIn g e p = byte e (MAP + p)
+unfolding number bytesFrom
+blockIn g e p = number (bytesFrom e (placeStart g p) (numberBytes g))
 
 unfoldable pub withBlock : Geometry → Entry → ℕ → ℕ → Entry
-withBlock g e p b = set e (MAP + p) b
+unfolding withNumber
+withBlock g e p b = withNumber e (placeStart g p) (numberBytes g) b
 
 -- "An entry counts 128 records for each extent of its group below its own E, min(rc, 128) for E, 0 above."
 unfoldable pub countOf : Entry → ℕ → ℕ

@@ -1,5 +1,5 @@
 -- Where the fields stand: "byte 0 user 0..15, or E5H for an empty slot; 1..8 name; 9..11 type; 12 ex; 13 s1; 14 s2; 15 rc;
--- 16..31 sixteen block numbers". A control block has the same fields at the same places, with dr in byte 0.
+-- 16..31 sixteen block numbers", or eight of two bytes. A control block has the same fields at the same places, with dr in byte 0.
 use Prim.Native.Nat.{ℕ, _-_}
 
 abbrev pub USER : ℕ
@@ -40,12 +40,9 @@ nameT1 = T1 - NAME
 abbrev pub nameT2 : ℕ
 nameT2 = T2 - NAME
 
--- how many bytes name and type have together, and the map
+-- how many bytes name and type have together
 abbrev pub nameBytes : ℕ
 nameBytes = 11
-
-abbrev pub mapBytes : ℕ
-mapBytes = 16
 
 -- "E5H for an empty slot"
 abbrev pub EMPTY : ℕ

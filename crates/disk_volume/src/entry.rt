@@ -5,10 +5,10 @@ ghost use Prim.Native.Nat.{_+_, _*_, _≤_, _<_};
 ghost use lib.Dec.{eqb};
 ghost use lib.ListN.{length};
 ghost use Rattle.lists.specs.Bytes.{byte};
-ghost use Rattle.disk_geometry.specs.Geometry.{entryBytes, extentRecords, lawful, groupOf, places};
+ghost use Rattle.disk_geometry.specs.Geometry.{entryBytes, extentRecords, lawful, groupOf, places, blocks};
 ghost use Rattle.disk_volume.specs.Fields.{USER};
 ghost use Rattle.disk_volume.specs.Name.{strip};
-ghost use Rattle.disk_volume.specs.Entry.{extent, blockIn, countOf, ofFile, matches};
+ghost use Rattle.disk_volume.specs.Entry.{extent, blockIn, withBlock, countOf, ofFile, matches};
 ghost use Rattle.disk_volume.specs.Directory.{fits};
 ghost use Rattle.disk_volume.specs.CodeLent.{IsEntry, IsName};
 use crate::Wanted;
@@ -50,9 +50,28 @@ pub fn count_of(e: &[u8], x: usize) -> u8
 // The block number in place p of the entry's map.
 pub fn block_in(g: Geometry, e: &[u8], p: usize) -> usize
     requires { ⌜ (p < places g) × IsEntry (now e) ⌝ }
-    ensures { λ r. ⌜ (r ≡ blockIn g (now (e .entry)) p) × (r < 256) ⌝ }
+    ensures { λ r. ⌜ (r ≡ blockIn g (now (e .entry)) p) × (r < 65536) ⌝ }
 {
-    lists::wide(e[fields::MAP + p])
+    if g.number_bytes() == 1 {
+        return lists::wide(e[fields::MAP + p]);
+    }
+    let at = fields::MAP + p * 2;
+    lists::wide(e[at]) + 256 * lists::wide(e[at + 1])
+}
+
+// Lays block number b into place p of the entry's map.
+pub fn with_block(g: Geometry, e: &mut [u8], p: usize, b: usize)
+    requires { ⌜ (lawful g ≡ true) × ((p < places g) × (IsEntry (now e) × (b < blocks g))) ⌝ }
+    ensures { λ _. ⌜ now (e .exit) ≡ withBlock g (now (e .entry)) p b ⌝ }
+{
+    let n = g.number_bytes();
+    let at = fields::MAP + p * n;
+    if n == 1 {
+        e[at] = b as u8;
+        return;
+    }
+    e[at] = (b % 256) as u8;
+    e[at + 1] = (b / 256) as u8;
 }
 
 // Is it an entry of this user's file of this name?

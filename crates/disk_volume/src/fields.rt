@@ -1,3 +1,5 @@
+use disk_geometry::Geometry;
+
 // Where the fields of an entry stand; a control block has the same fields at the same places, with dr in byte 0.
 pub const USER: usize = 0;
 
@@ -25,14 +27,12 @@ pub const NAME_T1: usize = T1 - NAME;
 
 pub const NAME_T2: usize = T2 - NAME;
 
-// How many bytes name and type have together, and the map; the first byte behind each.
+// How many bytes name and type have together; the first byte behind them, and behind the map.
 pub const NAME_BYTES: usize = 11;
 
 pub const NAME_END: usize = NAME + NAME_BYTES;
 
-pub const MAP_BYTES: usize = 16;
-
-pub const MAP_END: usize = MAP + MAP_BYTES;
+pub const MAP_END: usize = MAP + Geometry::MAP_BYTES;
 
 // The first byte of an empty slot.
 pub const EMPTY: u8 = 0xE5;

@@ -1,4 +1,4 @@
--- One drive's 64 bytes, written out by hand from the layout, decoded and encoded.
+-- One drive's 64 bytes and one's 544, written out by hand from the layout, decoded and encoded; and bytes of the other length.
 use mathlib.Core.Path.{_≡_, refl}
 use mathlib.Core.Bool.{true}
 use mathlib.Core.List.{List, [], _∷_, _++_}
@@ -9,7 +9,8 @@ use Rattle.lists.specs.Bytes.{part, all}
 use Rattle.call_search.specs.declared.SearchKind.the-variants.{Pattern}
 use Rattle.filecalls.specs.declared.Drive.{Drive}
 use Rattle.numbers.specs.Numbers.{bytesOf, number, bytesFrom}
-use Rattle.drive_bytes.specs.Layout.{headBytes, keptBytes, searchBytes, heldBytes, encoded, kindStored, fields, isDrive, decoded}
+use Rattle.drive_bytes.specs.Layout.{headBytes, keptBytes, searchBytes, heldBytes, frontBytes, encoded, kindStored, wordsAt, fields, laidOut, isDrive, decoded}
+use Rattle.filecalls.specs.State.{closed, loggedIn}
 
 -- SIGLA???.TX? with ex 3FH
 abbrev pattern : List ℕ
@@ -23,7 +24,7 @@ sample =
       user = 3;
       protected = true;
       search = record { kind = Pattern; user = 9; last = 300; pattern = pattern };
-      held = 32772 ∷ 0 ∷ 0 ∷ 9223372036854775808 ∷ [];
+      held = 32772 ∷ 0 ∷ 0 ∷ 9223372036854775808 ∷ replicate 60 0;
     }
 
 abbrev sampleBytes : List ℕ
@@ -35,9 +36,35 @@ sampleBytes =
     ++ (128 ∷ [])
 
 encodes : encoded sample ≡ sampleBytes
-unfolding encoded headBytes searchBytes keptBytes heldBytes bytesOf bytesFrom
+unfolding encoded frontBytes headBytes searchBytes keptBytes heldBytes bytesOf bytesFrom
 encodes = refl
 
 decodes : decoded sampleBytes ≡ sample
-unfolding decoded isDrive fields kindStored number part all
+unfolding decoded isDrive laidOut fields wordsAt kindStored number part all
 decodes = refl
+
+-- B 2,048, T 4,096, D 16, and no search; blocks 300 and 4,095 held
+abbrev wide : Drive
+wide =
+    loggedIn (geometryOf 2048 4096 16) (replicate 4 0 ++ (17592186044416 ∷ replicate 58 0) ++ (9223372036854775808 ∷ []))
+
+abbrev wideBytes : List ℕ
+wideBytes =
+    0 ∷ 8 ∷ 0 ∷ 16 ∷ 16 ∷ 0 ∷ replicate 26 0 ++ replicate 37 0 ++ (16 ∷ replicate 473 0) ++ (128 ∷ [])
+
+encodes-wide : encoded wide ≡ wideBytes
+unfolding encoded frontBytes headBytes searchBytes heldBytes bytesOf
+encodes-wide = refl
+
+decodes-wide : decoded wideBytes ≡ wide
+unfolding decoded isDrive laidOut fields wordsAt kindStored number part all
+decodes-wide = refl
+
+-- 544 bytes whose T is 256, and 64 whose T is 257, count as closed
+too-long : decoded (sampleBytes ++ replicate 480 0) ≡ closed
+unfolding decoded isDrive number part
+too-long = refl
+
+too-short : decoded (0 ∷ 8 ∷ 1 ∷ 1 ∷ 2 ∷ 0 ∷ replicate 58 0) ≡ closed
+unfolding decoded isDrive number part
+too-short = refl

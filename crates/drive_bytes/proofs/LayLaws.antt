@@ -1,11 +1,11 @@
 -- Laws of bytes laid one by one and part after part.
 use mathlib.Core.Path.{_≡_, refl, sym, ap, _∙_}
 use mathlib.Core.Bool.{Bool, true, false, cond}
-use mathlib.Core.List.{List, _∷_, _++_}
+use mathlib.Core.List.{List, [], _∷_, _++_}
 use mir.Val.{boolByte}
 use Prim.Native.Nat.{ℕ, _+_, _≤_}
 use native.Mathlib.Omega.{arith}
-use lib.ListN.{length, take, drop, set}
+use lib.ListN.{length, take, drop, set, take-append-drop}
 use lib.Seq.{length-take-le, take-append-add, take-at, take-all}
 use Rattle.lists.specs.Bytes.{part, put}
 use Rattle.lists.proofs.PartLaws.{length-put}
@@ -13,7 +13,7 @@ use Rattle.disk_geometry.specs.declared.Geometry.{Geometry}
 use Rattle.call_search.specs.declared.SearchKind.{SearchKind}
 use Rattle.call_search.specs.declared.SearchKind.the-variants.{Nothing, Pattern, Everything}
 use Rattle.numbers.specs.Numbers.{Bytes, bytesOf, number, bytesFrom}
-use Rattle.drive_bytes.specs.Layout.{headBytes, keptBytes, searchBytes, heldBytes}
+use Rattle.drive_bytes.specs.Layout.{headBytes, keptBytes, searchBytes}
 use Rattle.numbers.proofs.NumberLaws.{bytes-number, part-bytes, bytes-from}
 
 -- four stores, four bytes and a word fill sixteen
@@ -49,12 +49,28 @@ laid-next {size} {k} {l} {bytes} n new p fits e =
     let h : k + n ≤ length l = omega (arith, p .whole) in
     record { whole = length-put l k n h new e ∙ p .whole; laid = take-put l k n new h e ∙ rw (p .laid) }
 
--- four parts fill the whole
+-- three parts fill the first bytes, and a fourth the rest
+module _ (l a b c : List ℕ) (i j k : ℕ) (fits : i + j + k ≤ length l) (ea : length a ≡ i) (eb : length b ≡ j) (ec : length c ≡ k) where
+  laid-three : Laid (length l) (put (put (put l 0 i a) i j b) (i + j) k c) (i + j + k) (a ++ b ++ c)
+  laid-three = laid-next k c (laid-next j b (laid-first l i a refl (omega arith) ea) (omega arith) eb) fits ec
+
+  pub three-laid : take (i + j + k) (put (put (put l 0 i a) i j b) (i + j) k c) ≡ a ++ b ++ c
+  three-laid = laid-three .laid
+
 pub four-laid : (l a b c d : List ℕ) (i j k m : ℕ) → length l ≡ i + j + k + m → length a ≡ i → length b ≡ j → length c ≡ k → length d ≡ m
     → put (put (put (put l 0 i a) i j b) (i + j) k c) (i + j + k) m d ≡ a ++ b ++ c ++ d
 four-laid l a b c d i j k m w ea eb ec ed =
-    let p = laid-next m d (laid-next k c (laid-next j b (laid-first l i a w (omega arith) ea) (omega arith) eb) (omega arith) ec) (omega arith) ed in
+    let p = laid-next m d (laid-three l a b c i j k (omega arith) ea eb ec) (omega arith) ed in
     sym (take-all (i + j + k + m) _ (omega (arith, p .whole))) ∙ p .laid
+
+-- two stores and a part lay bytes 6 to 23
+pub front-stored : (s search : List ℕ) (user flag : ℕ) → 8 ≤ length s
+    → put (set (set s 6 user) 7 flag) 8 16 search ≡ take 6 s ++ (user ∷ flag ∷ []) ++ search ++ drop 24 s
+unfolding put part bytesFrom
+front-stored s search user flag h =
+    let e : bytesFrom s 0 8 ++ drop 8 s ≡ s = ap (λ (l : List ℕ). l ++ drop 8 s) (sym (part-bytes s 0 8 h)) ∙ take-append-drop 8 s in
+    ap (λ (l : List ℕ). put (set (set l 6 user) 7 flag) 8 16 search) (sym e)
+    ∙ ap (λ (l : List ℕ). take 6 l ++ (user ∷ flag ∷ []) ++ search ++ drop 24 l) e
 
 -- how long the parts of a drive are
 pub length-head : (g : Geometry) (user : ℕ) (protected : Bool) → length (headBytes g user protected) ≡ 8
@@ -66,10 +82,6 @@ unfolding searchBytes keptBytes bytesOf bytesFrom
 length-search Nothing user last pattern = refl
 length-search Pattern user last pattern = refl
 length-search Everything user last pattern = refl
-
-pub length-held : (held : List ℕ) → length (heldBytes held) ≡ 32
-unfolding heldBytes bytesOf
-length-held held = refl
 
 -- a test as a byte
 pub flag-byte : (t : Bool) → boolByte t ≡ cond t 1 0

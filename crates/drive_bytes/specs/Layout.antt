@@ -1,13 +1,14 @@
--- The drive in 64 bytes: "0..5 B, T, D (16 bits each, low byte first); 6 user; 7 protected (0, 1); 8 search (0 none, 1
--- pattern, 2 dr 3FH); 9 its user; 10..11 its last slot; 12..23 pattern, 11 name bytes and ex; 24..31 zero; 32..63 the held
--- words, low byte first; for search 0 the bytes 9..23 are zero; the closed value is 64 zero bytes. Any other length or byte
--- pattern counts as closed".
+-- The drive in bytes: "0..5 B, T, D (16 bits each, low byte first); 6 user; 7 protected (0, 1); 8 search (0 none, 1 pattern, 2
+-- dr 3FH); 9 its user; 10..11 its last slot; 12..23 pattern, 11 name bytes and ex; 24..31 zero; from 32 on the held words, low
+-- byte first, four of them up to T 256, 64 above; for search 0 the bytes 9..23 are zero; closed is all zeros, of either length.
+-- Any other length or byte pattern counts as closed".
 use mathlib.Core.Bool.{Bool, not, cond, _&&_, _||_}
 use mathlib.Core.List.{List, [], _∷_, _++_}
-use Prim.Native.Nat.{ℕ, _+_, _-_, _*_}
+use Prim.Native.Nat.{ℕ, zero, suc, _+_, _-_, _*_}
 use lib.Dec.{leb, eqb}
 use lib.ListN.{length, replicate}
-use Rattle.disk_geometry.specs.Geometry.{blockBytes, blocks, directoryBlocks, geometryOf}
+use Rattle.disk_geometry.specs.Geometry.{narrowBlocks, blockBytes, blocks, directoryBlocks, geometryOf}
+use Rattle.disk_held.specs.Held.{heldWords}
 use Rattle.lists.specs.Bytes.{byte, part}
 use Rattle.disk_geometry.specs.declared.Geometry.{Geometry}
 use Rattle.call_search.specs.declared.SearchKind.{SearchKind}
@@ -51,9 +52,12 @@ SPARE-AT = 24
 abbrev pub HELD-AT : ℕ
 HELD-AT = 32
 
--- how many bytes a drive has
-abbrev pub driveBytes : ℕ
-driveBytes = 64
+-- how many held words and bytes a drive of so many blocks has
+abbrev pub storedWords : ℕ → ℕ
+storedWords t = cond (leb t narrowBlocks) 4 heldWords
+
+abbrev pub driveBytes : ℕ → ℕ
+driveBytes t = cond (leb t narrowBlocks) 64 544
 
 -- ---- from the state to bytes
 -- 0..7
@@ -70,32 +74,44 @@ searchBytes Nothing user last pattern = replicate (SPARE-AT - SEARCH-AT) 0
 searchBytes Pattern user last pattern = keptBytes 1 user last pattern
 searchBytes Everything user last pattern = keptBytes 2 user last pattern
 
--- 32..63
-unfoldable pub heldBytes : List ℕ → List ℕ
-heldBytes held =
-    bytesOf 8 (byte held 0) ++ bytesOf 8 (byte held 1) ++ bytesOf 8 (byte held 2) ++ bytesOf 8 (byte held 3)
+-- from 32 on: n words, from word k on
+unfoldable pub heldBytes : List ℕ → ℕ → ℕ → List ℕ
+heldBytes held k zero = []
+heldBytes held k (suc n) = bytesOf 8 (byte held k) ++ heldBytes held (suc k) n
 
-unfoldable pub encoded : Drive → List ℕ
-encoded d =
+-- 0..31
+unfoldable pub frontBytes : Drive → List ℕ
+frontBytes d =
     headBytes (d .geometry) (d .user) (d .protected)
     ++ searchBytes (d .search .kind) (d .search .user) (d .search .last) (d .search .pattern)
     ++ replicate (HELD-AT - SPARE-AT) 0
-    ++ heldBytes (d .held)
+
+unfoldable pub encoded : Drive → List ℕ
+encoded d = frontBytes d ++ heldBytes (d .held) 0 (storedWords (blocks (d .geometry)))
 
 -- ---- from bytes to the state
 unfoldable pub kindStored : ℕ → SearchKind
 kindStored n = cond (eqb n 0) Nothing (cond (eqb n 1) Pattern Everything)
 
--- held word k, of eight bytes
+-- T, and held word k, of eight bytes; n words from word k on, and as many as a state has, the others without a block
+abbrev pub blocksAt : List ℕ → ℕ
+blocksAt s = number (part s BLOCKS-AT 2)
+
 abbrev pub heldWord : List ℕ → ℕ → ℕ
 heldWord s k = number (part s (HELD-AT + 8 * k) 8)
+
+unfoldable pub wordsAt : List ℕ → ℕ → ℕ → List ℕ
+wordsAt s k zero = []
+wordsAt s k (suc n) = heldWord s k ∷ wordsAt s (suc k) n
+
+abbrev pub heldAt : List ℕ → ℕ → List ℕ
+heldAt s n = wordsAt s 0 n ++ replicate (heldWords - n) 0
 
 unfoldable pub fields : List ℕ → Drive
 fields s =
     record {
       geometry =
-          geometryOf (number (part s BLOCK-BYTES-AT 2)) (number (part s BLOCKS-AT 2))
-          (number (part s DIRECTORY-BLOCKS-AT 2));
+          geometryOf (number (part s BLOCK-BYTES-AT 2)) (blocksAt s) (number (part s DIRECTORY-BLOCKS-AT 2));
       user = byte s USER-AT;
       protected = eqb (byte s PROTECTED-AT) 1;
       search =
@@ -105,25 +121,27 @@ fields s =
             last = number (part s LAST-AT 2);
             pattern = part s PATTERN-AT patternBytes;
           };
-      held = heldWord s 0 ∷ heldWord s 1 ∷ heldWord s 2 ∷ heldWord s 3 ∷ [];
+      held = heldAt s (storedWords (blocksAt s));
     }
 
 -- "7 protected (0, 1)"
 abbrev pub goodFlag : List ℕ → Bool
 goodFlag s = leb (byte s PROTECTED-AT) 1
 
--- the bytes are laid out as a drive's
-unfoldable pub isDrive : List ℕ → Bool
-isDrive s =
-    eqb (length s) driveBytes
-    && goodFlag s
+-- the bytes are laid out as a drive's, and are as many as one of their T has
+unfoldable pub laidOut : List ℕ → Bool
+laidOut s =
+    goodFlag s
     && leb (byte s SEARCH-AT) 2
     && zeros (part s SPARE-AT (HELD-AT - SPARE-AT))
     && (not (eqb (byte s SEARCH-AT) 0) || zeros (part s SEARCH-USER-AT (SPARE-AT - SEARCH-USER-AT)))
 
+unfoldable pub isDrive : List ℕ → Bool
+isDrive s = eqb (length s) (driveBytes (blocksAt s)) && laidOut s
+
 unfoldable pub decoded : List ℕ → Drive
 decoded s = cond (isDrive s) (fields s) closed
 
--- 64 lent bytes take a state's; a drive of another length stays as it is
+-- lent bytes take a state whose length they have; for any other, the closed one among them, they become zeros
 unfoldable pub encodedIn : Drive → List ℕ → List ℕ
-encodedIn d s = cond (eqb (length s) driveBytes) (encoded d) s
+encodedIn d s = cond (eqb (length s) (driveBytes (blocks (d .geometry)))) (encoded d) (replicate (length s) 0)

@@ -1,3 +1,4 @@
--- The drive's state as 64 bytes.
+-- The drive's state as bytes.
 pub mod Layout
 pub mod RoundTrip
+pub mod CodeLaid

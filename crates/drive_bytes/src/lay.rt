@@ -1,19 +1,30 @@
-// The drive's state laid into 64 lent bytes, each group of fields into its part.
+// The drive's state laid into lent bytes, each group of fields into its part.
 ghost use mathlib.Core.Path.{_≡_};
-ghost use lib.ListN.{length};
+ghost use mathlib.Core.Bool.{cond};
+ghost use mathlib.Core.List.{_++_};
+ghost use Prim.Native.Nat.{_+_, _*_, _≤_};
+ghost use lib.Dec.{eqb};
+ghost use lib.ListN.{length, take};
+ghost use Rattle.disk_geometry.specs.Geometry.{blocks};
+ghost use Rattle.disk_held.specs.Held.{heldWords};
 ghost use Rattle.call_search.specs.Search.{patternBytes};
-ghost use Rattle.drive_bytes.specs.Layout.{driveBytes, headBytes, keptBytes, searchBytes, heldBytes, encoded};
+ghost use Rattle.drive_bytes.specs.Layout.{HELD-AT, driveBytes, headBytes, keptBytes, searchBytes, heldBytes, encoded};
+ghost use Rattle.drive_bytes.specs.CodeLaid.{withFront};
 use crate::DRIVE_BYTES;
 use crate::layout::HELD_AT;
 use crate::layout::LAST_AT;
 use crate::layout::PATTERN_AT;
+use crate::layout::PROTECTED_AT;
 use crate::layout::SEARCH_AT;
 use crate::layout::SEARCH_USER_AT;
 use crate::layout::SPARE_AT;
+use crate::layout::USER_AT;
 use call_search::PATTERN_BYTES;
 use call_search::SearchKind;
 use disk_geometry::Geometry;
+use disk_held::WORDS;
 use filecalls::Drive;
+use filecalls::Front;
 use filecalls::KeptSearch;
 use numbers::eight_of;
 use numbers::put_eight;
@@ -80,20 +91,33 @@ fn put_search(out: &mut [u8], q: KeptSearch)
     }
 }
 
-// Lays the held words into bytes 32 to 63.
-fn put_words(out: &mut [u8], held: [u64; 4])
-    requires { ⌜ length (now out) ≡ 32 ⌝ }
-    ensures { λ _. ⌜ now (out .exit) ≡ heldBytes held ⌝ }
+// Lays n held words into the bytes from 32 on.
+pub(crate) fn words(out: &mut [u8], held: &[u64; WORDS], n: usize)
+    requires { ⌜ (length (now out) ≡ HELD-AT + 8 * n) × (n ≤ heldWords) ⌝ }
+    ensures { λ _. ⌜ now (out .exit) ≡ take HELD-AT (now (out .entry)) ++ heldBytes (now (held .entry)) 0 n ⌝ }
 {
-    put_eight(&mut out[0..8], held[0]);
-    put_eight(&mut out[8..16], held[1]);
-    put_eight(&mut out[16..24], held[2]);
-    put_eight(&mut out[24..32], held[3]);
+    let mut k = 0;
+    while k < n {
+        let at = HELD_AT + 8 * k;
+        put_eight(&mut out[at..at + 8], held[k]);
+        k += 1;
+    }
 }
 
-// Lays the state into 64 bytes.
+// Lays user, protection and search into bytes 6 to 23.
+pub(crate) fn front(out: &mut [u8], f: Front)
+    requires { ⌜ HELD-AT ≤ length (now out) ⌝ }
+    ensures { λ _. ⌜ now (out .exit) ≡ withFront (now (out .entry)) f ⌝ }
+{
+    let q = f.search;
+    out[USER_AT] = f.user;
+    out[PROTECTED_AT] = f.protected as u8;
+    put_search(&mut out[SEARCH_AT..SPARE_AT], q);
+}
+
+// Lays the state into its bytes.
 pub(crate) fn put_drive(out: &mut [u8], d: Drive)
-    requires { ⌜ length (now out) ≡ driveBytes ⌝ }
+    requires { ⌜ length (now out) ≡ driveBytes (blocks (d .geometry)) ⌝ }
     ensures { λ _. ⌜ now (out .exit) ≡ encoded d ⌝ }
 {
     let g = d.geometry;
@@ -102,5 +126,16 @@ pub(crate) fn put_drive(out: &mut [u8], d: Drive)
     put_head(&mut out[0..SEARCH_AT], g, d.user, d.protected);
     put_search(&mut out[SEARCH_AT..SPARE_AT], q);
     put_eight(&mut out[SPARE_AT..HELD_AT], 0);
-    put_words(&mut out[HELD_AT..DRIVE_BYTES], held);
+    let n = words_in(out.len());
+    words(out, &held, n);
+}
+
+// How many held words a drive of so many bytes stores.
+pub(crate) fn words_in(bytes: usize) -> usize
+    ensures { λ r. ⌜ r ≡ cond (eqb bytes 64) 4 heldWords ⌝ }
+{
+    if bytes == DRIVE_BYTES {
+        return 4;
+    }
+    WORDS
 }

@@ -1,8 +1,10 @@
 // The state read from bytes, and the test that they are laid out as a drive's.
 ghost use mathlib.Core.Path.{_≡_};
+ghost use Prim.Native.Nat.{_+_, _*_, _≤_};
 ghost use lib.ListN.{length};
-ghost use Rattle.drive_bytes.specs.Layout.{driveBytes, kindStored, fields, isDrive};
-use crate::DRIVE_BYTES;
+ghost use Rattle.disk_held.specs.Held.{heldWords, noneHeld};
+ghost use Rattle.filecalls.specs.CodeFront.{frontOf};
+ghost use Rattle.drive_bytes.specs.Layout.{HELD-AT, kindStored, heldAt, fields, laidOut};
 use crate::layout::BLOCK_BYTES_AT;
 use crate::layout::BLOCKS_AT;
 use crate::layout::DIRECTORY_BLOCKS_AT;
@@ -17,7 +19,8 @@ use crate::layout::USER_AT;
 use call_search::PATTERN_BYTES;
 use call_search::SearchKind;
 use disk_geometry::Geometry;
-use filecalls::Drive;
+use disk_held::WORDS;
+use filecalls::Front;
 use filecalls::KeptSearch;
 use numbers::eight_of;
 use numbers::two_at;
@@ -25,20 +28,11 @@ use numbers::two_at;
 // The middle of the search's sixteen bytes, which are compared as two words.
 const SEARCH_HALF: usize = SEARCH_AT + 8;
 
-// The second, third and fourth of the held words.
-const SECOND_AT: usize = HELD_AT + 8;
-
-const THIRD_AT: usize = SECOND_AT + 8;
-
-const FOURTH_AT: usize = THIRD_AT + 8;
-
-// Are the bytes laid out as a drive's? Where no search is kept, bytes 8 to 23 are all zero.
-pub(crate) fn is_drive(s: &[u8]) -> bool
-    ensures { λ r. ⌜ r ≡ isDrive (now (s .entry)) ⌝ }
+// Are bytes of the right number laid out as a drive's? Where no search is kept, bytes 8 to 23 are all zero.
+pub(crate) fn is_laid(s: &[u8]) -> bool
+    requires { ⌜ HELD-AT ≤ length (now s) ⌝ }
+    ensures { λ r. ⌜ r ≡ laidOut (now (s .entry)) ⌝ }
 {
-    if s.len() != DRIVE_BYTES {
-        return false;
-    }
     let spare = eight_of(&s[SPARE_AT..HELD_AT]);
     let a = eight_of(&s[SEARCH_AT..SEARCH_HALF]);
     let b = eight_of(&s[SEARCH_HALF..SPARE_AT]);
@@ -61,7 +55,7 @@ fn kind_stored(b: u8) -> SearchKind
 
 // Bytes 0 to 5: B, T and D.
 fn geometry_at(s: &[u8]) -> Geometry
-    requires { ⌜ length (now s) ≡ driveBytes ⌝ }
+    requires { ⌜ HELD-AT ≤ length (now s) ⌝ }
     ensures { λ r. ⌜ r ≡ fields (now (s .entry)) .geometry ⌝ }
 {
     let block_bytes = two_at(s, BLOCK_BYTES_AT);
@@ -76,7 +70,7 @@ fn geometry_at(s: &[u8]) -> Geometry
 
 // Bytes 8 to 23: the kept search.
 fn search_at(s: &[u8]) -> KeptSearch
-    requires { ⌜ length (now s) ≡ driveBytes ⌝ }
+    requires { ⌜ HELD-AT ≤ length (now s) ⌝ }
     ensures { λ r. ⌜ r ≡ fields (now (s .entry)) .search ⌝ }
 {
     let kind = kind_stored(s[SEARCH_AT]);
@@ -91,31 +85,30 @@ fn search_at(s: &[u8]) -> KeptSearch
     }
 }
 
-// Bytes 32 to 63: the held words.
-fn held_at(s: &[u8]) -> [u64; 4]
-    requires { ⌜ length (now s) ≡ driveBytes ⌝ }
-    ensures { λ r. ⌜ r ≡ fields (now (s .entry)) .held ⌝ }
+// From byte 32 on: n held words, laid over the lowest of `held`.
+pub(crate) fn words(s: &[u8], held: &mut [u64; WORDS], n: usize)
+    requires { ⌜ (HELD-AT + 8 * n ≤ length (now s)) × ((n ≤ heldWords) × (now held ≡ noneHeld)) ⌝ }
+    ensures { λ _. ⌜ now (held .exit) ≡ heldAt (now (s .entry)) n ⌝ }
 {
-    let a = eight_of(&s[HELD_AT..SECOND_AT]);
-    let b = eight_of(&s[SECOND_AT..THIRD_AT]);
-    let c = eight_of(&s[THIRD_AT..FOURTH_AT]);
-    let d = eight_of(&s[FOURTH_AT..DRIVE_BYTES]);
-    [a, b, c, d]
+    let mut k = 0;
+    while k < n {
+        let at = HELD_AT + 8 * k;
+        held[k] = eight_of(&s[at..at + 8]);
+        k += 1;
+    }
 }
 
-// The state in 64 bytes.
-pub(crate) fn fields(s: &[u8]) -> Drive
-    requires { ⌜ length (now s) ≡ driveBytes ⌝ }
-    ensures { λ r. ⌜ r ≡ fields (now (s .entry)) ⌝ }
+// Bytes 0 to 23: the state but for the held words.
+pub(crate) fn front(s: &[u8]) -> Front
+    requires { ⌜ HELD-AT ≤ length (now s) ⌝ }
+    ensures { λ r. ⌜ r ≡ frontOf (fields (now (s .entry))) ⌝ }
 {
     let geometry = geometry_at(s);
     let search = search_at(s);
-    let held = held_at(s);
-    Drive {
+    Front {
         geometry,
         user: s[USER_AT],
         protected: s[PROTECTED_AT] == 1,
         search,
-        held,
     }
 }

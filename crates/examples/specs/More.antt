@@ -9,13 +9,13 @@ use Rattle.disk_geometry.specs.declared.Geometry.{Geometry}
 use Rattle.disk_geometry.specs.Geometry.{geometryOf, lawful}
 use Rattle.disk_volume.specs.Name.{strip, nameAt, goodName}
 use Rattle.lists.specs.Bytes.{part, all}
-use Rattle.disk_held.specs.Held.{hold, release, wordsOf, noneHeld, lowestFree, freeCount}
+use Rattle.disk_held.specs.Held.{heldWords, hold, release, wordsOf, noneHeld, lowestFree, freeCount}
 use Rattle.call_delete.specs.Delete.{freeMatches}
 use Rattle.call_search.specs.declared.SearchKind.{SearchKind}
 use Rattle.call_search.specs.declared.SearchKind.the-variants.{Nothing, Pattern, Everything}
 use Rattle.filecalls.specs.declared.Drive.{Drive}
 use Rattle.filecalls.specs.State.{isOpen}
-use Rattle.examples.specs.Script.{logIn, openFile, closeFile, searchFirst, searchNext, delete, readNext, writeNext, make, rename, protect, attributes, user, read, write, size, setRandom, writeZeroFill, done, free, refused, badSlot, Line, call, altered, slotsAre, heldAre, volumeAt, fcbAt, fcbIs, bufferIs, Script, script, lentFcb, lentBuffer, seen, told}
+use Rattle.examples.specs.Script.{logIn, openFile, closeFile, searchFirst, searchNext, delete, readNext, writeNext, make, rename, protect, attributes, user, read, write, size, setRandom, writeZeroFill, done, free, refused, badSlot, Line, call, altered, slotsAre, heldAre, volumeAt, fcbAt, fcbIs, bufferIs, Script, script, lentFcb, lentBuffer, words, seen, told}
 use Rattle.examples.specs.Samples.{sigla, lemmata, from, systemFrom, lemmataReadOnly, topped, anyName, small, disk, entry, empty, control, fresh, recordOf, extentOf, renaming, filled, old}
 use Rattle.examples.specs.Table.{block4in15, block1in12, volumeFull, geometryFull, extentsFrom}
 
@@ -569,7 +569,7 @@ state g current kind searcher last pattern =
       user = current;
       protected = true;
       search = record { kind = kind; user = searcher; last = last; pattern = pattern };
-      held = replicate 4 7;
+      held = replicate heldWords 7;
     }
 
 abbrev pub states : List Bool
@@ -664,8 +664,8 @@ top = 2 ^ 63
 abbrev pub ends : ℕ
 ends = 2 ^ 63 + 1
 
-abbrev pub heldWords : List (List ℕ)
-heldWords =
+abbrev pub shownWords : List (List ℕ)
+shownWords =
     wordsOf atEnds
     ∷ hold (hold (hold (hold (hold noneHeld 1) 64) 130) 127) 255
     ∷ hold (wordsOf atEnds) 64
@@ -679,15 +679,15 @@ heldWords =
 
 abbrev pub expectedWords : List (List ℕ)
 expectedWords =
-    (top ∷ ends ∷ ends ∷ ends ∷ [])
-    ∷ (2 ∷ ends ∷ 4 ∷ top ∷ [])
-    ∷ (top ∷ ends ∷ ends ∷ ends ∷ [])
-    ∷ (0 ∷ top ∷ 1 ∷ ends ∷ [])
-    ∷ (top ∷ ends ∷ ends ∷ ends ∷ [])
+    words (top ∷ ends ∷ ends ∷ ends ∷ [])
+    ∷ words (2 ∷ ends ∷ 4 ∷ top ∷ [])
+    ∷ words (top ∷ ends ∷ ends ∷ ends ∷ [])
+    ∷ words (0 ∷ top ∷ 1 ∷ ends ∷ [])
+    ∷ words (top ∷ ends ∷ ends ∷ ends ∷ [])
     ∷ (21 ∷ 0 ∷ 0 ∷ 0 ∷ [])
     ∷ (200 ∷ 130 ∷ 248 ∷ [])
     ∷ []
 
-words-hold : heldWords ≡ expectedWords
+words-hold : shownWords ≡ expectedWords
 unfolding seen old
 words-hold = refl

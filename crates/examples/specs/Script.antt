@@ -2,9 +2,9 @@
 -- and bytes that it leaves. `seen` performs the calls by their definitions, `told` is what the script says; a script holds
 -- where the two are equal.
 use mathlib.Core.Bool.{cond}
-use mathlib.Core.List.{List, [], _∷_}
+use mathlib.Core.List.{List, [], _∷_, _++_}
 use Prim.Native.Nat.{ℕ}
-use lib.ListN.{length}
+use lib.ListN.{length, take, replicate}
 use Rattle.lists.specs.Bounded.{lowFrom, anyFrom, everyFrom, countFrom, fold}
 use Rattle.lists.specs.Bytes.{part, put, all}
 use Rattle.disk_geometry.specs.declared.Geometry.{Geometry}
@@ -14,7 +14,7 @@ use Rattle.call_typing.specs.Typing.{typeableByte, blankBefore, typeable}
 use Rattle.disk_volume.specs.Entry.{blockIn, withBlock, countOf, ofFile, ofGroup, matches}
 use Rattle.disk_volume.specs.Directory.{slotAt, putSlot, findSlot, mapSlot}
 use Rattle.disk_volume.specs.Record.{recordSlot, counted, present, recordAt, putRecord, fillRecord, putFilled, slotRecord}
-use Rattle.disk_held.specs.Held.{digit, holds, hold, release, wordOf, wordsOf, lowestFree, freeCount}
+use Rattle.disk_held.specs.Held.{heldWords, digit, holds, hold, release, wordOf, wordsOf, lowestFree, freeCount}
 use Rattle.call_fcb.specs.Fcb.{position, random, setTo, opened, made, withRandom}
 use Rattle.call_answers.specs.declared.Refusal.the-variants.{Closed}
 use Rattle.call_answers.specs.declared.Answer.{Answer}
@@ -119,7 +119,7 @@ abbrev pub someDone : ℕ → ℕ → List ℕ
 someDone count number = 1 ∷ number ∷ count ∷ []
 
 -- A line of a script: a call with what it answers; another volume that is lent from here on; or something to be seen after
--- the last call: the number of slots, the words of the held blocks, bytes of the volume or of the control block from a
+-- the last call: the number of slots, the words of the held blocks (those not named are 0), bytes of the volume or of the control block from a
 -- place on, the whole control block, the whole transfer buffer.
 pub data Line : Type 0 where
   call : Call → List ℕ → Line
@@ -146,13 +146,17 @@ seenAfter o (fcbAt a l ∷ ls) = part (o .fcb) a (length l) ∷ seenAfter o ls
 seenAfter o (fcbIs l ∷ ls) = o .fcb ∷ seenAfter o ls
 seenAfter o (bufferIs l ∷ ls) = o .buffer ∷ seenAfter o ls
 
+-- the words of a state, by the first of them: the others are 0
+abbrev pub words : List ℕ → List ℕ
+words first = take heldWords (first ++ replicate heldWords 0)
+
 -- what the lines say
 unfoldable pub toldBy : List Line → List (List ℕ)
 toldBy [] = []
 toldBy (call c answer ∷ ls) = answer ∷ toldBy ls
 toldBy (altered v ∷ ls) = toldBy ls
 toldBy (slotsAre n ∷ ls) = (n ∷ []) ∷ toldBy ls
-toldBy (heldAre l ∷ ls) = l ∷ toldBy ls
+toldBy (heldAre l ∷ ls) = words l ∷ toldBy ls
 toldBy (volumeAt a l ∷ ls) = l ∷ toldBy ls
 toldBy (fcbAt a l ∷ ls) = l ∷ toldBy ls
 toldBy (fcbIs l ∷ ls) = l ∷ toldBy ls

@@ -12,7 +12,7 @@ use Rattle.filecalls.specs.declared.Drive.{Drive}
 use Rattle.filecalls.specs.State.{loggedIn}
 use Rattle.filecalls.specs.LogIn.{logIn as logInReply}
 use Rattle.filecalls.specs.Stores.{deleteStores, makeStores, renameStores, attributesStores, sequentialStores, directStores, singlesStores, severalStores}
-use Rattle.examples.specs.Script.{seen}
+use Rattle.examples.specs.Script.{words, seen}
 use Rattle.examples.specs.Samples.{sigla, lemmata, from, entry, empty, control, fresh, recordOf, renaming, filled, old, small, disk}
 
 -- SIGLA.TXT has two entries in directory record 0, beside LEMMATA.TXT; no block is free
@@ -31,10 +31,10 @@ inTwo = disk (record0 ++ record1 ++ empty 24)
 
 -- the states after log-in, by their held blocks: 1, 2 and 3; 1 and 2
 abbrev pub full : Drive
-full = loggedIn small (14 ∷ 0 ∷ 0 ∷ 0 ∷ [])
+full = loggedIn small (words (14 ∷ []))
 
 abbrev pub ready : Drive
-ready = loggedIn small (6 ∷ 0 ∷ 0 ∷ 0 ∷ [])
+ready = loggedIn small (words (6 ∷ []))
 
 full-is : logInReply small inOne .drive ≡ full
 unfolding seen old

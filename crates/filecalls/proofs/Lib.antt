@@ -4,6 +4,7 @@ pub mod OutcomeLaws
 pub mod LentLaws
 pub mod LogInLaws
 pub mod CutLaws
+pub mod JoinLaws
 pub mod WriteLaws
 pub mod SinglesCutLaws
 pub mod SearchLaws

@@ -91,11 +91,6 @@ module _ (d : Drive) (v f b : List ℕ) where
   unfolding outcome
   says-no {r} {why} {u} e p = rw (p, e)
 
-  pub says-done : {r : Reply} {k : ℕ} {u : Act} (f′ b′ : List ℕ) → u ≡ done k keeps [] f′ b′ → r ≡ record { answer = Done k; drive = d }
-      → left r v f′ b′ ≡ outcome d v f b u
-  unfolding outcome changedState laid
-  says-done {r} {k} {u} f′ b′ e p = rw (p, e)
-
   -- a first group of tests refuses, as code learns it
   pub refused-at : {why : Refusal} {r : Reply} {t : Bool} (xs ys : List Test) (act : Act)
       → why ≡ firstMet xs → t ≡ isNone why → not t ≡ true → r ≡ record { answer = Refused why; drive = d }

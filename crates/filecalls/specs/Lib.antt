@@ -12,6 +12,7 @@ pub mod Small
 pub mod Leaves
 pub mod Several
 pub mod Stores
+pub mod CodeFront
 pub mod CodeReady
 pub mod CodeLadder
 pub mod CodeCut

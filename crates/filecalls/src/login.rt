@@ -8,9 +8,10 @@ use crate::Reply;
 use call_answers::Answer;
 use call_answers::Refusal;
 use disk_geometry::Geometry;
+use disk_held::WORDS;
 
 // The state after log-in: user 0, not protected and no search open, as in the closed state.
-fn logged_in(geometry: Geometry, held: [u64; 4]) -> Drive
+fn logged_in(geometry: Geometry, held: [u64; WORDS]) -> Drive
     ensures { λ r. ⌜ r ≡ loggedIn geometry held ⌝ }
 {
     let mut drive = Drive::closed();
@@ -39,11 +40,11 @@ impl Drive {
         if !whole {
             return closed_reply(Answer::Refused(Refusal::VolumeLength));
         }
-        let found = disk_inspection::inspect(g, volume);
+        let mut held = [0u64; WORDS];
+        let found = disk_inspection::inspect(g, volume, &mut held);
         if found.slot < g.slots() {
             return closed_reply(Answer::BadSlot(found.slot));
         }
-        let held = found.held;
         let drive = logged_in(g, held);
         Reply {
             answer: Answer::Ready(found.free),

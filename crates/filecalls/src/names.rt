@@ -1,28 +1,34 @@
 // The calls on names: delete (19), make (22), rename (23), attributes (30). Beneath each stands a function that ends when no
 // store is left: the call is that function with enough of them.
 ghost use mathlib.Core.Path.{_≡_};
-ghost use mathlib.Core.List.{[]};
-ghost use Rattle.filecalls.specs.Outcome.{left};
-ghost use Rattle.filecalls.specs.Leaves.{deleteLeaves, makeLeaves, renameLeaves, attributesLeave};
+ghost use mathlib.Core.List.{List, []};
+ghost use Prim.Native.Nat.{ℕ};
 ghost use Rattle.filecalls.specs.Names.{deleteAct, makeAct, renameAct, attributesAct};
 ghost use Rattle.filecalls.specs.Stores.{cutOutcome, cutLeft};
-use crate::Drive;
-use crate::ENOUGH;
-use crate::Reply;
+ghost use Rattle.filecalls.specs.CodeFront.{joined, joinedReply};
+use crate::Front;
+use crate::FrontReply;
 use call_answers::Refusal;
 use call_fcb::NEW_NAME;
 use call_fcb::NEW_NAME_END;
 use disk_geometry::Geometry;
+use disk_held::WORDS;
 use disk_volume::fields::NAME;
 use disk_volume::fields::NAME_END;
 
-impl Drive {
+impl Front {
     // Function 19 as long as a store is left.
-    pub fn delete_most(self, volume: &mut [u8], fcb: &[u8], left: &mut usize) -> Reply
+    pub fn delete_most(
+        self,
+        held: &mut [u64; WORDS],
+        volume: &mut [u8],
+        fcb: &[u8],
+        left: &mut usize,
+    ) -> FrontReply
         ensures { λ r. ⌜
-            cutLeft r (now (volume .exit)) (now (fcb .entry)) [] (now (left .exit))
-            ≡ cutOutcome (now (left .entry)) self (now (volume .entry)) (now (fcb .entry)) []
-            (deleteAct self (now (volume .entry)) (now (fcb .entry)))
+            cutLeft (joinedReply r (now (held .exit))) (now (volume .exit)) (now (fcb .entry)) [] (now (left .exit))
+            ≡ cutOutcome (now (left .entry)) (joined self (now (held .entry))) (now (volume .entry)) (now (fcb .entry)) []
+            (deleteAct (joined self (now (held .entry))) (now (volume .entry)) (now (fcb .entry)))
             ⌝ }
     {
         let why = self.named_why(volume, fcb, Geometry::RECORD_BYTES, true);
@@ -31,8 +37,7 @@ impl Drive {
         }
         let before = call_answers::refuse(Refusal::Protected, self.protected);
         let g = self.geometry;
-        let held = self.held;
-        let gone = call_delete::delete_matches(
+        let why = call_delete::delete_matches(
             g,
             volume,
             self.user,
@@ -41,30 +46,16 @@ impl Drive {
             before,
             left,
         );
-        let why = gone.why;
-        let rest = gone.held;
-        let mut drive = self;
-        drive.held = rest;
-        drive.answered(why, 0)
-    }
-
-    // Function 19: every matching entry is gone, and its blocks are free.
-    pub fn delete(self, volume: &mut [u8], fcb: &[u8]) -> Reply
-        ensures { λ r. ⌜
-            left r (now (volume .exit)) (now (fcb .entry)) []
-            ≡ deleteLeaves self (now (volume .entry)) (now (fcb .entry))
-            ⌝ }
-    {
-        let mut left = ENOUGH;
-        self.delete_most(volume, fcb, &mut left)
+        self.answered(why, 0)
     }
 
     // Function 22 as long as a store is left.
-    pub fn make_most(self, volume: &mut [u8], fcb: &mut [u8], left: &mut usize) -> Reply
+    pub fn make_most(self, volume: &mut [u8], fcb: &mut [u8], left: &mut usize) -> FrontReply
         ensures { λ r. ⌜
-            cutLeft r (now (volume .exit)) (now (fcb .exit)) [] (now (left .exit))
-            ≡ cutOutcome (now (left .entry)) self (now (volume .entry)) (now (fcb .entry)) []
-            (makeAct self (now (volume .entry)) (now (fcb .entry)))
+            ((held : List ℕ)
+            → cutLeft (joinedReply r held) (now (volume .exit)) (now (fcb .exit)) [] (now (left .exit))
+            ≡ cutOutcome (now (left .entry)) (joined self held) (now (volume .entry)) (now (fcb .entry)) []
+            (makeAct (joined self held) (now (volume .entry)) (now (fcb .entry))))
             ⌝ }
     {
         let why = self.named_why(volume, fcb, Geometry::RECORD_BYTES, false);
@@ -80,23 +71,13 @@ impl Drive {
         self.answered(why, (made.slot % Geometry::RECORD_SLOTS) as u8)
     }
 
-    // Function 22: the lowest empty slot gets the file's first entry.
-    pub fn make(self, volume: &mut [u8], fcb: &mut [u8]) -> Reply
-        ensures { λ r. ⌜
-            left r (now (volume .exit)) (now (fcb .exit)) []
-            ≡ makeLeaves self (now (volume .entry)) (now (fcb .entry))
-            ⌝ }
-    {
-        let mut left = ENOUGH;
-        self.make_most(volume, fcb, &mut left)
-    }
-
     // Function 23 as long as a store is left.
-    pub fn rename_most(self, volume: &mut [u8], fcb: &[u8], left: &mut usize) -> Reply
+    pub fn rename_most(self, volume: &mut [u8], fcb: &[u8], left: &mut usize) -> FrontReply
         ensures { λ r. ⌜
-            cutLeft r (now (volume .exit)) (now (fcb .entry)) [] (now (left .exit))
-            ≡ cutOutcome (now (left .entry)) self (now (volume .entry)) (now (fcb .entry)) []
-            (renameAct self (now (volume .entry)) (now (fcb .entry)))
+            ((held : List ℕ)
+            → cutLeft (joinedReply r held) (now (volume .exit)) (now (fcb .entry)) [] (now (left .exit))
+            ≡ cutOutcome (now (left .entry)) (joined self held) (now (volume .entry)) (now (fcb .entry)) []
+            (renameAct (joined self held) (now (volume .entry)) (now (fcb .entry))))
             ⌝ }
     {
         let why = self.named_why(volume, fcb, Geometry::RECORD_BYTES, false);
@@ -119,23 +100,13 @@ impl Drive {
         self.answered(why, 0)
     }
 
-    // Function 23: all entries of the file take the new name.
-    pub fn rename(self, volume: &mut [u8], fcb: &[u8]) -> Reply
-        ensures { λ r. ⌜
-            left r (now (volume .exit)) (now (fcb .entry)) []
-            ≡ renameLeaves self (now (volume .entry)) (now (fcb .entry))
-            ⌝ }
-    {
-        let mut left = ENOUGH;
-        self.rename_most(volume, fcb, &mut left)
-    }
-
     // Function 30 as long as a store is left.
-    pub fn attributes_most(self, volume: &mut [u8], fcb: &[u8], left: &mut usize) -> Reply
+    pub fn attributes_most(self, volume: &mut [u8], fcb: &[u8], left: &mut usize) -> FrontReply
         ensures { λ r. ⌜
-            cutLeft r (now (volume .exit)) (now (fcb .entry)) [] (now (left .exit))
-            ≡ cutOutcome (now (left .entry)) self (now (volume .entry)) (now (fcb .entry)) []
-            (attributesAct self (now (volume .entry)) (now (fcb .entry)))
+            ((held : List ℕ)
+            → cutLeft (joinedReply r held) (now (volume .exit)) (now (fcb .entry)) [] (now (left .exit))
+            ≡ cutOutcome (now (left .entry)) (joined self held) (now (volume .entry)) (now (fcb .entry)) []
+            (attributesAct (joined self held) (now (volume .entry)) (now (fcb .entry))))
             ⌝ }
     {
         let why = self.named_why(volume, fcb, Geometry::RECORD_BYTES, false);
@@ -153,16 +124,5 @@ impl Drive {
             left,
         );
         self.answered(why, 0)
-    }
-
-    // Function 30: all entries of the file take the control block's attribute bits.
-    pub fn set_attributes(self, volume: &mut [u8], fcb: &[u8]) -> Reply
-        ensures { λ r. ⌜
-            left r (now (volume .exit)) (now (fcb .entry)) []
-            ≡ attributesLeave self (now (volume .entry)) (now (fcb .entry))
-            ⌝ }
-    {
-        let mut left = ENOUGH;
-        self.attributes_most(volume, fcb, &mut left)
     }
 }

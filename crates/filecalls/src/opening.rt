@@ -1,18 +1,21 @@
 // Open (15), close (16) and size (35).
 ghost use mathlib.Core.Path.{_≡_};
-ghost use mathlib.Core.List.{[]};
+ghost use mathlib.Core.List.{List, []};
+ghost use Prim.Native.Nat.{ℕ};
 ghost use Rattle.filecalls.specs.Outcome.{left};
 ghost use Rattle.filecalls.specs.Leaves.{openLeaves, closeLeaves, sizeLeaves};
-use crate::Drive;
-use crate::Reply;
+ghost use Rattle.filecalls.specs.CodeFront.{joined, joinedReply};
+use crate::Front;
+use crate::FrontReply;
 use disk_geometry::Geometry;
 
-impl Drive {
+impl Front {
     // Function 15: shows the entry that the control block means.
-    pub fn open_file(self, volume: &[u8], fcb: &mut [u8]) -> Reply
+    pub fn open_file(self, volume: &[u8], fcb: &mut [u8]) -> FrontReply
         ensures { λ r. ⌜
-            left r (now (volume .entry)) (now (fcb .exit)) []
-            ≡ openLeaves self (now (volume .entry)) (now (fcb .entry))
+            ((held : List ℕ)
+            → left (joinedReply r held) (now (volume .entry)) (now (fcb .exit)) []
+            ≡ openLeaves (joined self held) (now (volume .entry)) (now (fcb .entry)))
             ⌝ }
     {
         let why = self.named_why(volume, fcb, Geometry::RECORD_BYTES, true);
@@ -26,10 +29,11 @@ impl Drive {
     }
 
     // Function 16: the group has an entry; nothing is changed.
-    pub fn close_file(self, volume: &[u8], fcb: &[u8]) -> Reply
+    pub fn close_file(self, volume: &[u8], fcb: &[u8]) -> FrontReply
         ensures { λ r. ⌜
-            left r (now (volume .entry)) (now (fcb .entry)) []
-            ≡ closeLeaves self (now (volume .entry)) (now (fcb .entry))
+            ((held : List ℕ)
+            → left (joinedReply r held) (now (volume .entry)) (now (fcb .entry)) []
+            ≡ closeLeaves (joined self held) (now (volume .entry)) (now (fcb .entry)))
             ⌝ }
     {
         let why = self.named_why(volume, fcb, Geometry::RECORD_BYTES, false);
@@ -43,10 +47,11 @@ impl Drive {
     }
 
     // Function 35: the file's size in r0 r1 r2.
-    pub fn file_size(self, volume: &[u8], fcb: &mut [u8]) -> Reply
+    pub fn file_size(self, volume: &[u8], fcb: &mut [u8]) -> FrontReply
         ensures { λ r. ⌜
-            left r (now (volume .entry)) (now (fcb .exit)) []
-            ≡ sizeLeaves self (now (volume .entry)) (now (fcb .entry))
+            ((held : List ℕ)
+            → left (joinedReply r held) (now (volume .entry)) (now (fcb .exit)) []
+            ≡ sizeLeaves (joined self held) (now (volume .entry)) (now (fcb .entry)))
             ⌝ }
     {
         let why = self.named_why(volume, fcb, Geometry::RECORD_BYTES, false);

@@ -1,7 +1,8 @@
 // The reads: sequential (20) and random (33).
 ghost use mathlib.Core.Path.{_≡_};
 ghost use mathlib.Core.Bool.{false};
-ghost use Prim.Native.Nat.{_<_};
+ghost use mathlib.Core.List.{List, []};
+ghost use Prim.Native.Nat.{ℕ, _<_};
 ghost use lib.ListN.{length};
 ghost use Rattle.call_fcb.specs.Fcb.{fileRecords};
 ghost use Rattle.call_answers.specs.Refusal.{isNone};
@@ -9,12 +10,13 @@ ghost use Rattle.filecalls.specs.Outcome.{outcome, left};
 ghost use Rattle.filecalls.specs.Leaves.{readSequentialLeaves, readRandomLeaves};
 ghost use Rattle.filecalls.specs.CodeLadder.{readRecordAct};
 ghost use Rattle.filecalls.specs.CodeReady.{Lent};
-use crate::Drive;
-use crate::Reply;
+ghost use Rattle.filecalls.specs.CodeFront.{joined, joinedReply};
+use crate::Front;
+use crate::FrontReply;
 use call_answers::Refusal;
 use disk_geometry::Geometry;
 
-impl Drive {
+impl Front {
     // Reads record n, where the tests of what is lent have passed.
     fn read_at(
         self,
@@ -24,13 +26,14 @@ impl Drive {
         n: usize,
         cr: u8,
         missing: Refusal,
-    ) -> Reply
-        requires { ⌜ Lent self (length (now volume)) (length (now fcb)) (length (now buffer)) ⌝ }
+    ) -> FrontReply
+        requires { ⌜ Lent (joined self []) (length (now volume)) (length (now fcb)) (length (now buffer)) ⌝ }
         requires { ⌜ (n < fileRecords) × (isNone missing ≡ false) ⌝ }
         ensures { λ r. ⌜
-            left r (now (volume .entry)) (now (fcb .exit)) (now (buffer .exit))
-            ≡ outcome self (now (volume .entry)) (now (fcb .entry)) (now (buffer .entry))
-            (readRecordAct self (now (volume .entry)) (now (fcb .entry)) n cr missing)
+            ((held : List ℕ)
+            → left (joinedReply r held) (now (volume .entry)) (now (fcb .exit)) (now (buffer .exit))
+            ≡ outcome (joined self held) (now (volume .entry)) (now (fcb .entry)) (now (buffer .entry))
+            (readRecordAct (joined self held) (now (volume .entry)) (now (fcb .entry)) n cr missing))
             ⌝ }
     {
         let g = self.geometry;
@@ -39,10 +42,11 @@ impl Drive {
     }
 
     // Function 20: reads at the sequential position, and moves it on.
-    pub fn read_sequential(self, volume: &[u8], fcb: &mut [u8], buffer: &mut [u8]) -> Reply
+    pub fn read_sequential(self, volume: &[u8], fcb: &mut [u8], buffer: &mut [u8]) -> FrontReply
         ensures { λ r. ⌜
-            left r (now (volume .entry)) (now (fcb .exit)) (now (buffer .exit))
-            ≡ readSequentialLeaves self (now (volume .entry)) (now (fcb .entry)) (now (buffer .entry))
+            ((held : List ℕ)
+            → left (joinedReply r held) (now (volume .entry)) (now (fcb .exit)) (now (buffer .exit))
+            ≡ readSequentialLeaves (joined self held) (now (volume .entry)) (now (fcb .entry)) (now (buffer .entry)))
             ⌝ }
     {
         let why = self.sequential_why(volume, fcb, buffer.len());
@@ -61,10 +65,11 @@ impl Drive {
     }
 
     // Function 33: reads the record in r0 r1.
-    pub fn read_random(self, volume: &[u8], fcb: &mut [u8], buffer: &mut [u8]) -> Reply
+    pub fn read_random(self, volume: &[u8], fcb: &mut [u8], buffer: &mut [u8]) -> FrontReply
         ensures { λ r. ⌜
-            left r (now (volume .entry)) (now (fcb .exit)) (now (buffer .exit))
-            ≡ readRandomLeaves self (now (volume .entry)) (now (fcb .entry)) (now (buffer .entry))
+            ((held : List ℕ)
+            → left (joinedReply r held) (now (volume .entry)) (now (fcb .exit)) (now (buffer .exit))
+            ≡ readRandomLeaves (joined self held) (now (volume .entry)) (now (fcb .entry)) (now (buffer .entry)))
             ⌝ }
     {
         let why = self.random_why(volume, fcb, buffer.len());

@@ -11,9 +11,10 @@ ghost use Rattle.filecalls.specs.Outcome.{outcome, left};
 ghost use Rattle.filecalls.specs.Search.{keptAt, isKept};
 ghost use Rattle.filecalls.specs.Leaves.{searchFirstLeaves, searchNextLeaves};
 ghost use Rattle.filecalls.specs.CodeReady.{Lent};
-use crate::Drive;
+ghost use Rattle.filecalls.specs.CodeFront.{joined, joinedReply};
+use crate::Front;
+use crate::FrontReply;
 use crate::KeptSearch;
-use crate::Reply;
 use call_answers::Refusal;
 use call_fcb::DR;
 use call_fcb::FCB_BYTES;
@@ -44,11 +45,12 @@ fn kept_at(search: KeptSearch, slot: usize) -> KeptSearch
     kept
 }
 
-impl Drive {
+impl Front {
     // 32 to 35, then 42, 39 and 40 of a search.
     fn first_why(self, volume: &[u8], fcb: &[u8], buffer: &[u8]) -> Refusal
         ensures { λ r. ⌜
-            r ≡ firstMet (firstLent self (now (volume .entry)) (now (fcb .entry)) (now (buffer .entry)))
+            ((held : List ℕ)
+            → r ≡ firstMet (firstLent (joined self held) (now (volume .entry)) (now (fcb .entry)) (now (buffer .entry))))
             ⌝ }
     {
         let why = self.lent_why(volume.len(), fcb.len(), buffer.len());
@@ -67,14 +69,20 @@ impl Drive {
     }
 
     // The search from slot `from` on, where the tests of what is lent have passed.
-    fn search_on(self, volume: &[u8], buffer: &mut [u8], search: KeptSearch, from: usize) -> Reply
-        requires { ⌜ Lent self (length (now volume)) fcbBytes (length (now buffer)) ⌝ }
+    fn search_on(
+        self,
+        volume: &[u8],
+        buffer: &mut [u8],
+        search: KeptSearch,
+        from: usize,
+    ) -> FrontReply
+        requires { ⌜ Lent (joined self []) (length (now volume)) fcbBytes (length (now buffer)) ⌝ }
         requires { ⌜ from ≤ slots (self .geometry) ⌝ }
         ensures { λ r. ⌜
-            ((fcb : List ℕ)
-            → left r (now (volume .entry)) fcb (now (buffer .exit))
-            ≡ outcome self (now (volume .entry)) fcb (now (buffer .entry))
-            (searchOnAct self (now (volume .entry)) fcb search from))
+            ((held fcb : List ℕ)
+            → left (joinedReply r held) (now (volume .entry)) fcb (now (buffer .exit))
+            ≡ outcome (joined self held) (now (volume .entry)) fcb (now (buffer .entry))
+            (searchOnAct (joined self held) (now (volume .entry)) fcb search from))
             ⌝ }
     {
         let g = self.geometry;
@@ -91,18 +99,19 @@ impl Drive {
         );
         if slot < g.slots() {
             let kept = kept_at(search, slot);
-            let mut drive = self;
-            drive.search = kept;
-            return drive.done((slot % Geometry::RECORD_SLOTS) as u8);
+            let mut front = self;
+            front.search = kept;
+            return front.done((slot % Geometry::RECORD_SLOTS) as u8);
         }
         self.refused(Refusal::NoMatch)
     }
 
     // Function 17: starts at slot 0, and keeps pattern and user.
-    pub fn search_first(self, volume: &[u8], fcb: &[u8], buffer: &mut [u8]) -> Reply
+    pub fn search_first(self, volume: &[u8], fcb: &[u8], buffer: &mut [u8]) -> FrontReply
         ensures { λ r. ⌜
-            left r (now (volume .entry)) (now (fcb .entry)) (now (buffer .exit))
-            ≡ searchFirstLeaves self (now (volume .entry)) (now (fcb .entry)) (now (buffer .entry))
+            ((held : List ℕ)
+            → left (joinedReply r held) (now (volume .entry)) (now (fcb .entry)) (now (buffer .exit))
+            ≡ searchFirstLeaves (joined self held) (now (volume .entry)) (now (fcb .entry)) (now (buffer .entry)))
             ⌝ }
     {
         let why = self.first_why(volume, fcb, buffer);
@@ -121,10 +130,11 @@ impl Drive {
     }
 
     // Function 18: goes on after the last hit.
-    pub fn search_next(self, volume: &[u8], buffer: &mut [u8]) -> Reply
+    pub fn search_next(self, volume: &[u8], buffer: &mut [u8]) -> FrontReply
         ensures { λ r. ⌜
-            left r (now (volume .entry)) [] (now (buffer .exit))
-            ≡ searchNextLeaves self (now (volume .entry)) (now (buffer .entry))
+            ((held : List ℕ)
+            → left (joinedReply r held) (now (volume .entry)) [] (now (buffer .exit))
+            ≡ searchNextLeaves (joined self held) (now (volume .entry)) (now (buffer .entry)))
             ⌝ }
     {
         let why = self.lent_why(volume.len(), FCB_BYTES, buffer.len());

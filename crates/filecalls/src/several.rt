@@ -1,30 +1,33 @@
 // Several records a call: a sequential read (220) and write (221) of 1 to 16 records. Each single call is lent its own piece of
 // the buffer.
 ghost use mathlib.Core.Path.{_≡_};
-ghost use Prim.Native.Nat.{_+_, _*_, _≤_};
+ghost use mathlib.Core.List.{List};
+ghost use Prim.Native.Nat.{ℕ, _+_, _*_, _≤_};
 ghost use lib.ListN.{length};
 ghost use Rattle.disk_geometry.specs.Geometry.{recordBytes};
 ghost use Rattle.call_answers.specs.Refusal.{firstMet};
 ghost use Rattle.call_answers.specs.declared.Answer.the-variants.{Several};
 ghost use Rattle.filecalls.specs.Outcome.{left};
-ghost use Rattle.filecalls.specs.Leaves.{readSequentialLeaves, writeSequentialLeaves};
+ghost use Rattle.filecalls.specs.Leaves.{readSequentialLeaves};
 ghost use Rattle.filecalls.specs.Several.{severalTests, pieceAt, onPiece, singles, several};
 ghost use Rattle.filecalls.specs.Write.{writeSequentialAct};
 ghost use Rattle.filecalls.specs.Stores.{cutOutcome, cutLeft, SeveralCut};
 ghost use Rattle.filecalls.specs.CodeCut.{SinglesCut};
-use crate::Drive;
-use crate::ENOUGH;
-use crate::Reply;
+ghost use Rattle.filecalls.specs.CodeFront.{joined, joinedReply};
+use crate::Front;
+use crate::FrontReply;
 use call_answers::Answer;
 use call_answers::Refusal;
 use call_fcb::FCB_BYTES;
 use disk_geometry::Geometry;
+use disk_held::WORDS;
 
-impl Drive {
+impl Front {
     // 32, 33, 34, then 46 for k outside 1..16, then 35 for a buffer that is not k records long.
     fn several_why(self, volume: &[u8], fcb: &[u8], buffer: &[u8], k: u8) -> Refusal
         ensures { λ r. ⌜
-            r ≡ firstMet (severalTests self (now (volume .entry)) (now (fcb .entry)) (now (buffer .entry)) k)
+            ((held : List ℕ)
+            → r ≡ firstMet (severalTests (joined self held) (now (volume .entry)) (now (fcb .entry)) (now (buffer .entry)) k))
             ⌝ }
     {
         if !self.is_open() {
@@ -43,21 +46,24 @@ impl Drive {
     }
 
     // n records are done, and why no more.
-    fn ended(self, n: usize, why: Refusal) -> Reply
-        ensures { λ r. ⌜ r ≡ record { answer = Several n why; drive = self } ⌝ }
+    fn ended(self, n: usize, why: Refusal) -> FrontReply
+        ensures { λ r. ⌜
+            ((held : List ℕ) → joinedReply r held ≡ record { answer = Several n why; drive = joined self held })
+            ⌝ }
     {
-        Reply {
+        FrontReply {
             answer: Answer::Several(n, why),
-            drive: self,
+            front: self,
         }
     }
 
     // The single read into piece i: the part of the buffer is lent on to it.
-    fn read_piece(self, volume: &[u8], fcb: &mut [u8], buffer: &mut [u8], i: usize) -> Reply
+    fn read_piece(self, volume: &[u8], fcb: &mut [u8], buffer: &mut [u8], i: usize) -> FrontReply
         requires { ⌜ recordBytes * i + recordBytes ≤ length (now buffer) ⌝ }
         ensures { λ r. ⌜
-            left r (now (volume .entry)) (now (fcb .exit)) (now (buffer .exit))
-            ≡ onPiece readSequentialLeaves i self (now (volume .entry)) (now (fcb .entry)) (now (buffer .entry))
+            ((held : List ℕ)
+            → left (joinedReply r held) (now (volume .entry)) (now (fcb .exit)) (now (buffer .exit))
+            ≡ onPiece readSequentialLeaves i (joined self held) (now (volume .entry)) (now (fcb .entry)) (now (buffer .entry)))
             ⌝ }
     {
         let from = Geometry::RECORD_BYTES * i;
@@ -69,11 +75,12 @@ impl Drive {
     }
 
     // k single reads in order, up to the first that is refused.
-    fn read_pieces(self, volume: &[u8], fcb: &mut [u8], buffer: &mut [u8], k: usize) -> Reply
+    fn read_pieces(self, volume: &[u8], fcb: &mut [u8], buffer: &mut [u8], k: usize) -> FrontReply
         requires { ⌜ length (now buffer) ≡ recordBytes * k ⌝ }
         ensures { λ r. ⌜
-            left r (now (volume .entry)) (now (fcb .exit)) (now (buffer .exit))
-            ≡ singles readSequentialLeaves 0 k self (now (volume .entry)) (now (fcb .entry)) (now (buffer .entry))
+            ((held : List ℕ)
+            → left (joinedReply r held) (now (volume .entry)) (now (fcb .exit)) (now (buffer .exit))
+            ≡ singles readSequentialLeaves 0 k (joined self held) (now (volume .entry)) (now (fcb .entry)) (now (buffer .entry)))
             ⌝ }
     {
         let mut d = self;
@@ -81,7 +88,7 @@ impl Drive {
         while i < k {
             let read = d.read_piece(volume, fcb, buffer, i);
             let answer = read.answer;
-            let next = read.drive;
+            let next = read.front;
             if !call_answers::succeeded(answer) {
                 return next.ended(i, call_answers::why_of(answer));
             }
@@ -94,21 +101,23 @@ impl Drive {
     // The single write of piece i, as long as a store is left.
     fn write_piece(
         self,
+        held: &mut [u64; WORDS],
         volume: &mut [u8],
         fcb: &mut [u8],
         buffer: &[u8],
         i: usize,
         left: &mut usize,
-    ) -> Reply
+    ) -> FrontReply
         requires { ⌜ recordBytes * i + recordBytes ≤ length (now buffer) ⌝ }
         ensures { λ r. ⌜
-            cutLeft r (now (volume .exit)) (now (fcb .exit)) (pieceAt (now (buffer .entry)) i) (now (left .exit))
-            ≡ cutOutcome (now (left .entry)) self (now (volume .entry)) (now (fcb .entry)) (pieceAt (now (buffer .entry)) i)
-            (writeSequentialAct self (now (volume .entry)) (now (fcb .entry)) (pieceAt (now (buffer .entry)) i))
+            cutLeft (joinedReply r (now (held .exit))) (now (volume .exit)) (now (fcb .exit)) (pieceAt (now (buffer .entry)) i) (now (left .exit))
+            ≡ cutOutcome (now (left .entry)) (joined self (now (held .entry))) (now (volume .entry)) (now (fcb .entry)) (pieceAt (now (buffer .entry)) i)
+            (writeSequentialAct (joined self (now (held .entry))) (now (volume .entry)) (now (fcb .entry)) (pieceAt (now (buffer .entry)) i))
             ⌝ }
     {
         let from = Geometry::RECORD_BYTES * i;
         self.write_sequential_most(
+            held,
             volume,
             fcb,
             &buffer[from..from + Geometry::RECORD_BYTES],
@@ -119,24 +128,25 @@ impl Drive {
     // k single writes in order, up to the first that is refused, as long as a store is left.
     fn write_pieces(
         self,
+        held: &mut [u64; WORDS],
         volume: &mut [u8],
         fcb: &mut [u8],
         buffer: &[u8],
         k: usize,
         left: &mut usize,
-    ) -> Reply
+    ) -> FrontReply
         requires { ⌜ length (now buffer) ≡ recordBytes * k ⌝ }
         ensures { λ r. ⌜
-            SinglesCut (now (left .entry)) self (now (volume .entry)) (now (fcb .entry)) (now (buffer .entry)) k
-            (cutLeft r (now (volume .exit)) (now (fcb .exit)) (now (buffer .entry)) (now (left .exit)))
+            SinglesCut (now (left .entry)) (joined self (now (held .entry))) (now (volume .entry)) (now (fcb .entry)) (now (buffer .entry)) k
+            (cutLeft (joinedReply r (now (held .exit))) (now (volume .exit)) (now (fcb .exit)) (now (buffer .entry)) (now (left .exit)))
             ⌝ }
     {
         let mut d = self;
         let mut i = 0;
         while i < k {
-            let written = d.write_piece(volume, fcb, buffer, i, left);
+            let written = d.write_piece(held, volume, fcb, buffer, i, left);
             let answer = written.answer;
-            let after = written.drive;
+            let after = written.front;
             if !call_answers::succeeded(answer) {
                 return after.ended(i, call_answers::why_of(answer));
             }
@@ -147,10 +157,11 @@ impl Drive {
     }
 
     // Function 220: reads k records at the sequential position, and moves it on.
-    pub fn read_several(self, volume: &[u8], fcb: &mut [u8], buffer: &mut [u8], k: u8) -> Reply
+    pub fn read_several(self, volume: &[u8], fcb: &mut [u8], buffer: &mut [u8], k: u8) -> FrontReply
         ensures { λ r. ⌜
-            left r (now (volume .entry)) (now (fcb .exit)) (now (buffer .exit))
-            ≡ several readSequentialLeaves self (now (volume .entry)) (now (fcb .entry)) (now (buffer .entry)) k
+            ((held : List ℕ)
+            → left (joinedReply r held) (now (volume .entry)) (now (fcb .exit)) (now (buffer .exit))
+            ≡ several readSequentialLeaves (joined self held) (now (volume .entry)) (now (fcb .entry)) (now (buffer .entry)) k)
             ⌝ }
     {
         let why = self.several_why(volume, fcb, buffer, k);
@@ -163,32 +174,22 @@ impl Drive {
     // Function 221 as long as a store is left.
     pub fn write_several_most(
         self,
+        held: &mut [u64; WORDS],
         volume: &mut [u8],
         fcb: &mut [u8],
         buffer: &[u8],
         k: u8,
         left: &mut usize,
-    ) -> Reply
+    ) -> FrontReply
         ensures { λ r. ⌜
-            SeveralCut (now (left .entry)) self (now (volume .entry)) (now (fcb .entry)) (now (buffer .entry)) k
-            (cutLeft r (now (volume .exit)) (now (fcb .exit)) (now (buffer .entry)) (now (left .exit)))
+            SeveralCut (now (left .entry)) (joined self (now (held .entry))) (now (volume .entry)) (now (fcb .entry)) (now (buffer .entry)) k
+            (cutLeft (joinedReply r (now (held .exit))) (now (volume .exit)) (now (fcb .exit)) (now (buffer .entry)) (now (left .exit)))
             ⌝ }
     {
         let why = self.several_why(volume, fcb, buffer, k);
         if !call_answers::is_none(why) {
             return self.ended(0, why);
         }
-        self.write_pieces(volume, fcb, buffer, lists::wide(k), left)
-    }
-
-    // Function 221: writes k records at the sequential position, and moves it on.
-    pub fn write_several(self, volume: &mut [u8], fcb: &mut [u8], buffer: &[u8], k: u8) -> Reply
-        ensures { λ r. ⌜
-            left r (now (volume .exit)) (now (fcb .exit)) (now (buffer .entry))
-            ≡ several writeSequentialLeaves self (now (volume .entry)) (now (fcb .entry)) (now (buffer .entry)) k
-            ⌝ }
-    {
-        let mut left = ENOUGH;
-        self.write_several_most(volume, fcb, buffer, k, &mut left)
+        self.write_pieces(held, volume, fcb, buffer, lists::wide(k), left)
     }
 }

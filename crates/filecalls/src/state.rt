@@ -1,20 +1,22 @@
-// The state: whether it counts as closed, the closed value, and the replies that leave it as it is.
+// The front of a state: whether the state counts as closed, and the replies that leave it as it is. What is said of a state is
+// said of its front with any held words.
 ghost use mathlib.Core.Path.{_≡_};
-ghost use mathlib.Core.Bool.{true, false, cond};
+ghost use mathlib.Core.Bool.{true, cond};
+ghost use mathlib.Core.List.{List};
+ghost use Prim.Native.Nat.{ℕ};
 ghost use lib.ListN.{length};
 ghost use Rattle.call_answers.specs.Refusal.{isNone};
 ghost use Rattle.call_answers.specs.declared.Answer.the-variants.{Done, Refused};
 ghost use Rattle.filecalls.specs.declared.Reply.{Reply};
 ghost use Rattle.call_search.specs.Search.{patternBytes};
-ghost use Rattle.filecalls.specs.State.{goodPattern, goodKept, isOpen, closed};
-use crate::Drive;
-use crate::KeptSearch;
-use crate::Reply;
+ghost use Rattle.filecalls.specs.State.{goodPattern, goodKept, isOpen};
+ghost use Rattle.filecalls.specs.CodeFront.{joined, joinedReply};
+use crate::Front;
+use crate::FrontReply;
 use call_answers::Answer;
 use call_answers::Refusal;
 use call_search::PATTERN_BYTES;
 use call_search::SearchKind;
-use disk_geometry::Geometry;
 use disk_volume::fields::NAME_BYTES;
 use disk_volume::names::WILDCARD;
 
@@ -39,36 +41,10 @@ fn is_kept(kind: SearchKind, user: u8, last: usize, pattern: &[u8], n: usize) ->
     }
 }
 
-impl Drive {
-    // The closed state.
-    pub fn closed() -> Drive
-        ensures { λ r. ⌜ r ≡ closed ⌝ }
-    {
-        let geometry = Geometry {
-            block_bytes: 0,
-            blocks: 0,
-            directory_blocks: 0,
-        };
-        let pattern = [0u8; PATTERN_BYTES];
-        let search = KeptSearch {
-            kind: SearchKind::Nothing,
-            user: 0,
-            last: 0,
-            pattern,
-        };
-        let held = [0u64; 4];
-        Drive {
-            geometry,
-            user: 0,
-            protected: false,
-            search,
-            held,
-        }
-    }
-
+impl Front {
     // Is the state one that counts as open?
     pub fn is_open(self) -> bool
-        ensures { λ r. ⌜ r ≡ isOpen self ⌝ }
+        ensures { λ r. ⌜ ((held : List ℕ) → r ≡ isOpen (joined self held)) ⌝ }
     {
         let g = self.geometry;
         if !g.is_lawful() {
@@ -82,28 +58,36 @@ impl Drive {
     }
 
     // Refused: the state as given.
-    pub fn refused(self, why: Refusal) -> Reply
-        ensures { λ r. ⌜ r ≡ record { answer = Refused why; drive = self } ⌝ }
+    pub fn refused(self, why: Refusal) -> FrontReply
+        ensures { λ r. ⌜
+            ((held : List ℕ) → joinedReply r held ≡ record { answer = Refused why; drive = joined self held })
+            ⌝ }
     {
-        Reply {
+        FrontReply {
             answer: Answer::Refused(why),
-            drive: self,
+            front: self,
         }
     }
 
     // Done with this code: the state as given.
-    pub(crate) fn done(self, code: u8) -> Reply
-        ensures { λ r. ⌜ r ≡ record { answer = Done code; drive = self } ⌝ }
+    pub(crate) fn done(self, code: u8) -> FrontReply
+        ensures { λ r. ⌜
+            ((held : List ℕ) → joinedReply r held ≡ record { answer = Done code; drive = joined self held })
+            ⌝ }
     {
-        Reply {
+        FrontReply {
             answer: Answer::Done(code),
-            drive: self,
+            front: self,
         }
     }
 
     // Refused, or done with this code: the state as given.
-    pub(crate) fn answered(self, why: Refusal, code: u8) -> Reply
-        ensures { λ r. ⌜ r ≡ record { answer = cond (isNone why) (Done code) (Refused why); drive = self } ⌝ }
+    pub(crate) fn answered(self, why: Refusal, code: u8) -> FrontReply
+        ensures { λ r. ⌜
+            ((held : List ℕ)
+            → joinedReply r held
+            ≡ record { answer = cond (isNone why) (Done code) (Refused why); drive = joined self held })
+            ⌝ }
     {
         if call_answers::is_none(why) {
             return self.done(code);

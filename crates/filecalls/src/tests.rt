@@ -1,9 +1,12 @@
 // The tests that look at the state and at what is lent, in the paper's order.
 ghost use mathlib.Core.Path.{_≡_};
 ghost use mathlib.Core.Bool.{false};
+ghost use mathlib.Core.List.{List};
+ghost use Prim.Native.Nat.{ℕ};
 ghost use Rattle.call_answers.specs.Refusal.{firstMet};
 ghost use Rattle.filecalls.specs.CodeLadder.{lentTests, namedTests, sequentialLent, randomLent};
-use crate::Drive;
+ghost use Rattle.filecalls.specs.CodeFront.{joined};
+use crate::Front;
 use call_answers::Refusal;
 use call_fcb::CR;
 use call_fcb::DR;
@@ -16,10 +19,10 @@ use disk_volume::fields::NAME;
 use disk_volume::fields::NAME_END;
 use disk_volume::fields::S2;
 
-impl Drive {
+impl Front {
     // 32, 33, 34, 35 by the lengths that are lent; a length that is not lent is given as the right one.
     pub(crate) fn lent_why(self, volume: usize, fcb: usize, buffer: usize) -> Refusal
-        ensures { λ r. ⌜ r ≡ firstMet (lentTests self volume fcb buffer) ⌝ }
+        ensures { λ r. ⌜ ((held : List ℕ) → r ≡ firstMet (lentTests (joined self held) volume fcb buffer)) ⌝ }
     {
         if !self.is_open() {
             return Refusal::Closed;
@@ -39,7 +42,7 @@ impl Drive {
         buffer: usize,
         pattern: bool,
     ) -> Refusal
-        ensures { λ r. ⌜ r ≡ firstMet (namedTests self (now (volume .entry)) (now (fcb .entry)) buffer pattern) ⌝ }
+        ensures { λ r. ⌜ ((held : List ℕ) → r ≡ firstMet (namedTests (joined self held) (now (volume .entry)) (now (fcb .entry)) buffer pattern)) ⌝ }
     {
         let why = self.lent_why(volume.len(), fcb.len(), buffer);
         if !call_answers::is_none(why) {
@@ -55,7 +58,7 @@ impl Drive {
 
     // The same, then 40 and 6 of a sequential call.
     pub(crate) fn sequential_why(self, volume: &[u8], fcb: &[u8], buffer: usize) -> Refusal
-        ensures { λ r. ⌜ r ≡ firstMet (sequentialLent self (now (volume .entry)) (now (fcb .entry)) buffer) ⌝ }
+        ensures { λ r. ⌜ ((held : List ℕ) → r ≡ firstMet (sequentialLent (joined self held) (now (volume .entry)) (now (fcb .entry)) buffer)) ⌝ }
     {
         let why = self.named_why(volume, fcb, buffer, false);
         if !call_answers::is_none(why) {
@@ -70,7 +73,7 @@ impl Drive {
 
     // 32 to 35, 42 and 39, then 6 of a random call.
     pub(crate) fn random_why(self, volume: &[u8], fcb: &[u8], buffer: usize) -> Refusal
-        ensures { λ r. ⌜ r ≡ firstMet (randomLent self (now (volume .entry)) (now (fcb .entry)) buffer) ⌝ }
+        ensures { λ r. ⌜ ((held : List ℕ) → r ≡ firstMet (randomLent (joined self held) (now (volume .entry)) (now (fcb .entry)) buffer)) ⌝ }
     {
         let why = self.named_why(volume, fcb, buffer, false);
         if !call_answers::is_none(why) {

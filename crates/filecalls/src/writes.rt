@@ -1,25 +1,27 @@
 // The writes: sequential (21), random (34), and random with zero fill (40). Beneath each stands a function that ends when no
 // store is left: the call is that function with enough of them.
 ghost use mathlib.Core.Path.{_≡_};
+ghost use mathlib.Core.List.{[]};
 ghost use Prim.Native.Nat.{_<_};
 ghost use lib.ListN.{length};
 ghost use Rattle.call_fcb.specs.Fcb.{fileRecords};
-ghost use Rattle.filecalls.specs.Outcome.{unless, left};
-ghost use Rattle.filecalls.specs.Leaves.{writeSequentialLeaves, writeRandomLeaves, writeZeroFillLeaves};
+ghost use Rattle.filecalls.specs.Outcome.{unless};
 ghost use Rattle.filecalls.specs.Write.{directoryTests, writeDone, writeSequentialAct, writeDirectAct};
 ghost use Rattle.filecalls.specs.Stores.{cutOutcome, cutLeft};
 ghost use Rattle.filecalls.specs.CodeReady.{Lent};
-use crate::Drive;
-use crate::ENOUGH;
-use crate::Reply;
+ghost use Rattle.filecalls.specs.CodeFront.{joined, joinedReply};
+use crate::Front;
+use crate::FrontReply;
 use call_answers::Refusal;
 use disk_geometry::Geometry;
+use disk_held::WORDS;
 
-impl Drive {
+impl Front {
     // Writes record n, where the tests of what is lent have passed. If it `fills`, a block that it gives is first filled with
     // zeros.
     fn write_at(
         self,
+        held: &mut [u64; WORDS],
         volume: &mut [u8],
         fcb: &mut [u8],
         buffer: &[u8],
@@ -27,22 +29,21 @@ impl Drive {
         cr: u8,
         fills: bool,
         left: &mut usize,
-    ) -> Reply
-        requires { ⌜ Lent self (length (now volume)) (length (now fcb)) (length (now buffer)) ⌝ }
+    ) -> FrontReply
+        requires { ⌜ Lent (joined self []) (length (now volume)) (length (now fcb)) (length (now buffer)) ⌝ }
         requires { ⌜ n < fileRecords ⌝ }
         ensures { λ r. ⌜
-            cutLeft r (now (volume .exit)) (now (fcb .exit)) (now (buffer .entry)) (now (left .exit))
-            ≡ cutOutcome (now (left .entry)) self (now (volume .entry)) (now (fcb .entry)) (now (buffer .entry))
-            (unless (directoryTests self (now (volume .entry)) (now (fcb .entry)) n)
-            (writeDone self (now (volume .entry)) (now (fcb .entry)) n cr fills (now (buffer .entry))))
+            cutLeft (joinedReply r (now (held .exit))) (now (volume .exit)) (now (fcb .exit)) (now (buffer .entry)) (now (left .exit))
+            ≡ cutOutcome (now (left .entry)) (joined self (now (held .entry))) (now (volume .entry)) (now (fcb .entry)) (now (buffer .entry))
+            (unless (directoryTests (joined self (now (held .entry))) (now (volume .entry)) (now (fcb .entry)) n)
+            (writeDone (joined self (now (held .entry))) (now (volume .entry)) (now (fcb .entry)) n cr fills (now (buffer .entry))))
             ⌝ }
     {
         if self.protected {
             return self.refused(Refusal::Protected);
         }
         let g = self.geometry;
-        let held = self.held;
-        let written = call_write::write::write_record(
+        let why = call_write::write::write_record(
             g,
             fills,
             volume,
@@ -54,25 +55,22 @@ impl Drive {
             cr,
             left,
         );
-        let why = written.why;
-        let next = written.held;
-        let mut drive = self;
-        drive.held = next;
-        drive.answered(why, 0)
+        self.answered(why, 0)
     }
 
     // Function 21 as long as a store is left.
     pub fn write_sequential_most(
         self,
+        held: &mut [u64; WORDS],
         volume: &mut [u8],
         fcb: &mut [u8],
         buffer: &[u8],
         left: &mut usize,
-    ) -> Reply
+    ) -> FrontReply
         ensures { λ r. ⌜
-            cutLeft r (now (volume .exit)) (now (fcb .exit)) (now (buffer .entry)) (now (left .exit))
-            ≡ cutOutcome (now (left .entry)) self (now (volume .entry)) (now (fcb .entry)) (now (buffer .entry))
-            (writeSequentialAct self (now (volume .entry)) (now (fcb .entry)) (now (buffer .entry)))
+            cutLeft (joinedReply r (now (held .exit))) (now (volume .exit)) (now (fcb .exit)) (now (buffer .entry)) (now (left .exit))
+            ≡ cutOutcome (now (left .entry)) (joined self (now (held .entry))) (now (volume .entry)) (now (fcb .entry)) (now (buffer .entry))
+            (writeSequentialAct (joined self (now (held .entry))) (now (volume .entry)) (now (fcb .entry)) (now (buffer .entry)))
             ⌝ }
     {
         let why = self.sequential_why(volume, fcb, buffer.len());
@@ -81,6 +79,7 @@ impl Drive {
         }
         let n = call_fcb::position_of(fcb);
         self.write_at(
+            held,
             volume,
             fcb,
             buffer,
@@ -91,30 +90,20 @@ impl Drive {
         )
     }
 
-    // Function 21: writes at the sequential position, and moves it on.
-    pub fn write_sequential(self, volume: &mut [u8], fcb: &mut [u8], buffer: &[u8]) -> Reply
-        ensures { λ r. ⌜
-            left r (now (volume .exit)) (now (fcb .exit)) (now (buffer .entry))
-            ≡ writeSequentialLeaves self (now (volume .entry)) (now (fcb .entry)) (now (buffer .entry))
-            ⌝ }
-    {
-        let mut left = ENOUGH;
-        self.write_sequential_most(volume, fcb, buffer, &mut left)
-    }
-
     // Functions 34 and 40 as long as a store is left.
     pub fn write_direct_most(
         self,
+        held: &mut [u64; WORDS],
         volume: &mut [u8],
         fcb: &mut [u8],
         buffer: &[u8],
         fills: bool,
         left: &mut usize,
-    ) -> Reply
+    ) -> FrontReply
         ensures { λ r. ⌜
-            cutLeft r (now (volume .exit)) (now (fcb .exit)) (now (buffer .entry)) (now (left .exit))
-            ≡ cutOutcome (now (left .entry)) self (now (volume .entry)) (now (fcb .entry)) (now (buffer .entry))
-            (writeDirectAct fills self (now (volume .entry)) (now (fcb .entry)) (now (buffer .entry)))
+            cutLeft (joinedReply r (now (held .exit))) (now (volume .exit)) (now (fcb .exit)) (now (buffer .entry)) (now (left .exit))
+            ≡ cutOutcome (now (left .entry)) (joined self (now (held .entry))) (now (volume .entry)) (now (fcb .entry)) (now (buffer .entry))
+            (writeDirectAct fills (joined self (now (held .entry))) (now (volume .entry)) (now (fcb .entry)) (now (buffer .entry)))
             ⌝ }
     {
         let why = self.random_why(volume, fcb, buffer.len());
@@ -123,6 +112,7 @@ impl Drive {
         }
         let n = call_fcb::random_of(fcb);
         self.write_at(
+            held,
             volume,
             fcb,
             buffer,
@@ -131,27 +121,5 @@ impl Drive {
             fills,
             left,
         )
-    }
-
-    // Function 34: writes the record in r0 r1.
-    pub fn write_random(self, volume: &mut [u8], fcb: &mut [u8], buffer: &[u8]) -> Reply
-        ensures { λ r. ⌜
-            left r (now (volume .exit)) (now (fcb .exit)) (now (buffer .entry))
-            ≡ writeRandomLeaves self (now (volume .entry)) (now (fcb .entry)) (now (buffer .entry))
-            ⌝ }
-    {
-        let mut left = ENOUGH;
-        self.write_direct_most(volume, fcb, buffer, false, &mut left)
-    }
-
-    // Function 40: the same, and a block that the record's place is given is first filled with zeros.
-    pub fn write_zero_fill(self, volume: &mut [u8], fcb: &mut [u8], buffer: &[u8]) -> Reply
-        ensures { λ r. ⌜
-            left r (now (volume .exit)) (now (fcb .exit)) (now (buffer .entry))
-            ≡ writeZeroFillLeaves self (now (volume .entry)) (now (fcb .entry)) (now (buffer .entry))
-            ⌝ }
-    {
-        let mut left = ENOUGH;
-        self.write_direct_most(volume, fcb, buffer, true, &mut left)
     }
 }

@@ -14,6 +14,7 @@ use Rattle.lists.proofs.BoolLaws.{and-left}
 use Rattle.disk_held.proofs.CountLaws.{count-not}
 use Rattle.disk_geometry.specs.declared.Geometry.{Geometry}
 use Rattle.disk_geometry.specs.Geometry.{slots, places}
+use Rattle.disk_geometry.proofs.GeometryLaws.{map-sizes}
 use Rattle.disk_volume.specs.Name.{strip, nameOf, same}
 use Rattle.disk_volume.specs.Entry.{Entry, isEmpty, ofFile}
 use Rattle.disk_volume.specs.Directory.{slotAt}
@@ -59,8 +60,8 @@ pub count-short : (p : ℕ → Bool) (i k : ℕ) → countFrom p i k ≤ k
 count-short p i k = omega (arith, count-not p i k)
 
 used-short : (g : Geometry) (e : Entry) → usedPlaces g e ≤ 16
-unfolding usedPlaces places
-used-short g e = count-short (isUsed g e) 0 16
+unfolding usedPlaces
+used-short g e = omega (arith, count-short (isUsed g e) 0 (places g), map-sizes g .places-high)
 
 -- ---- the blocks of a file
 module _ (g : Geometry) (v : List ℕ) (u : ℕ) (name : List ℕ) where

@@ -268,7 +268,7 @@ fn with_script(window: &mut [u8], given: &mut [u8], volume: &mut [u8], out: &mut
     }
 }
 
-// The arrays as slices: a reference to an array tells its length, and nobody has to count a million zeros.
+// The arrays as slices: a reference to an array tells its length, and nobody has to count millions of zeros.
 fn with_arrays(
     window: &mut [u8; WINDOW_BYTES],
     given: &mut [u8; LONGEST_VOLUME],

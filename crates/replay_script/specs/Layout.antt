@@ -1,4 +1,4 @@
--- Where the fields of a script stand: "B, T, D (16 bits each), L (32 bits), L bytes of volume (at most 1,048,576); then for
+-- Where the fields of a script stand: "B, T, D (16 bits each), L (32 bits), L bytes of volume .. then for
 -- each call: function number (1 byte), parameter (1 byte, user code for 32), F (1 byte) and F bytes lent as control block,
 -- K (16 bits) and K bytes lent as transfer buffer". A call's fields are counted from its own first byte.
 use Prim.Native.Nat.{ℕ, _+_}
@@ -20,8 +20,9 @@ lAt = 6
 abbrev pub headerBytes : ℕ
 headerBytes = 10
 
+-- the most that L can be, 3 MiB: the program has the volume on its stack twice, so not every volume of (xi) has room there
 abbrev pub longestVolume : ℕ
-longestVolume = 1048576
+longestVolume = 3145728
 
 -- a call
 abbrev pub functionAt : ℕ

@@ -9,7 +9,7 @@ pub const L_AT: usize = 6;
 
 pub const HEADER_BYTES: usize = 10;
 
-pub const LONGEST_VOLUME: usize = 1048576;
+pub const LONGEST_VOLUME: usize = 3145728;
 
 // A call's, counted from its own first byte: function, parameter, F, and the control block with K behind it.
 pub const FUNCTION_AT: usize = 0;

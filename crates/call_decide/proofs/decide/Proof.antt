@@ -16,31 +16,31 @@ use Rattle.call_decide.proofs.WriteLaws.{base-is, slot-is, block-is, fi
 use Rattle.call_decide.proofs.decide.Statement.{statement}
 use Rattle.call_decide.proofs.decide.Tie as tie
 
-own-is : (c : tie.After-find) → (let a = c .before .before .before .before .before .args in c .find .result ≡ recordSlot (a .g) (now (a .volume)) (a .user) (strip (now (a .name))) (a .n))
+own-is : (c : tie.After-find) → (let a = c .before .before .before .before .before .before .args in c .find .result ≡ recordSlot (a .g) (now (a .volume)) (a .user) (strip (now (a .name))) (a .n))
 unfolding recordSlot
 own-is c =
-    let a = c .before .before .before .before .before .args in
+    let a = c .before .before .before .before .before .before .args in
     c .find .ensures .0 ∙ ap (λ (k : ℕ). findSlot (a .g) (now (a .volume)) (a .user) (strip (now (a .name))) (Group k)) (c .before .group .ensures)
 
-from-is : (c : tie.After-own-or) → (let a = c .before .before .before .before .before .before .args in c .own-or .result ≡ fromSlot (a .g) (now (a .volume)) (a .user) (strip (now (a .name))) (a .n))
+from-is : (c : tie.After-own-or) → (let a = c .before .before .before .before .before .before .before .args in c .own-or .result ≡ fromSlot (a .g) (now (a .volume)) (a .user) (strip (now (a .name))) (a .n))
 unfolding fromSlot
 from-is c =
-    let a = c .before .before .before .before .before .before .args in
+    let a = c .before .before .before .before .before .before .before .args in
     c .own-or .ensures .0 ∙ ap (λ (i : ℕ). ownOr (a .g) (now (a .volume)) (a .user) (strip (now (a .name))) i File) (own-is (c .before))
 
-why-is : (c : tie.After-file-why) → (let a = c .before .before .before .before .before .before .before .args in c .file-why .result ≡ firstMet (fileTests (a .g) (now (a .volume)) (a .user) (strip (now (a .name))) (fromSlot (a .g) (now (a .volume)) (a .user) (strip (now (a .name))) (a .n))))
+why-is : (c : tie.After-file-why) → (let a = c .before .before .before .before .before .before .before .before .args in c .file-why .result ≡ firstMet (fileTests (a .g) (now (a .volume)) (a .user) (strip (now (a .name))) (fromSlot (a .g) (now (a .volume)) (a .user) (strip (now (a .name))) (a .n))))
 why-is c =
-    let a = c .before .before .before .before .before .before .before .args in
+    let a = c .before .before .before .before .before .before .before .before .args in
     c .file-why .ensures ∙ ap (λ (i : ℕ). firstMet (fileTests (a .g) (now (a .volume)) (a .user) (strip (now (a .name))) i)) (from-is (c .before))
 
-entry-is : (c : tie.After-base-entry) → (let a = c .before .before .before .before .before .before .before .before .before .before .before .args in c .base-entry .last .1 .1 .1 .1 .0 ≡ baseEntry (a .g) (now (a .volume)) (a .user) (strip (now (a .name))) (a .n))
+entry-is : (c : tie.After-base-entry) → (let a = c .before .before .before .before .before .before .before .before .before .before .before .before .args in c .base-entry .last .1 .1 .1 .1 .0 ≡ baseEntry (a .g) (now (a .volume)) (a .user) (strip (now (a .name))) (a .n))
 entry-is c =
-    let a = c .before .before .before .before .before .before .before .before .before .before .before .args in
+    let a = c .before .before .before .before .before .before .before .before .before .before .before .before .args in
     c .base-entry .ensures ∙ rw (own-is (c .before .before .before .before .before .before), from-is (c .before .before .before .before .before)) (sym (base-is (a .g) (now (a .volume)) (a .user) (strip (now (a .name))) (a .n)))
 
-slot-here : (c : tie.After-own-or2) → (let a = c .before .before .before .before .before .before .before .before .before .before .before .before .before .before .args in c .own-or2 .result ≡ ownOr (a .g) (now (a .volume)) (a .user) (strip (now (a .name))) (recordSlot (a .g) (now (a .volume)) (a .user) (strip (now (a .name))) (a .n)) Empty)
+slot-here : (c : tie.After-own-or2) → (let a = c .before .before .before .before .before .before .before .before .before .before .before .before .before .before .before .args in c .own-or2 .result ≡ ownOr (a .g) (now (a .volume)) (a .user) (strip (now (a .name))) (recordSlot (a .g) (now (a .volume)) (a .user) (strip (now (a .name))) (a .n)) Empty)
 slot-here c =
-    let a = c .before .before .before .before .before .before .before .before .before .before .before .before .before .before .args in
+    let a = c .before .before .before .before .before .before .before .before .before .before .before .before .before .before .before .args in
     c .own-or2 .ensures .0 ∙ ap (λ (i : ℕ). ownOr (a .g) (now (a .volume)) (a .user) (strip (now (a .name))) i Empty) (own-is (c .before .before .before .before .before .before .before .before .before))
 
 group-requires : tie.Need-group-requires
@@ -60,14 +60,14 @@ is-none-requires c κs = search needs
 
 returns : tie.Need-returns
 returns c =
-    let a = c .before .before .before .before .before .before .before .before .before .args in
+    let a = c .before .before .before .before .before .before .before .before .before .before .args in
     let w = why-is (c .before .before) in
     let e : isNone (c .before .before .file-why .result) ≡ false = sym (c .before .is-none .ensures) ∙ not-true (c .before .is-none .result) (c .if1 .taken) in
-    (w ∙ sym (refused-file (a .g) (a .held) (now (a .volume)) (a .user) (strip (now (a .name))) (a .n) (ap isNone (sym w) ∙ e)), λ h. absurd (false≢true (sym e ∙ h)))
+    (w ∙ sym (refused-file (a .g) (now (a .held)) (now (a .volume)) (a .user) (strip (now (a .name))) (a .n) (ap isNone (sym w) ∙ e)), λ h. absurd (false≢true (sym e ∙ h)))
 
 base-entry-requires : tie.Need-base-entry-requires
 base-entry-requires c κs =
-    let s = c .before .before .before .before .before .before .before .before .before .before in
+    let s = c .before .before .before .before .before .before .before .before .before .before .before in
     let e : isNone (c .before .before .before .file-why .result) ≡ true = sym (c .before .before .is-none .ensures) ∙ not-false (c .before .before .is-none .result) (c .before .if1 .left) in
     ((s .pre .0 .0, s .pre .0 .1 .0), (file-there (s .args .g) _ _ _ (c .before .before .before .before .own-or .result) (ap isNone (sym (c .before .before .before .file-why .ensures)) ∙ e), search needs))
 
@@ -83,16 +83,16 @@ same-length c = search needs
 returns-2 : tie.Need-returns-2
 unfolding needsBlock
 returns-2 c =
-    let a = c .before .before .before .before .before .before .before .before .before .before .before .before .before .before .before .before .args in
+    let a = c .before .before .before .before .before .before .before .before .before .before .before .before .before .before .before .before .before .args in
     let name = strip (now (a .name)) in
     let e : isNone (c .before .before .before .before .before .before .before .before .before .file-why .result) ≡ true = sym (c .before .before .before .before .before .before .before .before .is-none .ensures) ∙ not-false (c .before .before .before .before .before .before .before .before .is-none .result) (c .before .before .before .before .before .before .before .if1 .left) in
     let b = entry-is (c .before .before .before .before .before) in
     let s = slot-here (c .before .before) in
     let q = c .room .ensures in (
-      q .0 ∙ rw (b, s) (sym (passed-file (a .g) (a .held) (now (a .volume)) (a .user) name (a .n) (ap isNone (sym (why-is (c .before .before .before .before .before .before .before .before .before))) ∙ e))),
+      q .0 ∙ rw (b, s) (sym (passed-file (a .g) (now (a .held)) (now (a .volume)) (a .user) name (a .n) (ap isNone (sym (why-is (c .before .before .before .before .before .before .before .before .before))) ∙ e))),
       λ h. record {
         slot-is = q .1 .0 ∙ s ∙ sym (slot-is (a .g) (now (a .volume)) (a .user) name (a .n));
-        block-is = q .1 .1 .0 ∙ rw b (sym (block-is (a .g) (a .held) (now (a .volume)) (a .user) name (a .n)));
+        block-is = q .1 .1 .0 ∙ rw b (sym (block-is (a .g) (now (a .held)) (now (a .volume)) (a .user) name (a .n)));
         fresh-is = q .1 .1 .1 ∙ rw b;
         entry-is = b;
       },

@@ -2,6 +2,7 @@
 use mathlib.Core.Path.{_≡_, refl, sym, ap, _∙_}
 use mathlib.Core.Bool.{true, false}
 use lib.Dec.{eqb}
+use denote.Ref.{now}
 use borrow.Author.Tests.{eq-eqb, ne-eqb}
 use borrow.Author.Needs.{needs}
 use Rattle.disk_volume.specs.Entry.{blockIn}
@@ -35,10 +36,10 @@ first-of-requires c κs = search needs
 returns : tie.Need-returns
 unfolding blockFor
 returns c =
-    let a = c .before .before .before .before .before .before .before .before .before .args in
+    let a = c .before .before .before .before .before .before .before .before .before .before .args in
     let b = c .before .before .before .before .block-in .ensures .0 ∙ ap (blockIn (a .g) (a .e .now)) (c .before .before .before .before .before .before .before .place .ensures .0) in
     let q : eqb (recordBlock (a .g) (a .e .now) (a .n)) 0 ≡ false = rw (← b) (ne-eqb (c .before .before .before .before .block-in .result) 0 (c .before .before .before .if1 .taken)) in (
-      (rw (c .first-of .ensures, c .before .refuse2 .ensures, c .before .before .is-inside .ensures, c .before .before .before .before .before .refuse .ensures, c .before .before .before .before .before .before .slots .ensures .0, b) (sym (own-block (a .g) (a .held) (a .e .now) (a .slot) (a .n) q))),
+      (rw (c .first-of .ensures, c .before .refuse2 .ensures, c .before .before .is-inside .ensures, c .before .before .before .before .before .refuse .ensures, c .before .before .before .before .before .before .slots .ensures .0, b) (sym (own-block (a .g) (now (a .held)) (a .e .now) (a .slot) (a .n) q))),
       (refl, (rw q b, sym q)),
     )
 
@@ -54,10 +55,10 @@ first-of-requires-2 c κs = search needs
 returns-2 : tie.Need-returns-2
 unfolding blockFor
 returns-2 c =
-    let a = c .before .before .before .before .before .before .before .before .before .before .args in
+    let a = c .before .before .before .before .before .before .before .before .before .before .before .args in
     let b = c .before .before .before .before .before .block-in .ensures .0 ∙ ap (blockIn (a .g) (a .e .now)) (c .before .before .before .before .before .before .before .before .place .ensures .0) in
     let q : eqb (recordBlock (a .g) (a .e .now) (a .n)) 0 ≡ true = rw (← b) (eq-eqb (c .before .before .before .before .before .block-in .result) 0 (c .before .before .before .before .if1 .left)) in (
-      (rw (c .first-of2 .ensures, c .before .refuse3 .ensures, c .before .before .before .alloc .ensures .0, c .before .before .before .before .before .before .refuse .ensures, c .before .before .before .before .before .before .before .slots .ensures .0, c .before .before .before .before .before .before .before .before .place .ensures .0) (sym (new-block (a .g) (a .held) (a .e .now) (a .slot) (a .n) q))),
+      (rw (c .first-of2 .ensures, c .before .refuse3 .ensures, c .before .before .before .alloc .ensures .0, c .before .before .before .before .before .before .refuse .ensures, c .before .before .before .before .before .before .before .slots .ensures .0, c .before .before .before .before .before .before .before .before .place .ensures .0) (sym (new-block (a .g) (now (a .held)) (a .e .now) (a .slot) (a .n) q))),
       (refl, (rw (q, ← c .before .before .before .before .before .before .before .before .place .ensures .0) (c .before .before .before .alloc .ensures .0), sym q)),
     )
 

@@ -24,22 +24,25 @@ same-length c = search needs
 returns : tie.Need-returns
 returns c =
     let n = sym (c .before .is-none .ensures) ∙ not-true _ (c .if1 .taken) in
-    (c .before .before .first-of .ensures ∙ ap (first (c .before .before .before .before .before .before .before .before .before .args .before)) (c .before .before .before .delete-why .ensures), (rw n, (rw n, rw n)))
+    (c .before .before .first-of .ensures ∙ ap (first (c .before .before .before .before .before .before .before .before .before .before .args .before)) (c .before .before .before .delete-why .ensures), (rw n, (rw n, rw n)))
 
 free-matches-requires : tie.Need-free-matches-requires
 free-matches-requires c κs = search needs
 
 change-most-requires : tie.Need-change-most-requires
-change-most-requires c κs = let s = c .before .before .before .before .before .before .before .before .before .before .before .before .before in ((s .pre .0, s .pre .1 .0), ((s .pre .1 .1, s .pre .1 .1), c .before .before .before .before .before .before .before .before .before .find .ensures .0))
+change-most-requires c κs = let p = c .before .before .before .before .before .before .before .before .before .before .before .before .before .before .before .before .before .pre .0 in ((p .0, p .1 .0), ((p .1 .1, p .1 .1), c .before .before .before .before .before .before .before .before .before .before .before .before .find .ensures .0))
 
 same-length-2 : tie.Need-same-length-2
 same-length-2 c = search needs
 
+same-length-3 : tie.Need-same-length-3
+same-length-3 c = search needs
+
 returns-2 : tie.Need-returns-2
 returns-2 c =
-    let n = sym (c .before .before .before .before .before .before .before .before .is-none .ensures) ∙ not-false _ (c .before .before .before .before .before .before .before .if1 .left) in
+    let n = sym (c .before .before .before .before .before .before .before .before .before .before .before .is-none .ensures) ∙ not-false _ (c .before .before .before .before .before .before .before .before .before .before .if1 .left) in
     let o = c .before .before .change-most in
-    (c .before .before .before .before .before .before .before .before .before .first-of .ensures ∙ ap (first (c .before .before .before .before .before .before .before .before .before .before .before .before .before .before .before .before .args .before)) (c .before .before .before .before .before .before .before .before .before .before .delete-why .ensures), (rw n (c .before .before .before .before .before .free-matches .ensures), (rw n (o .ensures .0), rw n (o .ensures .1))))
+    (c .before .before .before .before .before .before .before .before .before .before .before .before .first-of .ensures ∙ ap (first (c .before .before .before .before .before .before .before .before .before .before .before .before .before .before .before .before .before .before .before .before .args .before)) (c .before .before .before .before .before .before .before .before .before .before .before .before .before .delete-why .ensures), (rw n (c .before .before .before .before .before .before .before .free-matches .ensures), (rw n (o .ensures .0), rw n (o .ensures .1))))
 
 pub delete-matches-spec : {M : Type 1} → statement M
 delete-matches-spec =
@@ -54,4 +57,5 @@ delete-matches-spec =
     free-matches-requires
     change-most-requires
     same-length-2
+    same-length-3
     returns-2)

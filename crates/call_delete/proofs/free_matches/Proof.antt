@@ -3,20 +3,22 @@ use Rattle.disk_volume.proofs.FindLaws.{folded-from-found}
 use Rattle.disk_volume.specs.declared.Wanted.the-variants.{Match}
 use Rattle.lists.proofs.FoldLaws.{Folded, folded-next, folded-end}
 use denote.Ref.{now}
-use mathlib.Core.Path.{sym}
+use mathlib.Core.Path.{_≡_, sym, _∙_}
 use Prim.Native.Nat.{_-_, _≤_}
+use lib.ListN.{length}
 use borrow.Author.Needs.{needs}
 use Rattle.disk_volume.specs.Name.{strip}
 use Rattle.disk_geometry.specs.Geometry.{slots}
+use Rattle.disk_held.specs.Held.{heldWords}
 use Rattle.call_delete.specs.Delete.{freeSlot, freeMatches}
 use Rattle.call_delete.proofs.free_matches.Statement.{statement}
 use Rattle.call_delete.proofs.free_matches.Tie as tie
 
 abbrev Inv-loop : tie.InvT-loop
-Inv-loop g volume first user pattern n rest₀ i₀ rest i = (i ≤ slots g) × Folded (freeSlot g volume user (strip pattern)) rest₀ (slots g) rest i
+Inv-loop g volume first user pattern held₀ n i₀ held i = (i ≤ slots g) × ((length held ≡ heldWords) × Folded (freeSlot g volume user (strip pattern)) held₀ (slots g) held i)
 
 abbrev μ-loop : tie.MeasureT-loop
-μ-loop g volume first user pattern n rest₀ i₀ rest i = n - i
+μ-loop g volume first user pattern held₀ n i₀ held i = n - i
 
 slots-requires : tie.Need-slots-requires Inv-loop μ-loop
 slots-requires c κs = search needs
@@ -24,11 +26,11 @@ slots-requires c κs = search needs
 loop-holds : tie.Need-loop-holds Inv-loop μ-loop
 unfolding freeSlot
 loop-holds c =
-    let s = c .before .before .before in
+    let s = c .before .before .before .before in
     let a = s .args in
     let v = now (a .volume) in
     let p = strip (now (a .pattern)) in
-    (search needs, rw (s .pre .1 .0) (folded-from-found (a .g) v (a .user) p Match (freeSlot (a .g) v (a .user) p) (a .held) (λ i h. rw h)))
+    (search needs, (search needs, rw (s .pre .1 .1 .0) (folded-from-found (a .g) v (a .user) p Match (freeSlot (a .g) v (a .user) p) (now (a .held)) (λ i h. rw h))))
 
 free-slot-requires : tie.Need-free-slot-requires Inv-loop μ-loop
 free-slot-requires c κs = search needs
@@ -40,11 +42,17 @@ loop-less : tie.Need-loop-less Inv-loop μ-loop
 loop-less c = search needs
 
 loop-again : tie.Need-loop-again Inv-loop μ-loop
-loop-again c = (search needs, folded-next (c .before .before .loop .inv .1) (search needs) (c .free-slot .ensures))
+loop-again c =
+    let l = c .before .before .before .before .before .loop in
+    let r = c .before .before .free-slot in
+    (search needs, (r .kept .1 .1 .1 .1 .0 ∙ l .inv .1 .0, folded-next (l .inv .1 .1) (search needs) (r .ensures)))
+
+same-length : tie.Need-same-length Inv-loop μ-loop
+same-length c = search needs
 
 returns : tie.Need-returns Inv-loop μ-loop
 unfolding freeMatches
-returns c = sym (folded-end (c .before .loop .inv .1) (search needs))
+returns c = sym (folded-end (c .before .loop .inv .1 .1) (search needs))
 
 pub free-matches-spec : {M : Type 1} → statement M
 free-matches-spec =
@@ -58,4 +66,5 @@ free-matches-spec =
     add-i
     loop-less
     loop-again
+    same-length
     returns)

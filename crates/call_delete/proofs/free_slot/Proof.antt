@@ -28,7 +28,7 @@ has-requires c κs = search needs
 returns : tie.Need-returns
 unfolding freeSlot
 returns c =
-    let a = c .before .before .before .before .before .before .args in
+    let a = c .before .before .before .before .before .before .before .args in
     let at = c .before .before .before .slot-start in
     rw (← lent-slot (a .g) (now (a .volume)) (a .i) (at .result) (at .ensures .0), ← c .before .has .ensures, not-true (c .before .has .result) (c .if1 .taken))
 
@@ -47,12 +47,15 @@ part-free-entry-end c = search needs
 free-entry-requires : tie.Need-free-entry-requires
 free-entry-requires c κs = search needs
 
+same-length : tie.Need-same-length
+same-length c = search needs
+
 returns-2 : tie.Need-returns-2
 unfolding freeSlot
 returns-2 c =
-    let a = c .before .before .before .before .before .before .before .before .args in
-    let at = c .before .before .before .before .before .slot-start in
-    rw (← lent-slot (a .g) (now (a .volume)) (a .i) (at .result) (at .ensures .0), ← c .before .before .before .has .ensures, not-false (c .before .before .before .has .result) (c .before .before .if1 .left)) (c .free-entry .ensures)
+    let a = c .before .before .before .before .before .before .before .before .before .before .before .before .args in
+    let at = c .before .before .before .before .before .before .before .before .slot-start in
+    rw (← lent-slot (a .g) (now (a .volume)) (a .i) (at .result) (at .ensures .0), ← c .before .before .before .before .before .before .has .ensures, not-false (c .before .before .before .before .before .before .has .result) (c .before .before .before .before .before .if1 .left)) (c .before .before .free-entry .ensures)
 
 pub free-slot-spec : {M : Type 1} → statement M
 free-slot-spec =
@@ -70,4 +73,5 @@ free-slot-spec =
     part-free-entry-start
     part-free-entry-end
     free-entry-requires
+    same-length
     returns-2)

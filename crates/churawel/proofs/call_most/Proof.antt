@@ -1,39 +1,37 @@
--- A closed state that no call would refuse is refused; any other goes through the door, and is laid back where it may have changed.
-use native.Mathlib.Omega.{arith}
+-- Bytes that are no drive's are refused; any others go their call's way, and its answer is told.
+use mathlib.Core.Path.{sym, _∙_}
+use borrow.Author.Tests.{not-false}
 use denote.Ref.{now}
-use Rattle.churawel.proofs.SeamLaws.{most-refused, most-done}
+use Rattle.churawel.proofs.SeamLaws.{way-shut, told-most, no-drive}
 use borrow.Author.Needs.{needs}
 use Rattle.churawel.proofs.call_most.Statement.{statement}
 use Rattle.churawel.proofs.call_most.Tie as tie
 
-decode-requires : tie.Need-decode-requires
-decode-requires c κs = search needs
+is-drive-requires : tie.Need-is-drive-requires
+is-drive-requires c κs = search needs
 
-call-of-requires : tie.Need-call-of-requires
-call-of-requires c κs = search needs
-
-may-enter-requires : tie.Need-may-enter-requires
-may-enter-requires c κs = search needs
-
-seal-requires : tie.Need-seal-requires
-seal-requires c κs = search needs
+tell-requires : tie.Need-tell-requires
+tell-requires c κs = search needs
 
 same-length : tie.Need-same-length
 same-length c = search needs
 
 returns : tie.Need-returns
 returns c =
-    let a = c .before .before .before .before .before .before .before .before .before .before .args in
-    most-refused (now (a .left)) (a .function) (a .parameter) (now (a .drive)) (now (a .volume)) (now (a .fcb)) (now (a .buffer)) (c .before .before .before .before .decode .ensures) (c .before .before .before .call-of .ensures) (c .before .before .may-enter .ensures) (c .before .if1 .taken) (c .seal .ensures .1 (omega arith))
+    let a = c .before .before .before .before .before .before .before .before .args in
+    told-most (way-shut (a .function) (a .parameter) (now (a .drive)) (now (a .volume)) (now (a .fcb)) (now (a .buffer)) (now (a .left)) (no-drive (now (a .drive)) (c .before .before .is-drive .ensures) (c .before .if1 .taken))) (c .tell .ensures)
 
-serve-requires : tie.Need-serve-requires
-serve-requires c κs = search needs
+fields-requires : tie.Need-fields-requires
+fields-requires c κs = sym (c .before .before .is-drive .ensures) ∙ not-false (c .before .before .is-drive .result) (c .before .if1 .left)
 
-lay-back-requires : tie.Need-lay-back-requires
-lay-back-requires c κs = search needs
+call-of-requires : tie.Need-call-of-requires
+call-of-requires c κs = search needs
 
-seal-requires-2 : tie.Need-seal-requires-2
-seal-requires-2 c κs = search needs
+call-of-kind-requires : tie.Need-call-of-kind-requires
+call-of-kind-requires c κs = (sym (c .before .before .before .before .before .before .before .before .before .is-drive .ensures) ∙ not-false (c .before .before .before .before .before .before .before .before .before .is-drive .result) (c .before .before .before .before .before .before .before .before .if1 .left), c .before .before .before .before .before .before .fields .ensures)
+
+tell-requires-2 : tie.Need-tell-requires-2
+tell-requires-2 c κs = search needs
 
 same-length-2 : tie.Need-same-length-2
 same-length-2 c = search needs
@@ -48,25 +46,20 @@ same-length-5 : tie.Need-same-length-5
 same-length-5 c = search needs
 
 returns-2 : tie.Need-returns-2
-returns-2 c =
-    let a = c .before .before .before .before .before .before .before .before .before .before .before .before .before .before .before .before .before .before .before .before .before .before .before .before .before .before .before .args in
-    let laid = c .before .before .before .lay-back .ensures in
-    most-done (now (a .left)) (a .function) (a .parameter) (now (a .drive)) (now (a .volume)) (now (a .fcb)) (now (a .buffer)) (c .before .before .before .before .before .before .before .before .before .before .before .before .before .before .before .before .before .before .before .before .before .decode .ensures) (c .before .before .before .before .before .before .before .before .before .before .before .before .before .before .before .before .before .before .before .before .call-of .ensures) (c .before .before .before .before .before .before .before .before .before .before .before .before .before .before .before .before .before .before .before .may-enter .ensures) (c .before .before .before .before .before .before .before .before .before .before .before .before .before .before .before .before .before .before .if1 .left)
-    (λ k. omega (arith, c .before .before .before .before .before .before .before .before .before .before .before .before .before .before .before .before .before .before .before .before .before .before .before .before .before .before .slice-known .given k)) (c .before .before .before .before .before .before .before .before .before .before .before .before .serve .ensures) (laid .0) (laid .1) (c .seal2 .ensures)
+returns-2 c = told-most (c .before .before .before .before .before .before .before .before .before .call-of-kind .ensures (c .before .before .before .before .before .before .before .before .before .before .before .before .before .before .before .before .before .before .before .before .before .before .before .before .before .args .function) (c .before .before .before .before .before .before .before .before .before .before .before .before .before .before .before .call-of .ensures)) (c .tell2 .ensures)
 
 pub call-most-spec : {M : Type 1} → statement M
 call-most-spec =
     tie.close
     (tie.spec
-    decode-requires
-    call-of-requires
-    may-enter-requires
-    seal-requires
+    is-drive-requires
+    tell-requires
     same-length
     returns
-    serve-requires
-    lay-back-requires
-    seal-requires-2
+    fields-requires
+    call-of-requires
+    call-of-kind-requires
+    tell-requires-2
     same-length-2
     same-length-3
     same-length-4

@@ -1,22 +1,13 @@
--- 64 bytes take the state that log-in hands back; a drive of another length is refused.
-use Rattle.churawel.proofs.SeamLaws.{log-in-refused, log-in-done}
-use Rattle.churawel.proofs.ValueLaws.{log-in-value}
-use Rattle.disk_geometry.specs.Geometry.{geometryOf}
-use Rattle.filecalls.specs.declared.Reply.{Reply}
-use Rattle.call_answers.specs.Answer.{valueOf}
+-- As many bytes as T asks take the state that log-in hands back; a drive of another length is refused.
 use mathlib.Core.Path.{ap}
 use native.Mathlib.Omega.{arith}
+use Rattle.call_answers.specs.Answer.{valueOf}
+use Rattle.filecalls.specs.declared.Reply.{Reply}
+use Rattle.churawel.proofs.SeamLaws.{log-in-refused, log-in-done}
+use Rattle.churawel.proofs.ValueLaws.{log-in-value}
 use borrow.Author.Needs.{needs}
 use Rattle.churawel.proofs.churawel_log_in.Statement.{statement}
 use Rattle.churawel.proofs.churawel_log_in.Tie as tie
-
-seal-requires : tie.Need-seal-requires
-seal-requires c κs = search needs
-
-returns : tie.Need-returns
-returns c =
-    let a = c .before .before .before .before .args in
-    log-in-refused (geometryOf (a .block-bytes) (a .blocks) (a .directory-blocks)) (a .volume .now) (a .drive .now) (c .before .if1 .taken) (c .seal .ensures .1 (omega arith))
 
 size-requires : tie.Need-size-requires
 size-requires c κs = search needs
@@ -26,6 +17,18 @@ size-requires-2 c κs = search needs
 
 size-requires-3 : tie.Need-size-requires-3
 size-requires-3 c κs = search needs
+
+length-for-requires : tie.Need-length-for-requires
+length-for-requires c κs = search needs
+
+seal-requires : tie.Need-seal-requires
+seal-requires c κs = search needs
+
+returns : tie.Need-returns
+returns c =
+    let a = c .before .before .before .before .before .before .before .before .args in
+    rw (← c .before .before .before .before .before .size .ensures, ← c .before .before .before .before .size2 .ensures, ← c .before .before .before .size3 .ensures)
+    (log-in-refused _ (a .volume .now) (a .drive .now) (c .before .before .length-for .ensures) (c .before .if1 .taken) (c .seal .ensures .1 (omega arith)))
 
 log-in-requires : tie.Need-log-in-requires
 log-in-requires c κs = search needs
@@ -41,19 +44,20 @@ same-length c = search needs
 
 returns-2 : tie.Need-returns-2
 returns-2 c =
-    let a = c .before .before .before .before .before .before .before .before .before .before .before .before .before .args in
-    rw (← c .before .before .before .before .before .before .before .before .before .size .ensures, ← c .before .before .before .before .before .before .before .before .size2 .ensures, ← c .before .before .before .before .before .before .before .size3 .ensures)
-    (log-in-done _ (a .volume .now) (a .drive .now) (c .before .before .before .before .before .before .before .before .before .before .if1 .left) (c .before .before .before .before .before .before .log-in .ensures) (c .before .before .before .encode .ensures) (c .seal2 .ensures .1 (rw (ap (λ (r : Reply). valueOf (r .answer)) (c .before .before .before .before .before .before .log-in .ensures)) (log-in-value _ _))))
+    let a = c .before .before .before .before .before .before .before .before .before .before .before .before .before .before .args in
+    rw (← c .before .before .before .before .before .before .before .before .before .before .before .size .ensures, ← c .before .before .before .before .before .before .before .before .before .before .size2 .ensures, ← c .before .before .before .before .before .before .before .before .before .size3 .ensures)
+    (log-in-done _ (a .volume .now) (a .drive .now) (c .before .before .before .before .before .before .before .before .length-for .ensures) (c .before .before .before .before .before .before .before .if1 .left) (c .before .before .before .before .before .before .log-in .ensures) (c .before .before .before .encode .ensures) (c .seal2 .ensures .1 (rw (ap (λ (r : Reply). valueOf (r .answer)) (c .before .before .before .before .before .before .log-in .ensures)) (log-in-value _ _))))
 
 pub churawel-log-in-spec : {M : Type 1} → statement M
 churawel-log-in-spec =
     tie.close
     (tie.spec
-    seal-requires
-    returns
     size-requires
     size-requires-2
     size-requires-3
+    length-for-requires
+    seal-requires
+    returns
     log-in-requires
     encode-requires
     seal-requires-2

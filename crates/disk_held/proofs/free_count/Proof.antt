@@ -1,12 +1,13 @@
--- `blocks::free_count` meets its contract: of the t - d blocks those are free that are not held.
+-- `disk_held::free_count` meets its contract: of the t - d blocks those are free that are not held.
 use native.Mathlib.Omega.{arith}
+use denote.Ref.{now}
 use borrow.Author.Needs.{needs}
 use Rattle.disk_held.proofs.CountLaws.{HeldAndFree, held-and-free}
 use Rattle.disk_held.proofs.free_count.Statement.{statement}
 use Rattle.disk_held.proofs.free_count.Tie as tie
 
-counts : (c : tie.After-held-below2) → HeldAndFree (c .before .before .args .held) (c .before .before .args .d) (c .before .before .args .t)
-counts c = held-and-free _ _ _ (c .before .before .pre .0)
+counts : (c : tie.After-held-below2) → (let a = c .before .before .before .args in HeldAndFree (now (a .held)) (a .d) (a .t))
+counts c = held-and-free _ _ _ (c .before .before .before .pre .0)
 
 held-below-requires : tie.Need-held-below-requires
 held-below-requires c κs = search needs

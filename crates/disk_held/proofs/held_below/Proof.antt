@@ -1,9 +1,12 @@
--- `blocks::held_below` meets its contract. The loop has the count of the words passed, cut at n.
-use mathlib.Core.Path.{_≡_, sym, ap, ap₂, _∙_}
-use Prim.Native.Nat.{ℕ, _+_, _-_, _*_, _≤_, min}
+-- `disk_held::held_below` meets its contract. The loop has the count of the words passed, and below n there is a part of one more.
+use mathlib.Core.Path.{_≡_, refl, sym, ap, ap₂, _∙_}
+use mathlib.Core.List.{List}
+use Prim.Native.Nat.{ℕ, _+_, _-_, _*_, _/_, _%_, _^_, _≤_, min}
 use native.Mathlib.Omega.{arith}
+use denote.Ref.{now}
 use borrow.Author.Needs.{needs}
-use lib.ListN.{length}
+use lib.Count.{ones}
+use lib.ListN.{getD}
 use Rattle.lists.specs.Bounded.{countFrom}
 use Rattle.disk_held.specs.Held.{holds}
 use Rattle.disk_held.proofs.CountLaws.{held-word}
@@ -11,31 +14,27 @@ use Rattle.disk_held.proofs.held_below.Statement.{statement}
 use Rattle.disk_held.proofs.held_below.Tie as tie
 
 abbrev Inv-loop : tie.InvT-loop
-Inv-loop n held sum₀ i₀ sum i = (length held ≡ 4) × ((i ≤ 4) × ((sum ≤ 64 * i) × (sum ≡ countFrom (holds held) 0 (min n (64 * i)))))
+Inv-loop held n whole rest sum₀ i₀ sum i = (i ≤ n / 64) × ((sum ≤ 64 * i) × (sum ≡ countFrom (holds held) 0 (64 * i)))
 
 abbrev μ-loop : tie.MeasureT-loop
-μ-loop n held sum₀ i₀ sum i = n - 64 * i
+μ-loop held n whole rest sum₀ i₀ sum i = n / 64 - i
+
+-- k blocks of word i more
+more : (held : List ℕ) (i k sum r : ℕ) → k ≤ 64 → sum ≡ countFrom (holds held) 0 (64 * i) → r ≡ ones (getD held i 0 % 2 ^ min k 64)
+    → sum + r ≡ countFrom (holds held) 0 (64 * i + k)
+more held i k sum r h s e =
+    let z : min k 64 ≡ k = omega arith in
+    ap₂ (λ (x y : ℕ). x + y) s (e ∙ ap (λ (x : ℕ). ones (getD held i 0 % 2 ^ x)) z) ∙ sym (held-word held i k h)
 
 loop-holds : tie.Need-loop-holds Inv-loop μ-loop
 unfolding countFrom
-loop-holds c =
-    let z : min (c .args .n) 0 ≡ 0 = omega arith in
-    (search needs, (omega arith, (omega arith, rw z)))
-
-mul-loop : tie.Need-mul-loop Inv-loop μ-loop
-mul-loop c = search needs
+loop-holds c = (omega arith, (omega arith, refl))
 
 mul-ones-below : tie.Need-mul-ones-below Inv-loop μ-loop
 mul-ones-below c = search needs
 
-array-read-ones-below : tie.Need-array-read-ones-below Inv-loop μ-loop
-array-read-ones-below c = search needs
-
-mul-ones-below-2 : tie.Need-mul-ones-below-2 Inv-loop μ-loop
-mul-ones-below-2 c = search needs
-
-sub-ones-below : tie.Need-sub-ones-below Inv-loop μ-loop
-sub-ones-below c = search needs
+shared-slice-read-ones-below : tie.Need-shared-slice-read-ones-below Inv-loop μ-loop
+shared-slice-read-ones-below c = search needs
 
 ones-below-requires : tie.Need-ones-below-requires Inv-loop μ-loop
 ones-below-requires c κs = search needs
@@ -51,29 +50,36 @@ loop-less c = search needs
 
 loop-again : tie.Need-loop-again Inv-loop μ-loop
 loop-again c =
-    let l = c .before .before .loop in
-    let a = c .before .before .before .args in
-    let k = min (a .n - 64 * l .i) 64 in
-    let y : min (a .n) (64 * l .i) ≡ 64 * l .i = omega arith in
-    let z : 64 * l .i + k ≡ min (a .n) (64 * (l .i + 1)) = omega arith in (
-      l .inv .0,
-      (
-        omega arith,
-        (
-          omega arith,
-          ap₂ (λ (x y : ℕ). x + y) (l .inv .1 .1 .1 ∙ ap (countFrom (holds (a .t1)) 0) y) (c .ones-below .ensures .0)
-              ∙ sym (held-word (a .t1) (l .i) k (omega arith))
-              ∙ ap (countFrom (holds (a .t1)) 0) z,
-        ),
-      ),
-    )
+    let l = c .before .before .before .loop in
+    let held = now (c .before .before .before .before .before .args .held) in
+    let z : 64 * l .i + 64 ≡ 64 * (l .i + 1) = omega arith in
+    (omega arith, (omega arith, more held (l .i) 64 (l .sum) (c .ones-below .result) (omega arith) (l .inv .1 .1) (c .ones-below .ensures .0) ∙ ap (countFrom (holds held) 0) z))
 
 returns : tie.Need-returns Inv-loop μ-loop
 returns c =
-    let l = c .before .loop in
-    let a = c .before .before .args in
-    let z : min (a .n) (64 * l .i) ≡ a .n = omega arith in
-    l .inv .1 .1 .1 ∙ ap (countFrom (holds (a .t1)) 0) z
+    let l = c .before .before .loop in
+    let a = c .before .before .before .before .args in
+    let z : 64 * l .i ≡ a .n = omega (arith, c .if1 .taken) in
+    l .inv .1 .1 ∙ ap (countFrom (holds (now (a .held))) 0) z
+
+mul-ones-below-2 : tie.Need-mul-ones-below-2 Inv-loop μ-loop
+mul-ones-below-2 c = search needs
+
+shared-slice-read-ones-below-2 : tie.Need-shared-slice-read-ones-below-2 Inv-loop μ-loop
+shared-slice-read-ones-below-2 c = search needs
+
+ones-below-requires-2 : tie.Need-ones-below-requires-2 Inv-loop μ-loop
+ones-below-requires-2 c κs = search needs
+
+add-result : tie.Need-add-result Inv-loop μ-loop
+add-result c = omega arith
+
+returns-2 : tie.Need-returns-2 Inv-loop μ-loop
+returns-2 c =
+    let l = c .before .before .before .before .loop in
+    let a = c .before .before .before .before .before .before .args in
+    let z : 64 * l .i + a .n % 64 ≡ a .n = omega arith in
+    more (now (a .held)) (l .i) (a .n % 64) (l .sum) (c .ones-below2 .result) (omega arith) (l .inv .1 .1) (c .ones-below2 .ensures .0) ∙ ap (countFrom (holds (now (a .held))) 0) z
 
 pub held-below-spec : {M : Type 1} → statement M
 held-below-spec =
@@ -82,14 +88,16 @@ held-below-spec =
     Inv-loop
     μ-loop
     loop-holds
-    mul-loop
     mul-ones-below
-    array-read-ones-below
-    mul-ones-below-2
-    sub-ones-below
+    shared-slice-read-ones-below
     ones-below-requires
     add-sum
     add-i
     loop-less
     loop-again
-    returns)
+    returns
+    mul-ones-below-2
+    shared-slice-read-ones-below-2
+    ones-below-requires-2
+    add-result
+    returns-2)

@@ -7,25 +7,29 @@ use Rattle.disk_held.proofs.Bits.{one-shifted}
 use Rattle.disk_held.proofs.hold.Statement.{statement}
 use Rattle.disk_held.proofs.hold.Tie as tie
 
-mul-next : tie.Need-mul-next
-mul-next c = search needs
+mul-held : tie.Need-mul-held
+mul-held c = search needs
 
-array-read-next : tie.Need-array-read-next
-array-read-next c = search needs
+slice-read-held : tie.Need-slice-read-held
+slice-read-held c = search needs
 
-shl-next : tie.Need-shl-next
-shl-next c = search needs
+shl-held : tie.Need-shl-held
+shl-held c = search needs
 
-mul-next-2 : tie.Need-mul-next-2
-mul-next-2 c = search needs
+mul-held-2 : tie.Need-mul-held-2
+mul-held-2 c = search needs
 
-array-write-next : tie.Need-array-write-next
-array-write-next c = search needs
+slice-write-held : tie.Need-slice-write-held
+slice-write-held c = search needs
+
+same-length : tie.Need-same-length
+same-length c = search needs
 
 returns : tie.Need-returns
 unfolding hold
-returns c = rw (one-shifted (c .args .b % 64) (omega arith))
+returns c = rw (one-shifted (c .before .args .b % 64) (omega arith))
 
 pub hold-spec : {M : Type 1} → statement M
 hold-spec =
-    tie.close (tie.spec mul-next array-read-next shl-next mul-next-2 array-write-next returns)
+    tie.close
+    (tie.spec mul-held slice-read-held shl-held mul-held-2 slice-write-held same-length returns)

@@ -1,4 +1,4 @@
--- `blocks::ones_below` meets its contract: a remainder by 2 ^ k keeps the k lowest bits, and a word has no more than 64.
+-- `disk_held::ones_below` meets its contract: a remainder by 2 ^ k keeps the k lowest bits, and a word has no more than 64.
 use mathlib.Core.Path.{_≡_, refl}
 use Prim.Native.Nat.{_<_, _^_, min}
 use native.Mathlib.Nat.{mod-eq-of-lt}

@@ -10,22 +10,26 @@ use Rattle.disk_held.proofs.release.Tie as tie
 shl-bit : tie.Need-shl-bit
 shl-bit c = search needs
 
-mul-next : tie.Need-mul-next
-mul-next c = search needs
+mul-held : tie.Need-mul-held
+mul-held c = search needs
 
-array-read-next : tie.Need-array-read-next
-array-read-next c = search needs
+slice-read-held : tie.Need-slice-read-held
+slice-read-held c = search needs
 
-mul-next-2 : tie.Need-mul-next-2
-mul-next-2 c = search needs
+mul-held-2 : tie.Need-mul-held-2
+mul-held-2 c = search needs
 
-array-write-next : tie.Need-array-write-next
-array-write-next c = search needs
+slice-write-held : tie.Need-slice-write-held
+slice-write-held c = search needs
+
+same-length : tie.Need-same-length
+same-length c = search needs
 
 returns : tie.Need-returns
 unfolding release
-returns c = rw (one-shifted (c .args .b % 64) (omega arith))
+returns c = rw (one-shifted (c .before .args .b % 64) (omega arith))
 
 pub release-spec : {M : Type 1} → statement M
 release-spec =
-    tie.close (tie.spec shl-bit mul-next array-read-next mul-next-2 array-write-next returns)
+    tie.close
+    (tie.spec shl-bit mul-held slice-read-held mul-held-2 slice-write-held same-length returns)

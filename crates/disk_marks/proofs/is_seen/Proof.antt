@@ -1,18 +1,12 @@
 -- What is asked for is the entry's own user, name and group; where its mark is not set, no lower slot can have them.
-use mathlib.Core.Path.{_≡_, sym}
-use mathlib.Core.Bool.{true, false}
-use Prim.Native.Nat.{_/_, _%_, _<_}
-use native.Mathlib.Omega.{arith}
+use mathlib.Core.Path.{_≡_, sym, _∙_}
+use mathlib.Core.Bool.{false}
 use denote.Ref.{now}
 use borrow.Author.Needs.{needs}
-use borrow.Author.Tests.{eq-eqb, ne-eqb}
-use lib.ListN.{length}
 use Rattle.lists.specs.Bytes.{part}
 use Rattle.disk_volume.specs.Name.{nameAt}
 use Rattle.disk_volume.specs.Entry.{isEmpty}
 use Rattle.disk_volume.specs.Directory.{slotAt}
-use Rattle.disk_held.specs.Held.{digit, holds, hold}
-use Rattle.disk_held.proofs.Bits.{one-shifted}
 use Rattle.disk_rules.specs.GoodSlot.{seenBelow}
 use Rattle.disk_marks.specs.CodeMarks.{entryMark}
 use Rattle.disk_marks.proofs.MarkLaws.{unmarked, still-marked, now-marked}
@@ -26,15 +20,6 @@ used c = rw (← c .pre .1 .0 .1 .1) (c .pre .1 .1 .0)
 own-mark : (c : tie.After-mark-of) → (let a = c .before .before .before .before .before .before .before .before .args in c .mark-of .result ≡ entryMark (a .g) (slotAt (a .g) (now (a .volume)) (a .i)))
 unfolding nameAt part
 own-mark c = rw (← c .before .before .before .before .before .before .before .before .pre .1 .0 .1 .1, ← c .before .before .before .before .extent-of .ensures .0, ← c .before .before .before .group .ensures) (c .mark-of .ensures .0)
-
--- what the test of the bit told
-set : (c : tie.Then1) → holds (now (c .before .before .before .before .before .before .before .before .before .before .args .marks)) (c .before .before .mark-of .result) ≡ true
-unfolding holds digit
-set c = eq-eqb (digit (now (c .before .before .before .before .before .before .before .before .before .before .args .marks)) (c .before .before .mark-of .result)) 1 (c .if1 .taken)
-
-not-set : (c : tie.Else1) → holds (now (c .before .before .before .before .before .before .before .before .before .before .args .marks)) (c .before .before .mark-of .result) ≡ false
-unfolding holds digit
-not-set c = ne-eqb (digit (now (c .before .before .before .before .before .before .before .before .before .before .args .marks)) (c .before .before .mark-of .result)) 1 (c .if1 .left)
 
 extent-of-requires : tie.Need-extent-of-requires
 extent-of-requires c κs = search needs
@@ -57,14 +42,8 @@ part-mark-of-end c = search needs
 mark-of-requires : tie.Need-mark-of-requires
 mark-of-requires c κs = search needs
 
-mul-word : tie.Need-mul-word
-mul-word c = search needs
-
-slice-read-word : tie.Need-slice-read-word
-slice-read-word c = search needs
-
-shr-if1 : tie.Need-shr-if1
-shr-if1 c = search needs
+is-held-requires : tie.Need-is-held-requires
+is-held-requires c κs = search needs
 
 shared-slice-read-is-below : tie.Need-shared-slice-read-is-below
 shared-slice-read-is-below c = search needs
@@ -81,37 +60,31 @@ part-is-below-end c = search needs
 is-below-requires : tie.Need-is-below-requires
 is-below-requires c κs = search needs
 
-returns : tie.Need-returns
-unfolding seenBelow nameAt part
-returns c =
-    let s = c .before .before .before .before .before .before .before .before .before .before .before .before .before in
-    let a = s .args in (
-      rw (← s .pre .1 .0 .1 .1, ← c .before .before .before .before .before .before .before .before .before .extent-of .ensures .0, ← c .before .before .before .before .before .before .before .before .group .ensures) (c .is-below .ensures),
-      still-marked (a .g) (now (a .volume)) (now (a .marks)) (a .i) (s .pre .1 .1 .1 .1) (rw (used s, ← own-mark (c .before .before .before .before .before)) (set (c .before .before .before))),
-    )
-
-shl-marks : tie.Need-shl-marks
-shl-marks c = search needs
-
-mul-marks : tie.Need-mul-marks
-mul-marks c = search needs
-
-slice-write-marks : tie.Need-slice-write-marks
-slice-write-marks c = search needs
-
 same-length : tie.Need-same-length
 same-length c = search needs
 
+returns : tie.Need-returns
+unfolding seenBelow nameAt part
+returns c =
+    let s = c .before .before .before .before .before .before .before .before .before .before .before .before .before .before in
+    let a = s .args in (
+      rw (← s .pre .1 .0 .1 .1, ← c .before .before .before .before .before .before .before .before .before .before .extent-of .ensures .0, ← c .before .before .before .before .before .before .before .before .before .group .ensures) (c .is-below .ensures),
+      still-marked (a .g) (now (a .volume)) (now (a .marks)) (a .i) (s .pre .1 .1 .1 .1) (rw (used s, ← own-mark (c .before .before .before .before .before .before)) (sym (c .before .before .before .before .is-held .ensures) ∙ c .before .before .before .if1 .taken)),
+    )
+
+hold-requires : tie.Need-hold-requires
+hold-requires c κs = search needs
+
+same-length-2 : tie.Need-same-length-2
+same-length-2 c = search needs
+
 returns-2 : tie.Need-returns-2
-unfolding hold
 returns-2 c =
-    let s = c .before .before .before .before .before .before .before .before .before .before in
+    let s = c .before .before .before .before .before .before .before .before .before .before .before .before .before .before .before in
     let a = s .args in
-    let m = c .before .before .mark-of .result in
-    let own = own-mark (c .before .before) in
-    let fits : m / 64 < length (now (a .marks)) = omega arith in (
-      sym (unmarked (a .g) (now (a .volume)) (now (a .marks)) (a .i) (s .pre .1 .1 .1 .1) (used s) (rw own at (not-set c))),
-      rw (one-shifted (m % 64) (omega arith), own) (now-marked (a .g) (now (a .volume)) (now (a .marks)) (a .i) (s .pre .1 .1 .1 .1) (rw (← own) fits)),
+    let own = own-mark (c .before .before .before .before .before .before .before) in (
+      sym (unmarked (a .g) (now (a .volume)) (now (a .marks)) (a .i) (s .pre .1 .1 .1 .1) (used s) (rw own at (sym (c .before .before .before .before .before .is-held .ensures) ∙ c .before .before .before .before .if1 .left))),
+      rw (c .before .before .hold .ensures, own) (now-marked (a .g) (now (a .volume)) (now (a .marks)) (a .i) (s .pre .1 .1 .1 .1) (rw (← own) (search needs))),
     )
 
 pub is-seen-spec : {M : Type 1} → statement M
@@ -125,17 +98,14 @@ is-seen-spec =
     part-mark-of-start
     part-mark-of-end
     mark-of-requires
-    mul-word
-    slice-read-word
-    shr-if1
+    is-held-requires
     shared-slice-read-is-below
     sub-is-below
     part-is-below-start
     part-is-below-end
     is-below-requires
-    returns
-    shl-marks
-    mul-marks
-    slice-write-marks
     same-length
+    returns
+    hold-requires
+    same-length-2
     returns-2)

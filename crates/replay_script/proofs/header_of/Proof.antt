@@ -1,4 +1,5 @@
 -- The flag is the definition's test, and the numbers are those of the header.
+use Rattle.replay_script.specs.Layout.{longestVolume}
 use Rattle.replay_script.specs.Script.{headerOf}
 use denote.Ref.{now}
 use lib.ListN.{length}
@@ -15,7 +16,7 @@ four-at-requires c κs = search needs
 
 returns : tie.Need-returns
 unfolding headerOf
-returns c = (rw (← c .before .four-at .ensures, not-true (leb 10 (length (now (c .before .before .before .args .s))) && leb (c .before .four-at .result) 1048576) (c .if1 .taken)), tt)
+returns c = (rw (← c .before .four-at .ensures, not-true (leb 10 (length (now (c .before .before .before .args .s))) && leb (c .before .four-at .result) longestVolume) (c .if1 .taken)), tt)
 
 two-at-requires : tie.Need-two-at-requires
 two-at-requires c κs = search needs
@@ -29,8 +30,8 @@ two-at-requires-3 c κs = search needs
 returns-2 : tie.Need-returns-2
 unfolding headerOf
 returns-2 c = (
-  rw (← c .before .before .before .before .four-at .ensures, not-false (leb 10 (length (now (c .before .before .before .before .before .before .args .s))) && leb (c .before .before .before .before .four-at .result) 1048576) (c .before .before .before .if1 .left), ← c .before .before .two-at .ensures .0, ← c .before .two-at2 .ensures .0, ← c .two-at3 .ensures .0),
-  leb-true (c .before .before .before .before .four-at .result) 1048576 (and-right (leb 10 (length (now (c .before .before .before .before .before .before .args .s)))) (leb (c .before .before .before .before .four-at .result) 1048576) (not-false (leb 10 (length (now (c .before .before .before .before .before .before .args .s))) && leb (c .before .before .before .before .four-at .result) 1048576) (c .before .before .before .if1 .left))),
+  rw (← c .before .before .before .before .four-at .ensures, not-false (leb 10 (length (now (c .before .before .before .before .before .before .args .s))) && leb (c .before .before .before .before .four-at .result) longestVolume) (c .before .before .before .if1 .left), ← c .before .before .two-at .ensures .0, ← c .before .two-at2 .ensures .0, ← c .two-at3 .ensures .0),
+  leb-true (c .before .before .before .before .four-at .result) longestVolume (and-right (leb 10 (length (now (c .before .before .before .before .before .before .args .s)))) (leb (c .before .before .before .before .four-at .result) longestVolume) (not-false (leb 10 (length (now (c .before .before .before .before .before .before .args .s))) && leb (c .before .before .before .before .four-at .result) longestVolume) (c .before .before .before .if1 .left))),
 )
 
 pub header-of-spec : {M : Type 1} → statement M

@@ -32,8 +32,9 @@ fn present<'a>(geometry: &Geometry, volume: &'a [u8]) -> Present<'a> {
         }
         let records = 128 * geometry.extents_an_entry();
         let first = geometry.group(entry.extent()) * records;
+        let map = entry.map(geometry);
         for n in first..first + records {
-            let block = entry.map()[geometry.place(n)];
+            let block = map[geometry.place(n)];
             if block != 0 && n % 128 < entry.count(extent_of_record(n)) {
                 let begin = geometry.record_begins(block, n);
                 found.insert((entry.user(), entry.name(), n), &volume[begin..begin + RECORD]);

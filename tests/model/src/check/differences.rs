@@ -11,6 +11,9 @@ pub struct Difference {
 
 /// The first byte in which two runs of bytes differ.
 pub fn bytes_differ(name: &str, got: &[u8], model: &[u8]) -> Option<String> {
+    if got == model {
+        return None;
+    }
     if got.len() != model.len() {
         return Some(format!("the {} has {} bytes, by the model {}", name, got.len(), model.len()));
     }

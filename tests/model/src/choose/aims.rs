@@ -126,7 +126,7 @@ pub fn aim_outside(r: &mut Random, view: &View) -> Option<Aim> {
     for entry in view.entries_of_user() {
         for place in present_places(&view.geometry, &entry) {
             let record = first_record(&view.geometry, &entry, place);
-            if !view.geometry.is_data_block(entry.map()[place]) && record < 65536 {
+            if !view.geometry.is_data_block(entry.map(&view.geometry)[place]) && record < 65536 {
                 aims.push(Aim { name: entry.name(), record });
             }
         }
@@ -136,7 +136,8 @@ pub fn aim_outside(r: &mut Random, view: &View) -> Option<Aim> {
 
 /// The places of the entry whose first record is present.
 pub fn present_places(geometry: &Geometry, entry: &Entry) -> Vec<usize> {
-    (0..16).filter(|&place| is_present(geometry, entry, first_record(geometry, entry, place))).collect()
+    let first = |place: &usize| first_record(geometry, entry, *place);
+    (0..geometry.places()).filter(|place| is_present(geometry, entry, first(place))).collect()
 }
 
 fn first_record(geometry: &Geometry, entry: &Entry, place: usize) -> u32 {
@@ -146,7 +147,7 @@ fn first_record(geometry: &Geometry, entry: &Entry, place: usize) -> u32 {
 
 /// A present record, if a few tries find one.
 fn aim_at_present(r: &mut Random, geometry: &Geometry, entries: &[Entry]) -> Option<Aim> {
-    let has_blocks = |entry: &&Entry| entry.map().iter().any(|&number| number != 0);
+    let has_blocks = |entry: &&Entry| entry.map(geometry).iter().any(|&number| number != 0);
     let with_blocks: Vec<&Entry> = entries.iter().filter(has_blocks).collect();
     if with_blocks.is_empty() {
         return None;
@@ -166,7 +167,7 @@ fn is_present(geometry: &Geometry, entry: &Entry, n: u32) -> bool {
     let extent = extent_of_record(n);
     geometry.group(extent) == geometry.group(entry.extent())
         && n % 128 < entry.count(extent)
-        && entry.map()[geometry.place(n)] != 0
+        && entry.map(geometry)[geometry.place(n)] != 0
 }
 
 /// A record of the entry's group or near it.
@@ -175,7 +176,8 @@ fn record_near(r: &mut Random, geometry: &Geometry, entry: &Entry) -> u32 {
     let records = geometry.records_a_block() as usize;
     let base = (geometry.group(entry.extent()) as usize) * 128 * x;
     let size = entry.size() as usize;
-    let places: Vec<usize> = (0..16).filter(|&place| entry.map()[place] != 0).collect();
+    let map = entry.map(geometry);
+    let places: Vec<usize> = (0..map.len()).filter(|&place| map[place] != 0).collect();
     let n = match r.below(20) {
         0..=8 if !places.is_empty() => base + r.pick(&places) * records + r.below(records),
         0..=10 => base + r.below(3),

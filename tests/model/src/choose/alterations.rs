@@ -3,8 +3,8 @@
 
 use super::aims::present_places;
 use super::random::Random;
-use crate::paper::directory::{entry_at, Entry, EMPTY};
-use crate::paper::geometry::{Geometry, SLOT};
+use crate::paper::directory::{entry_at, number_bytes, Entry, EMPTY};
+use crate::paper::geometry::{Geometry, MAP, SLOT};
 use crate::paper::names::ANY;
 
 /// Where, and the bytes to lay there (at most 200).
@@ -26,8 +26,18 @@ impl Target<'_> {
         self.slot * SLOT + byte
     }
 
+    /// Where the number of a place stands.
+    fn at_place(&self, place: usize) -> usize {
+        self.at(16 + self.geometry.number_bytes() * place)
+    }
+
     fn any_place(&self, r: &mut Random) -> usize {
-        self.at(16 + r.below(16))
+        self.at_place(r.below(self.geometry.places()))
+    }
+
+    /// A number as it stands in entries.
+    fn number(&self, number: u16) -> Vec<u8> {
+        number_bytes(self.geometry, number)
     }
 }
 
@@ -152,16 +162,18 @@ fn first_extent_and_s1(r: &mut Random, target: &Target) -> Alteration {
 /// Mostly in the place of a present record.
 fn number_outside(r: &mut Random, target: &Target) -> Alteration {
     let places = present_places(target.geometry, &target.entry);
-    let place = if places.is_empty() || r.percent(20) { r.below(16) } else { r.pick(&places) };
-    (target.at(16 + place), vec![outside(r, target.geometry)])
+    let any = r.below(target.geometry.places());
+    let place = if places.is_empty() || r.percent(20) { any } else { r.pick(&places) };
+    (target.at_place(place), target.number(outside(r, target.geometry)))
 }
 
 /// A map of numbers that are all outside, all the same or not.
 fn map_outside(r: &mut Random, target: &Target) -> Alteration {
-    let mut map = vec![outside(r, target.geometry); 16];
+    let mut map = target.number(outside(r, target.geometry)).repeat(target.geometry.places());
     if r.percent(50) {
-        for number in map.iter_mut() {
-            *number = outside(r, target.geometry);
+        map.clear();
+        while map.len() < MAP {
+            map.extend(target.number(outside(r, target.geometry)));
         }
     }
     (target.at(16), map)
@@ -169,16 +181,16 @@ fn map_outside(r: &mut Random, target: &Target) -> Alteration {
 
 fn number_of_another(r: &mut Random, target: &Target) -> Alteration {
     let other = entry_at(target.volume, used_slot(r, target.volume, target.slots));
-    (target.any_place(r), vec![number_of(r, target.geometry, &other)])
+    (target.any_place(r), target.number(number_of(r, target.geometry, &other)))
 }
 
 fn number_twice(r: &mut Random, target: &Target) -> Alteration {
     let number = number_of(r, target.geometry, &target.entry);
-    (target.at(16 + r.below(15)), vec![number; 2])
+    (target.at_place(r.below(target.geometry.places() - 1)), target.number(number).repeat(2))
 }
 
 fn no_number(r: &mut Random, target: &Target) -> Alteration {
-    (target.any_place(r), vec![0])
+    (target.any_place(r), target.number(0))
 }
 
 fn entry_again(r: &mut Random, target: &Target) -> Alteration {
@@ -218,25 +230,26 @@ fn bytes_anywhere(r: &mut Random, target: &Target) -> Alteration {
 }
 
 /// A number that the entry has, or else D.
-fn number_of(r: &mut Random, geometry: &Geometry, entry: &Entry) -> u8 {
-    let numbers: Vec<u8> = entry.map().iter().copied().filter(|&number| number != 0).collect();
+fn number_of(r: &mut Random, geometry: &Geometry, entry: &Entry) -> u16 {
+    let numbers: Vec<u16> = entry.map(geometry).iter().copied().filter(|&number| number != 0).collect();
     if numbers.is_empty() {
-        geometry.directory_blocks as u8
+        geometry.directory_blocks as u16
     } else {
         r.pick(&numbers)
     }
 }
 
 /// A block number that no entry may have, where there is one.
-fn outside(r: &mut Random, geometry: &Geometry) -> u8 {
+fn outside(r: &mut Random, geometry: &Geometry) -> u16 {
     let below = geometry.directory_blocks as usize - 1;
-    let beyond = 256 - geometry.blocks as usize;
+    let largest = if geometry.is_wide() { 65535 } else { 255 };
+    let beyond = largest + 1 - geometry.blocks as usize;
     if below == 0 && beyond == 0 {
         return 0;
     }
     if beyond == 0 || (below > 0 && r.percent(50)) {
-        return r.between(1, below) as u8;
+        return r.between(1, below) as u16;
     }
-    let any = 255 - r.below(beyond);
-    r.pick(&[geometry.blocks as usize, 255, any]) as u8
+    let any = largest - r.below(beyond);
+    r.pick(&[geometry.blocks as usize, largest, any]) as u16
 }

@@ -6,15 +6,15 @@ use super::aims::View;
 use super::alterations::alteration;
 use super::bad_scripts::number_not_served;
 use super::cuttings::{some_most, stores_made};
-use super::drives::wild_drive;
+use super::drives::{drive_of_another_length, wild_drive};
 use super::geometries::{geometry, wild_geometry};
-use super::images::{contents, make_length_wrong, valid_image, Contents};
+use super::images::{contents, make_length_wrong, valid_image, Contents, LONGEST_LENT};
 use super::random::Random;
 use super::runs::Chooser;
 use crate::check::pairs::Door;
 use crate::doors::chain::{Chain, Step};
-use crate::doors::drive_bytes::{decode, CLOSED, DRIVE_BYTES};
-use crate::doors::script::{lay, Call, LARGEST_VOLUME};
+use crate::doors::drive_bytes::{closed, decode, drive_bytes};
+use crate::doors::script::{lay, Call};
 use crate::doors::seam::{self, Memory};
 use crate::paper::calls::LOG_INS;
 use crate::paper::directory::EMPTY;
@@ -59,7 +59,7 @@ pub fn long_chain(seed: u64, calls: usize) -> Chain {
     let volume = valid_image(&mut r, geometry, Contents::SomeFiles);
     let mut making = Making::new(r, seed, LONG);
     making.geometry = geometry;
-    making.memory = Memory { volume, drive: CLOSED.to_vec(), ..Memory::default() };
+    making.memory = Memory { volume, drive: closed(geometry.blocks), ..Memory::default() };
     making.steady = true;
     let Memory { volume, drive, .. } = making.memory.clone();
     making.log_in_with(geometry);
@@ -96,7 +96,8 @@ impl Making {
         let geometry = geometry(&mut r);
         let contents = contents(&mut r);
         let volume = valid_image(&mut r, geometry, contents);
-        let drive = if r.percent(20) { r.bytes(DRIVE_BYTES) } else { CLOSED.to_vec() };
+        let drive = closed(geometry.blocks);
+        let drive = if r.percent(20) { r.bytes(drive.len()) } else { drive };
         Making {
             geometry,
             steps: Vec::new(),
@@ -153,19 +154,19 @@ impl Making {
 
     /// `churawel_log_in`, mostly after what makes it succeed.
     fn log_in(&mut self) {
+        let wild = self.r.percent(6);
+        let given = if wild { wild_geometry(&mut self.r, &self.geometry) } else { self.geometry };
         if self.r.percent(3) {
-            let drive = self.r.bytes_of(&[0, 1, 32, 63, 65, 128]);
+            let drive = drive_of_another_length(&mut self.r, given.blocks);
             self.set_drive(drive);
-        } else if self.memory.drive.len() != DRIVE_BYTES && self.r.percent(80) {
-            self.set_drive(CLOSED.to_vec());
+        } else if self.memory.drive.len() != drive_bytes(given.blocks) && self.r.percent(80) {
+            self.set_drive(closed(given.blocks));
         }
         if self.r.percent(60) {
             if let Some(slot) = lowest_bad_slot(&self.geometry, &self.memory.volume) {
                 self.lay(slot * SLOT, vec![EMPTY]);
             }
         }
-        let wild = self.r.percent(6);
-        let given = if wild { wild_geometry(&mut self.r, &self.geometry) } else { self.geometry };
         self.log_in_with(given);
     }
 
@@ -221,7 +222,7 @@ impl Making {
         }
         let before = (self.memory.volume.clone(), self.memory.drive.clone());
         let mut volume = before.0.clone();
-        make_length_wrong(&mut self.r, &mut volume, LARGEST_VOLUME);
+        make_length_wrong(&mut self.r, &mut volume, LONGEST_LENT);
         self.set_volume(volume);
         if self.r.percent(20) {
             self.log_in_with(self.geometry);

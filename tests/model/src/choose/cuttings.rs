@@ -3,18 +3,17 @@
 
 use super::aims::View;
 use super::bad_scripts::number_not_served;
-use super::drives::wild_drive;
-use super::geometries::geometry;
-use super::images::{contents, make_length_wrong, valid_image};
+use super::drives::{drive_of_another_length, wild_drive};
+use super::images::{make_length_wrong, LONGEST_LENT};
+use super::making::Making;
 use super::random::Random;
 use super::runs::call_with_faults;
 use crate::doors::chain::{Chain, Step};
 use crate::doors::cut::asked;
-use crate::doors::drive_bytes::{decode, CLOSED};
-use crate::doors::script::{Call, LARGEST_VOLUME};
+use crate::doors::drive_bytes::{closed, decode};
+use crate::doors::script::Call;
 use crate::doors::seam::{self, Memory};
 use crate::paper::calls::*;
-use crate::paper::geometry::Geometry;
 
 /// Where the numbers of these chains begin among those of a seed.
 const OWN: u64 = u64::MAX / 8;
@@ -30,19 +29,14 @@ const CHANGING: [u8; 8] =
 
 /// The chain of this seed and number.
 pub fn cutting(seed: u64, number: u64) -> Chain {
-    let mut r = Random::new(seed, OWN + number);
-    let geometry = geometry(&mut r);
-    let contents = contents(&mut r);
-    let volume = valid_image(&mut r, geometry, contents);
-    let memory = Memory { volume: volume.clone(), drive: CLOSED.to_vec(), ..Memory::default() };
-    let mut making = Making { r, geometry, memory, steps: Vec::new() };
+    let mut making = Making::new(Random::new(seed, OWN + number));
     making.begin();
     for _ in 0..making.r.between(2, 4) {
         making.every_cut();
     }
     making.cut_wrongly();
-    making.steps.push(Step::LogIn(geometry));
-    Chain { volume, drive: CLOSED.to_vec(), steps: making.steps }
+    making.steps.push(Step::LogIn(making.geometry));
+    making.chain()
 }
 
 /// So many stores at most: each number up to one more than there are, or some.
@@ -59,14 +53,6 @@ pub fn stores_made(call: &Call, memory: &Memory) -> usize {
     let Some(state) = decode(&memory.drive) else { return 0 };
     let lent = Memory { control: call.control.clone(), buffer: call.buffer.clone(), ..memory.clone() };
     asked(Some(state), call.function, call.parameter, &lent).stores().1.len()
-}
-
-/// A chain in the making, played on the model as it is chosen.
-struct Making {
-    r: Random,
-    geometry: Geometry,
-    memory: Memory,
-    steps: Vec<Step>,
 }
 
 impl Making {
@@ -86,8 +72,7 @@ impl Making {
 
     /// Log-in, and a user that has files.
     fn begin(&mut self) {
-        seam::log_in(self.geometry, &mut self.memory);
-        self.steps.push(Step::LogIn(self.geometry));
+        self.log_in();
         let view = View { geometry: self.geometry, volume: &self.memory.volume, user: 0, altered: None };
         let parameter = view.user_with_files(&mut self.r);
         self.call(Call { function: USER, parameter, control: Vec::new(), buffer: Vec::new() });
@@ -131,15 +116,14 @@ impl Making {
             self.cut_somewhere(&call);
         }
         let mut volume = self.memory.volume.clone();
-        make_length_wrong(&mut self.r, &mut volume, LARGEST_VOLUME);
+        make_length_wrong(&mut self.r, &mut volume, LONGEST_LENT);
         let wild = wild_drive(&mut self.r, &self.memory.drive, &self.geometry, &self.memory.volume);
-        let length = self.r.pick(&[0, 1, 32, 63, 65, 128]);
         let mut other = self.memory.drive.clone();
-        other.resize(length, 0);
+        other.resize(drive_of_another_length(&mut self.r, self.geometry.blocks).len(), 0);
         let any = self.r.pick(&CALLS);
         for (step, function) in [
             (Step::Volume(volume), self.r.pick(&CHANGING)),
-            (Step::Drive(CLOSED.to_vec()), any),
+            (Step::Drive(closed(self.geometry.blocks)), any),
             (Step::Drive(wild), self.r.pick(&CHANGING)),
             (Step::Drive(other), any),
         ] {

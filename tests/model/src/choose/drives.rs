@@ -4,20 +4,35 @@
 use super::geometries::other_geometry;
 use super::pool::name_of_pool;
 use super::random::Random;
-use crate::doors::drive_bytes::{put_geometry, CLOSED, DRIVE_BYTES};
+use crate::doors::drive_bytes::{closed, drive_bytes, put_geometry, DRIVE_BYTES, WIDE_DRIVE_BYTES};
 use crate::paper::geometry::{Geometry, SLOT};
 use crate::paper::names::ANY;
+
+/// Lengths that no drive has.
+pub const NO_LENGTHS: [usize; 9] = [0, 1, 32, 63, 65, 128, 543, 545, 600];
+
+/// Some bytes of a length that no drive has, or of the one that a drive of so many
+/// blocks must not have.
+pub fn drive_of_another_length(r: &mut Random, blocks: u32) -> Vec<u8> {
+    if r.percent(50) {
+        let length = r.pick(&NO_LENGTHS);
+        return r.bytes(length);
+    }
+    let length = DRIVE_BYTES + WIDE_DRIVE_BYTES - drive_bytes(blocks);
+    r.bytes(length)
+}
 
 /// Made of the drive as it is, or anew for this geometry.
 pub fn wild_drive(r: &mut Random, drive: &[u8], geometry: &Geometry, volume: &[u8]) -> Vec<u8> {
     let mut wild = drive.to_vec();
-    if wild.len() != DRIVE_BYTES || r.percent(20) {
-        wild = CLOSED.to_vec();
+    if wild.len() != drive_bytes(geometry.blocks) || r.percent(20) {
+        wild = closed(geometry.blocks);
         put_geometry(&mut wild, geometry);
         wild[6] = r.below(16) as u8;
     }
-    match r.below(30) {
-        0..=3 => wild[r.below(DRIVE_BYTES)] = r.byte(),
+    match r.below(34) {
+        0..=2 => wild[r.below(DRIVE_BYTES)] = r.byte(),
+        3 => wild[r.below(drive_bytes(geometry.blocks))] = r.byte(),
         4..=8 => hold_otherwise(r, &mut wild[32..]),
         9 => wild[6] = r.pick(&[0, 1, 15, 16, 17, 255]),
         10 => wild[7] = r.pick(&[0, 1, 1, 2, 255]),
@@ -26,11 +41,36 @@ pub fn wild_drive(r: &mut Random, drive: &[u8], geometry: &Geometry, volume: &[u
         19..=22 => keep_none(r, &mut wild),
         23 => wild[24 + r.below(8)] = r.pick(&[0, 1, 128]),
         24..=25 => put_geometry(&mut wild, &other_geometry(r, geometry)),
-        26 => wild.resize(r.pick(&[0, 1, 63, 65, 128]), 0),
+        26 => wild.resize(r.pick(&NO_LENGTHS), 0),
         27 => r.fill(&mut wild),
-        _ => wild = CLOSED.to_vec(),
+        28..=29 => be_of_another_width(r, &mut wild, geometry),
+        30..=31 => put_fitting(r, &mut wild, geometry),
+        _ => wild = closed(geometry.blocks),
     }
     wild
+}
+
+/// The length of the other width, with T as it was, with zeros alone, or with a T
+/// of that width.
+fn be_of_another_width(r: &mut Random, drive: &mut Vec<u8>, geometry: &Geometry) {
+    let (length, total) = if geometry.is_wide() {
+        (DRIVE_BYTES, [2, 40, 255, 256])
+    } else {
+        (WIDE_DRIVE_BYTES, [257, 258, 2048, 4096])
+    };
+    drive.resize(length, 0);
+    match r.below(3) {
+        0 => {}
+        1 => drive.fill(0),
+        _ => put_geometry(drive, &Geometry { blocks: r.pick(&total), ..*geometry }),
+    }
+}
+
+/// Another geometry, and the length that it asks for.
+fn put_fitting(r: &mut Random, drive: &mut Vec<u8>, geometry: &Geometry) {
+    let other = other_geometry(r, geometry);
+    drive.resize(drive_bytes(other.blocks % 65536), 0);
+    put_geometry(drive, &other);
 }
 
 fn hold_otherwise(r: &mut Random, words: &mut [u8]) {
@@ -38,7 +78,7 @@ fn hold_otherwise(r: &mut Random, words: &mut [u8]) {
         0 => words.fill(0),
         1 => words.fill(0xFF),
         2..=3 => r.fill(words),
-        _ => words[r.below(32)] ^= 1 << r.below(8),
+        _ => words[r.below(words.len())] ^= 1 << r.below(8),
     }
 }
 

@@ -1,10 +1,40 @@
 //! Geometries within the rules and outside of them.
 
 use super::random::Random;
-use crate::paper::geometry::Geometry;
+use crate::paper::geometry::{Geometry, MOST_BYTES};
 
-/// Within the rules; small mostly, some at the limits.
+/// So many of a hundred geometries are wide. Their volumes are large, so that
+/// each takes as long as some dozen others.
+const WIDE: usize = 12;
+
+/// Within the rules; small mostly, some at the limits, some wide.
 pub fn geometry(r: &mut Random) -> Geometry {
+    if r.percent(WIDE) {
+        wide_geometry(r)
+    } else {
+        narrow_geometry(r)
+    }
+}
+
+/// From T 257 on: mostly not far above, some at the limits.
+pub fn wide_geometry(r: &mut Random) -> Geometry {
+    let block_bytes = r.pick(&[2048, 2048, 4096]);
+    let most = MOST_BYTES as usize / block_bytes as usize;
+    let blocks = match r.below(100) {
+        0..=19 => 257,
+        20..=49 => r.between(258, 330),
+        50..=59 => r.pick(&[511, 512, 513]),
+        60..=93 => r.between(331, 700),
+        94 => r.pick(&[1023, 1024, 1025, 1280]),
+        95 => r.between(257, most),
+        96 => most - 1,
+        _ => most,
+    };
+    let directory_blocks = r.pick(&[1, 1, 1, 1, 2, 2, 3, 15, 16, 16]);
+    Geometry::new(block_bytes, blocks as u32, directory_blocks)
+}
+
+fn narrow_geometry(r: &mut Random) -> Geometry {
     let block_bytes = r.pick(&[1024, 2048, 4096]);
     let (blocks, directory_blocks) = match r.below(100) {
         0..=69 => few_blocks(r),
@@ -33,11 +63,14 @@ fn few_blocks(r: &mut Random) -> (usize, usize) {
 pub fn wrong_geometry(r: &mut Random) -> Geometry {
     let mut wrong = geometry(r);
     while wrong.within_rules() {
-        match r.below(12) {
+        match r.below(16) {
             0..=1 => wrong.block_bytes = r.pick(&[512, 8192, 512, 8192, 3072, 0]),
             2 => wrong.block_bytes = r.pick(&[1, 128, 1023, 1025, 16384, 32768]),
-            3..=4 => wrong.blocks = 257,
-            5 => wrong.blocks = r.pick(&[0, 1, 1, 512, 65535]),
+            3..=4 => wrong.blocks = r.pick(&[0, 1, 1, 4097, 4352, 8192, 65535]),
+            5 | 15 => wrong = Geometry { block_bytes: 4096, blocks: r.pick(&[2049, 2050, 4096]), ..wrong },
+            12..=14 => {
+                wrong = Geometry { block_bytes: 1024, blocks: r.pick(&[257, 258, 511, 4096]), ..wrong }
+            }
             6 => wrong.directory_blocks = 0,
             7 => wrong = Geometry { blocks: wrong.blocks.max(18), directory_blocks: 17, ..wrong },
             8 => wrong.directory_blocks = wrong.blocks,
@@ -53,7 +86,7 @@ pub fn wrong_geometry(r: &mut Random) -> Geometry {
 /// `churawel_log_in`.
 pub fn wild_geometry(r: &mut Random, right: &Geometry) -> Geometry {
     let mut wild = *right;
-    match r.below(6) {
+    match r.below(8) {
         0 => wild.block_bytes += 65536,
         1 => wild.blocks += 65536,
         2 => wild.directory_blocks += 65536,
@@ -64,8 +97,8 @@ pub fn wild_geometry(r: &mut Random, right: &Geometry) -> Geometry {
     wild
 }
 
-/// Another geometry for a drive: of the same volume length or not, within the
-/// rules or not.
+/// Another geometry for a drive: of the same volume length or not, of the same
+/// width or not, within the rules or not.
 pub fn other_geometry(r: &mut Random, right: &Geometry) -> Geometry {
     let Geometry { block_bytes, blocks, directory_blocks } = *right;
     match r.below(5) {

@@ -70,6 +70,9 @@ pub fn image_of_wrong_geometry(r: &mut Random, wrong: &Geometry, most: usize) ->
     volume
 }
 
+/// The longest volume that is lent at the seam.
+pub const LONGEST_LENT: usize = 9 * 1024 * 1024;
+
 /// Makes a volume's length a wrong one.
 pub fn make_length_wrong(r: &mut Random, volume: &mut Vec<u8>, most: usize) {
     let right = volume.len();
@@ -89,7 +92,7 @@ struct Making {
     /// Taken from the end.
     slots: Vec<usize>,
     /// Taken from the end.
-    blocks: Vec<u8>,
+    blocks: Vec<u16>,
     taken: BTreeSet<(u8, Name, u32)>,
     /// The top bit of byte 9 that most entries of the file in hand carry.
     read_only: u8,
@@ -103,9 +106,13 @@ impl Making {
             r.shuffle(&mut slots);
         }
         let data = geometry.directory_blocks..geometry.blocks;
-        let mut blocks: Vec<u8> = data.rev().map(|number| number as u8).collect();
+        let mut blocks: Vec<u16> = data.rev().map(|number| number as u16).collect();
         if r.percent(60) {
             r.shuffle(&mut blocks);
+        }
+        if geometry.is_wide() && r.percent(50) {
+            // Those whose low byte is 0 are taken first.
+            blocks.sort_by_key(|number| number % 256 == 0);
         }
         Making { geometry, volume, slots, blocks, taken: BTreeSet::new(), read_only: 0 }
     }
@@ -152,14 +159,14 @@ impl Making {
 
     /// Blocks for the first places or for any; how many were given.
     fn give_blocks(&mut self, r: &mut Random, entry: &mut Entry, most: usize, dense: bool) -> usize {
-        let mut places: Vec<usize> = (0..16).collect();
+        let mut places: Vec<usize> = (0..self.geometry.places()).collect();
         if !dense {
             r.shuffle(&mut places);
         }
-        let most = most.min(16).min(self.blocks.len());
+        let most = most.min(places.len()).min(self.blocks.len());
         let count = r.between(0, most).max(r.between(0, most));
         for &place in &places[..count] {
-            entry.set_place(place, self.blocks.pop().unwrap_or(0));
+            entry.set_place(&self.geometry, place, self.blocks.pop().unwrap_or(0));
         }
         count
     }
@@ -194,10 +201,10 @@ impl Making {
     }
 
     /// Gives the free blocks to places that have none, with new files where
-    /// there are too few places.
+    /// there are too few places, as far as there are slots.
     fn fill_disk(&mut self, r: &mut Random) {
         self.fill_places();
-        while !self.blocks.is_empty() {
+        while !self.blocks.is_empty() && !self.slots.is_empty() {
             let number = r.below(1_000_000);
             self.add(r, 0, numbered_name(number), 0, 16);
             self.fill_places();
@@ -210,9 +217,9 @@ impl Making {
             if entry.is_empty() {
                 continue;
             }
-            for place in 0..16 {
-                if entry.map()[place] == 0 {
-                    entry.set_place(place, self.blocks.pop().unwrap_or(0));
+            for place in 0..self.geometry.places() {
+                if entry.map(&self.geometry)[place] == 0 {
+                    entry.set_place(&self.geometry, place, self.blocks.pop().unwrap_or(0));
                 }
             }
             store_entry(&mut self.volume, slot, &entry);

@@ -11,6 +11,7 @@
 //! | `goals` | calls that are aimed at one pair of call and answer |
 //! | `scripts`, `bad_scripts` | scripts for both doors |
 //! | `drives`, `chains` | wild drives, and chains with them for the seam alone |
+//! | `making` | a chain in the making, for the two below |
 //! | `cuttings` | chains that cut calls off |
 //! | `tellings` | chains that ask why a volume is refused, and for its files |
 
@@ -25,6 +26,7 @@ pub mod faults;
 pub mod geometries;
 pub mod goals;
 pub mod images;
+pub mod making;
 pub mod pool;
 pub mod random;
 pub mod runs;

@@ -3,7 +3,7 @@
 use super::aims::View;
 use super::alterations::alteration;
 use super::bad_scripts::bad_script;
-use super::geometries::{geometry, wrong_geometry};
+use super::geometries::{geometry, wide_geometry, wrong_geometry};
 use super::images::{contents, image_of_wrong_geometry, make_length_wrong, valid_image};
 use super::random::Random;
 use super::runs::Chooser;
@@ -53,6 +53,10 @@ pub fn script_bytes(seed: u64, number: u64) -> Vec<u8> {
 
 fn geometry_and_volume(r: &mut Random) -> (Geometry, Vec<u8>) {
     let mut geometry = geometry(r);
+    // Few volumes are too long for a script.
+    while geometry.volume_bytes() > LARGEST_VOLUME && r.percent(90) {
+        geometry = wide_geometry(r);
+    }
     let contents = contents(r);
     let mut volume = valid_image(r, geometry, contents);
     let fault = r.weighted(&[

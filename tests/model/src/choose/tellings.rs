@@ -3,13 +3,12 @@
 
 use super::alterations::alteration;
 use super::drives::wild_drive;
-use super::geometries::{geometry, wild_geometry};
-use super::images::{contents, make_length_wrong, valid_image};
+use super::geometries::wild_geometry;
+use super::images::{make_length_wrong, LONGEST_LENT};
+use super::making::Making;
 use super::random::Random;
 use crate::doors::chain::{Chain, Step};
-use crate::doors::drive_bytes::CLOSED;
-use crate::doors::script::{lay, LARGEST_VOLUME};
-use crate::doors::seam::{self, Memory};
+use crate::doors::script::lay;
 use crate::doors::telling::{self, FAULT_BYTES, LINE_BYTES};
 use crate::paper::geometry::Geometry;
 
@@ -21,12 +20,7 @@ const MOST_FILES: usize = 6;
 
 /// The chain of this seed and number.
 pub fn telling(seed: u64, number: u64) -> Chain {
-    let mut r = Random::new(seed, OWN + number);
-    let geometry = geometry(&mut r);
-    let contents = contents(&mut r);
-    let volume = valid_image(&mut r, geometry, contents);
-    let memory = Memory { volume: volume.clone(), drive: CLOSED.to_vec(), ..Memory::default() };
-    let mut making = Making { r, geometry, memory, steps: Vec::new() };
+    let mut making = Making::new(Random::new(seed, OWN + number));
     making.log_in();
     making.ask();
     for _ in 0..making.r.between(1, 6) {
@@ -34,23 +28,10 @@ pub fn telling(seed: u64, number: u64) -> Chain {
         making.ask();
     }
     making.ask_wrongly();
-    Chain { volume, drive: CLOSED.to_vec(), steps: making.steps }
-}
-
-/// A chain in the making, played on the model as it is chosen.
-struct Making {
-    r: Random,
-    geometry: Geometry,
-    memory: Memory,
-    steps: Vec<Step>,
+    making.chain()
 }
 
 impl Making {
-    fn log_in(&mut self) {
-        seam::log_in(self.geometry, &mut self.memory);
-        self.steps.push(Step::LogIn(self.geometry));
-    }
-
     fn alter(&mut self) {
         let (offset, bytes) = alteration(&mut self.r, &self.geometry, &self.memory.volume, None);
         lay(&mut self.memory.volume, offset, &bytes);
@@ -95,7 +76,7 @@ impl Making {
         self.file(from, LINE_BYTES);
         let length = self.r.pick(&[0, 1, 23, 25, 32]);
         self.file(0, length);
-        make_length_wrong(&mut self.r, &mut self.memory.volume, LARGEST_VOLUME);
+        make_length_wrong(&mut self.r, &mut self.memory.volume, LONGEST_LENT);
         self.steps.push(Step::Volume(self.memory.volume.clone()));
         self.fault(self.geometry, FAULT_BYTES);
         self.file(0, LINE_BYTES);

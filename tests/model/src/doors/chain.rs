@@ -5,7 +5,7 @@
 //! steps, each a letter and what `Step` says. Numbers have their low byte first;
 //! a *run* is a length of 32 bits and so many bytes; volume and drive are runs.
 
-use super::drive_bytes::CLOSED;
+use super::drive_bytes::closed;
 use super::reader::Reader;
 use super::script::{Call, Script, TOUCH};
 use crate::paper::calls::LOG_INS;
@@ -57,7 +57,7 @@ impl Chain {
             _ => Step::Call(call.clone()),
         };
         let steps = script.calls.iter().map(step).collect();
-        Chain { volume: script.volume.clone(), drive: CLOSED.to_vec(), steps }
+        Chain { volume: script.volume.clone(), drive: closed(script.geometry.blocks), steps }
     }
 
     pub fn encode(&self) -> Vec<u8> {

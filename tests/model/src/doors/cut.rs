@@ -1,7 +1,7 @@
 //! The seam's entry that cuts a call off: what `churawel_cut` must answer and
 //! leave.
 
-use super::drive_bytes::{decode, DRIVE_BYTES};
+use super::drive_bytes::{decode, length_fits};
 use super::seam::{Memory, CLOSED_DRIVE, NOT_SERVED};
 use crate::paper::calls::{is_served, LOG_INS};
 use crate::paper::held::Way;
@@ -11,9 +11,10 @@ use crate::paper::stores::{lay_down, Asked};
 
 /// The call's refusal in the low 16 bits, 0 where it is not refused, and how many
 /// stores were made in the high 16. The machine is gone: the drive is closed after
-/// every answer, refusals included, but one of another length stays as it is.
+/// every answer, refusals included, but one that has not the length of its T
+/// stays as it is.
 pub fn cut(most: u32, function: u8, parameter: u8, memory: &mut Memory) -> u32 {
-    if memory.drive.len() != DRIVE_BYTES {
+    if !length_fits(&memory.drive) {
         return CLOSED_DRIVE;
     }
     let drive = decode(&memory.drive);

@@ -1,13 +1,34 @@
-//! The drive as the 64 bytes that are lent at the emulator's seam.
+//! The drive as the bytes that are lent at the emulator's seam: 64, or 544 where
+//! the volume is wide.
 
-use crate::paper::geometry::Geometry;
+use crate::paper::geometry::{Geometry, NARROW_BLOCKS};
 use crate::paper::held::{Held, Holding};
 use crate::paper::state::{Drive, KeptSearch, State};
 
 pub const DRIVE_BYTES: usize = 64;
+pub const WIDE_DRIVE_BYTES: usize = 544;
 
-/// The closed value.
-pub const CLOSED: [u8; DRIVE_BYTES] = [0; DRIVE_BYTES];
+/// Where the held words begin.
+const WORDS: usize = 32;
+
+/// The length that a drive of so many blocks must have, lawful or not.
+pub fn drive_bytes(blocks: u32) -> usize {
+    if blocks > NARROW_BLOCKS {
+        WIDE_DRIVE_BYTES
+    } else {
+        DRIVE_BYTES
+    }
+}
+
+/// The closed value, as long as a drive of so many blocks must be.
+pub fn closed(blocks: u32) -> Vec<u8> {
+    vec![0; drive_bytes(blocks)]
+}
+
+/// Whether the bytes are as many as the T that they name asks for.
+pub fn length_fits(bytes: &[u8]) -> bool {
+    [DRIVE_BYTES, WIDE_DRIVE_BYTES].contains(&bytes.len()) && bytes.len() == drive_bytes(number_at(bytes, 2))
+}
 
 fn number_at(bytes: &[u8], at: usize) -> u32 {
     bytes[at] as u32 + 256 * bytes[at + 1] as u32
@@ -24,9 +45,9 @@ pub fn put_geometry(bytes: &mut [u8], geometry: &Geometry) {
     put_number(bytes, 4, geometry.directory_blocks);
 }
 
-pub fn encode(drive: &Drive) -> [u8; DRIVE_BYTES] {
-    let mut bytes = CLOSED;
-    let Some(state) = drive else { return bytes };
+/// The bytes of an open state.
+pub fn encode(state: &State) -> Vec<u8> {
+    let mut bytes = closed(state.geometry.blocks);
     put_geometry(&mut bytes, &state.geometry);
     bytes[6] = state.user;
     bytes[7] = state.protected as u8;
@@ -38,14 +59,14 @@ pub fn encode(drive: &Drive) -> [u8; DRIVE_BYTES] {
         bytes[23] = search.ex;
     }
     if let Holding::Kept(held) = &state.holding {
-        bytes[32..].copy_from_slice(&held_words(held));
+        hold(&mut bytes[WORDS..], held);
     }
     bytes
 }
 
 /// The state of lent bytes; `None` where they count as closed.
 pub fn decode(bytes: &[u8]) -> Drive {
-    if bytes.len() != DRIVE_BYTES || !is_well_formed(bytes) {
+    if !length_fits(bytes) || !is_well_formed(bytes) {
         return None;
     }
     let state = State {
@@ -53,7 +74,7 @@ pub fn decode(bytes: &[u8]) -> Drive {
         user: bytes[6],
         protected: bytes[7] == 1,
         search: kept_search(bytes),
-        holding: Holding::Kept(held_blocks(&bytes[32..])),
+        holding: Holding::Kept(held_blocks(&bytes[WORDS..])),
     };
     state.within_rules().then_some(state)
 }
@@ -75,14 +96,13 @@ fn kept_search(bytes: &[u8]) -> Option<KeptSearch> {
 }
 
 /// Block n is bit n mod 8 of byte n div 8.
-fn held_words(held: &Held) -> [u8; 32] {
-    let mut bytes = [0; 32];
+fn hold(words: &mut [u8], held: &Held) {
     for number in held {
-        bytes[*number as usize / 8] |= 1 << (number % 8);
+        words[*number as usize / 8] |= 1 << (number % 8);
     }
-    bytes
 }
 
-fn held_blocks(bytes: &[u8]) -> Held {
-    (0..=255u8).filter(|number| bytes[*number as usize / 8] >> (number % 8) & 1 == 1).collect()
+fn held_blocks(words: &[u8]) -> Held {
+    let numbers = 0..8 * words.len() as u16;
+    numbers.filter(|number| words[*number as usize / 8] >> (number % 8) & 1 == 1).collect()
 }

@@ -6,8 +6,9 @@ use super::reader::Reader;
 use crate::paper::calls::is_served;
 use crate::paper::geometry::Geometry;
 
-/// The most bytes that a script's volume may have.
-pub const LARGEST_VOLUME: usize = 1_048_576;
+/// The most bytes that a script's volume may have: `replay` keeps it on its stack
+/// twice, as it was and as it is.
+pub const LARGEST_VOLUME: usize = 3 * 1024 * 1024;
 
 /// "Something else touches the volume."
 pub const TOUCH: u8 = 0;

@@ -1,7 +1,7 @@
 //! The emulator's seam: what `churawel_log_in` and `churawel_call` must answer
 //! and leave.
 
-use super::drive_bytes::{decode, encode, DRIVE_BYTES};
+use super::drive_bytes::{decode, drive_bytes, encode};
 use crate::paper::calls::{self, is_served, Lent, LOG_INS};
 use crate::paper::geometry::Geometry;
 use crate::paper::held::Way;
@@ -32,21 +32,25 @@ pub const CLOSED_DRIVE: u32 = 32;
 /// A function's number that is not served.
 pub const NOT_SERVED: u32 = 31;
 
-/// The number in the low 16 bits, count or slot in the high 16.
+/// The number in the low 16 bits, count or slot in the high 16. A drive that has
+/// not the length of T stays as it is.
 pub fn log_in(geometry: Geometry, memory: &mut Memory) -> u32 {
-    if memory.drive.len() != DRIVE_BYTES {
+    if memory.drive.len() != drive_bytes(geometry.blocks) {
         return CLOSED_DRIVE;
     }
-    let (answer, value, state) = inspection::log_in(geometry, &memory.volume, Way::Kept);
-    memory.drive.copy_from_slice(&encode(&state));
+    let (answer, value, drive) = inspection::log_in(geometry, &memory.volume, Way::Kept);
+    match &drive {
+        Some(state) => memory.drive = encode(state),
+        None => memory.drive.fill(0),
+    }
     answer + 65536 * value
 }
 
 /// 13 and 37 log in anew with the geometry that the drive has. Of several
 /// records the count done is in the high 16 bits.
 pub fn call(function: u8, parameter: u8, memory: &mut Memory) -> u32 {
-    let mut state = decode(&memory.drive);
-    let Some(open) = &state else { return CLOSED_DRIVE };
+    let mut drive = decode(&memory.drive);
+    let Some(open) = &drive else { return CLOSED_DRIVE };
     if !is_served(function) {
         return NOT_SERVED;
     }
@@ -55,7 +59,8 @@ pub fn call(function: u8, parameter: u8, memory: &mut Memory) -> u32 {
     }
     let mut lent =
         Lent { volume: &mut memory.volume, control: &mut memory.control, buffer: &mut memory.buffer };
-    let (answer, value) = calls::call(&mut state, function, parameter, &mut lent);
-    memory.drive.copy_from_slice(&encode(&state));
+    let (answer, value) = calls::call(&mut drive, function, parameter, &mut lent);
+    // No call but log-in closes a drive.
+    memory.drive = drive.as_ref().map(encode).expect("the drive is open");
     answer + 65536 * value
 }

@@ -5,7 +5,7 @@
 use super::drive_bytes::decode;
 use super::seam::Memory;
 use crate::paper::bad_slots::first_fault;
-use crate::paper::directory::{entry_at, slots_of_file};
+use crate::paper::directory::{entry_at, slots_of_file, Entry};
 use crate::paper::geometry::Geometry;
 use crate::paper::held::Way;
 use crate::paper::inspection;
@@ -34,7 +34,7 @@ fn put_fault(geometry: &Geometry, volume: &[u8], slot: usize, bytes: &mut [u8]) 
     let fault = first_fault(geometry, volume, slot).expect("a bad slot breaks a rule");
     bytes[0] = fault.rule;
     bytes[1] = fault.place as u8;
-    bytes[2] = fault.number;
+    put_number(bytes, 2, fault.number as usize);
     put_number(bytes, 4, slot);
     bytes[8..20].copy_from_slice(&entry_at(volume, slot).bytes[..12]);
     if let Some(other) = fault.other {
@@ -61,7 +61,7 @@ pub fn file(from: u32, memory: &mut Memory) -> u32 {
         }
         let slots = slots_of_file(geometry, volume, entry.user(), &entry.name());
         if slots[0] == slot {
-            memory.buffer = line(volume, &slots);
+            memory.buffer = line(geometry, volume, &slots);
             return 65536 * slot as u32;
         }
     }
@@ -69,7 +69,7 @@ pub fn file(from: u32, memory: &mut Memory) -> u32 {
 }
 
 /// User, name, marks, records and blocks of the file in these slots.
-fn line(volume: &[u8], slots: &[usize]) -> Vec<u8> {
+fn line(geometry: &Geometry, volume: &[u8], slots: &[usize]) -> Vec<u8> {
     let entries: Vec<_> = slots.iter().map(|&slot| entry_at(volume, slot)).collect();
     let mut bytes = vec![entries[0].user()];
     bytes.extend(entries[0].name());
@@ -77,8 +77,8 @@ fn line(volume: &[u8], slots: &[usize]) -> Vec<u8> {
         bytes.push(u8::from(entries.iter().any(|entry| entry.bytes[mark] >= 0x80)));
     }
     bytes.extend(entries.iter().map(|entry| entry.size()).max().unwrap_or(0).to_le_bytes());
-    let blocks: usize =
-        entries.iter().map(|entry| entry.map().iter().filter(|&&number| number != 0).count()).sum();
+    let held = |entry: &Entry| entry.map(geometry).iter().filter(|&&number| number != 0).count();
+    let blocks: usize = entries.iter().map(held).sum();
     bytes.extend((blocks as u16).to_le_bytes());
     bytes.resize(LINE_BYTES, 0);
     bytes

@@ -1,7 +1,7 @@
 //! Why a slot is bad: which rule of "Inspection at log-in" it breaks first, in
 //! the order of the paper's sentence.
 
-use super::directory::{entry_at, Entry};
+use super::directory::{entry_at, Entry, Map};
 use super::geometry::Geometry;
 use super::names::is_name;
 
@@ -11,7 +11,7 @@ pub struct Fault {
     pub rule: u8,
     /// The lowest place that breaks the rule, and the number that stands there.
     pub place: usize,
-    pub number: u8,
+    pub number: u16,
     /// The lowest of the lower slots that the rule speaks of.
     pub other: Option<usize>,
 }
@@ -38,13 +38,9 @@ fn own_bytes(entry: &Entry) -> Option<Fault> {
 
 /// The lowest place whose number is not 0 and is against a rule; where it is,
 /// the rule may name another slot.
-fn own_places(
-    entry: &Entry,
-    rule: u8,
-    against: impl Fn(usize, u8) -> Option<Option<usize>>,
-) -> Option<Fault> {
-    (0..16).filter(|&place| entry.map()[place] != 0).find_map(|place| {
-        let number = entry.map()[place];
+fn own_places(map: &Map, rule: u8, against: impl Fn(usize, u16) -> Option<Option<usize>>) -> Option<Fault> {
+    (0..map.len()).filter(|&place| map[place] != 0).find_map(|place| {
+        let number = map[place];
         against(place, number).map(|other| Fault { rule, place, number, other })
     })
 }
@@ -63,13 +59,11 @@ pub fn first_fault(geometry: &Geometry, volume: &[u8], slot: usize) -> Option<Fa
         (other.user(), other.name(), geometry.group(other.extent()))
             == (entry.user(), entry.name(), geometry.group(entry.extent()))
     };
+    let map = entry.map(geometry);
+    let lowest_with = |number: u16| lowest(&|other| other.map(geometry).contains(&number));
     own_bytes(&entry)
-        .or_else(|| own_places(&entry, 8, |_, number| (!geometry.is_data_block(number)).then_some(None)))
-        .or_else(|| {
-            own_places(&entry, 9, |place, number| entry.map()[..place].contains(&number).then_some(None))
-        })
-        .or_else(|| {
-            own_places(&entry, 10, |_, number| lowest(&|other| other.map().contains(&number)).map(Some))
-        })
+        .or_else(|| own_places(&map, 8, |_, number| (!geometry.is_data_block(number)).then_some(None)))
+        .or_else(|| own_places(&map, 9, |place, number| map[..place].contains(&number).then_some(None)))
+        .or_else(|| own_places(&map, 10, |_, number| lowest_with(number).map(Some)))
         .or_else(|| lowest(&same).map(|other| Fault { other: Some(other), ..of_entry(11) }))
 }

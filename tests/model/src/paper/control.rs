@@ -59,5 +59,5 @@ pub fn set_to(control: &mut [u8], n: u32, entry: &Entry) {
     let extent = extent_of_record(n);
     show_extent(control, extent);
     control[RC] = entry.count(extent) as u8;
-    control[16..32].copy_from_slice(entry.map());
+    control[16..32].copy_from_slice(entry.map_bytes());
 }

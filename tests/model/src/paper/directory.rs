@@ -1,7 +1,9 @@
 //! "Volume and entry", the directory: entries as they stand in the volume's
 //! slots, and how a file's entries and an empty slot are found.
 
-use super::geometry::{Geometry, SLOT};
+use std::ops::Deref;
+
+use super::geometry::{Geometry, MAP, SLOT};
 use super::names::{without_top_bits, Name};
 
 /// Byte 0 of an empty slot.
@@ -74,13 +76,44 @@ impl Entry {
         128 * self.extent() + (self.rc() as u32).min(128)
     }
 
-    /// The sixteen block numbers.
-    pub fn map(&self) -> &[u8] {
+    /// Bytes 16 to 31, as a control block shows them.
+    pub fn map_bytes(&self) -> &[u8] {
         &self.bytes[16..32]
     }
 
-    pub fn set_place(&mut self, place: usize, number: u8) {
-        self.bytes[16 + place] = number;
+    /// The block numbers: a byte each, or, where the volume is wide, "two bytes,
+    /// low first".
+    pub fn map(&self, geometry: &Geometry) -> Map {
+        let mut numbers = [0; MAP];
+        for (number, bytes) in numbers.iter_mut().zip(self.map_bytes().chunks(geometry.number_bytes())) {
+            *number = bytes.iter().rev().fold(0, |number, &byte| 256 * number + byte as u16);
+        }
+        Map { numbers, places: geometry.places() }
+    }
+
+    pub fn set_place(&mut self, geometry: &Geometry, place: usize, number: u16) {
+        let width = geometry.number_bytes();
+        self.bytes[16 + width * place..][..width].copy_from_slice(&number_bytes(geometry, number));
+    }
+}
+
+/// A block number as it stands in entries.
+pub fn number_bytes(geometry: &Geometry, number: u16) -> Vec<u8> {
+    number.to_le_bytes()[..geometry.number_bytes()].to_vec()
+}
+
+/// The block numbers of an entry, place by place.
+#[derive(Clone, Copy, Debug)]
+pub struct Map {
+    numbers: [u16; MAP],
+    places: usize,
+}
+
+impl Deref for Map {
+    type Target = [u16];
+
+    fn deref(&self) -> &[u16] {
+        &self.numbers[..self.places]
     }
 }
 

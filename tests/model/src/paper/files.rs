@@ -33,7 +33,7 @@ pub fn open(state: &State, volume: &[u8], control: &mut [u8]) -> Outcome {
     let slot = (0..geometry.slots()).find(hit).ok_or(255u32)?;
     let entry = entry_at(volume, slot);
     control[1..12].copy_from_slice(entry.name_bytes());
-    control[16..32].copy_from_slice(entry.map());
+    control[16..32].copy_from_slice(entry.map_bytes());
     control[S1] = 0;
     control[S2] = 0;
     control[RC] = entry.count(ex as u32) as u8;
@@ -98,7 +98,7 @@ pub fn delete(state: &mut State, volume: &mut [u8], control: &[u8]) -> Outcome {
     }
     for slot in found {
         let mut entry = entry_at(volume, slot);
-        for &number in entry.map().iter().filter(|&&number| geometry.is_data_block(number)) {
+        for &number in entry.map(&geometry).iter().filter(|&&number| geometry.is_data_block(number)) {
             state.holding.give_back(number);
         }
         entry.bytes[0] = EMPTY;

@@ -1,5 +1,6 @@
 //! "Volume and entry", the sizes: block size B, number of blocks T, directory
-//! blocks D, and what follows from them.
+//! blocks D, and what follows from them; with "The hard disk of the second
+//! machine" (02, xi), whose volumes have more than 256 blocks and are called wide.
 
 /// Bytes of a record.
 pub const RECORD: usize = 128;
@@ -7,6 +8,12 @@ pub const RECORD: usize = 128;
 pub const SLOT: usize = 32;
 /// Records of an extent.
 pub const RECORDS_AN_EXTENT: u32 = 128;
+/// Bytes of an entry's map.
+pub const MAP: usize = 16;
+/// Volumes with more blocks are wide.
+pub const NARROW_BLOCKS: u32 = 256;
+/// "At most 8 MiB."
+pub const MOST_BYTES: u64 = 8 * 1024 * 1024;
 
 #[derive(Clone, Copy, PartialEq, Eq, Debug)]
 pub struct Geometry {
@@ -23,12 +30,35 @@ impl Geometry {
         Geometry { block_bytes, blocks, directory_blocks }
     }
 
-    /// B is 1,024, 2,048 or 4,096; T is 2 to 256; D is 1 to 16 and below T.
+    /// B is 1,024, 2,048 or 4,096 and T is 2 to 256; or, "from T 257 to 4,096",
+    /// B is "2,048 or 4,096 and at most 8 MiB" are T times B. D is 1 to 16 and
+    /// below T.
     pub fn within_rules(&self) -> bool {
-        [1024, 2048, 4096].contains(&self.block_bytes)
-            && (2..=256).contains(&self.blocks)
-            && (1..=16).contains(&self.directory_blocks)
-            && self.directory_blocks < self.blocks
+        let narrow = [1024, 2048, 4096].contains(&self.block_bytes) && (2..=256).contains(&self.blocks);
+        let wide = [2048, 4096].contains(&self.block_bytes)
+            && (257..=4096).contains(&self.blocks)
+            && self.blocks as u64 * self.block_bytes as u64 <= MOST_BYTES;
+        (narrow || wide) && (1..=16).contains(&self.directory_blocks) && self.directory_blocks < self.blocks
+    }
+
+    /// Whether there are more than 256 blocks.
+    pub fn is_wide(&self) -> bool {
+        self.blocks > NARROW_BLOCKS
+    }
+
+    /// The bytes of a block number in an entry: "block numbers in entries take two
+    /// bytes" where the volume is wide.
+    pub fn number_bytes(&self) -> usize {
+        if self.is_wide() {
+            2
+        } else {
+            1
+        }
+    }
+
+    /// The block numbers of an entry: sixteen, or "eight to an entry".
+    pub fn places(&self) -> usize {
+        MAP / self.number_bytes()
     }
 
     /// T times B.
@@ -41,9 +71,9 @@ impl Geometry {
         self.block_bytes / 128
     }
 
-    /// X = B/1,024.
+    /// X = B/1,024, or, where the volume is wide, "an entry has B/2,048 extents".
     pub fn extents_an_entry(&self) -> u32 {
-        self.block_bytes / 1024
+        self.block_bytes / if self.is_wide() { 2048 } else { 1024 }
     }
 
     /// The directory's 32-byte pieces.
@@ -62,13 +92,13 @@ impl Geometry {
     }
 
     /// From D to T-1.
-    pub fn is_data_block(&self, number: u8) -> bool {
+    pub fn is_data_block(&self, number: u16) -> bool {
         (self.directory_blocks..self.blocks).contains(&(number as u32))
     }
 
     /// Where the bytes of record n begin if it lies in this block: block times
     /// B plus (n mod R) times 128.
-    pub fn record_begins(&self, block: u8, n: u32) -> usize {
+    pub fn record_begins(&self, block: u16, n: u32) -> usize {
         block as usize * self.block_bytes as usize + (n % self.records_a_block()) as usize * RECORD
     }
 }

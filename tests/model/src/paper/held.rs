@@ -14,7 +14,7 @@ pub enum Way {
 }
 
 /// The numbers of the held blocks.
-pub type Held = BTreeSet<u8>;
+pub type Held = BTreeSet<u16>;
 
 /// The numbers D..T-1 found in entries, nothing else.
 pub fn held_by_entries(geometry: &Geometry, volume: &[u8]) -> Held {
@@ -22,7 +22,7 @@ pub fn held_by_entries(geometry: &Geometry, volume: &[u8]) -> Held {
     for slot in 0..geometry.slots() {
         let entry = entry_at(volume, slot);
         if !entry.is_empty() {
-            held.extend(entry.map().iter().filter(|&&number| geometry.is_data_block(number)));
+            held.extend(entry.map(geometry).iter().filter(|&&number| geometry.is_data_block(number)));
         }
     }
     held
@@ -30,9 +30,9 @@ pub fn held_by_entries(geometry: &Geometry, volume: &[u8]) -> Held {
 
 /// "A block is free if it is from D to T-1 and the state doesn't hold it":
 /// these blocks, rising.
-pub fn free_blocks<'a>(geometry: &Geometry, held: &'a Held) -> impl Iterator<Item = u8> + 'a {
+pub fn free_blocks<'a>(geometry: &Geometry, held: &'a Held) -> impl Iterator<Item = u16> + 'a {
     let data = geometry.directory_blocks..geometry.blocks;
-    data.map(|number| number as u8).filter(|number| !held.contains(number))
+    data.map(|number| number as u16).filter(|number| !held.contains(number))
 }
 
 /// What a drive keeps of its held blocks.
@@ -60,13 +60,13 @@ impl Holding {
         }
     }
 
-    pub fn take(&mut self, number: u8) {
+    pub fn take(&mut self, number: u16) {
         if let Holding::Kept(held) = self {
             held.insert(number);
         }
     }
 
-    pub fn give_back(&mut self, number: u8) {
+    pub fn give_back(&mut self, number: u16) {
         if let Holding::Kept(held) = self {
             held.remove(&number);
         }

@@ -16,9 +16,9 @@ fn good_name(entry: &Entry) -> bool {
 
 /// Each number is 0 or from D to T-1, and none but 0 stands there twice.
 fn good_map(geometry: &Geometry, entry: &Entry) -> bool {
-    let map = entry.map();
+    let map = entry.map(geometry);
     let good = |i: usize| map[i] == 0 || (geometry.is_data_block(map[i]) && !map[..i].contains(&map[i]));
-    (0..16).all(good)
+    (0..map.len()).all(good)
 }
 
 /// What the slot's own bytes must fulfil if it is not empty.
@@ -31,19 +31,19 @@ fn good_by_itself(geometry: &Geometry, entry: &Entry) -> bool {
 /// What the lower slots that are not empty have.
 #[derive(Default)]
 struct Lower {
-    numbers: BTreeSet<u8>,
+    numbers: BTreeSet<u16>,
     /// User, name and group.
     files: BTreeSet<(u8, Name, u32)>,
 }
 
 impl Lower {
-    fn has_number_of(&self, entry: &Entry) -> bool {
-        entry.map().iter().any(|number| *number != 0 && self.numbers.contains(number))
+    fn has_number_of(&self, geometry: &Geometry, entry: &Entry) -> bool {
+        entry.map(geometry).iter().any(|number| *number != 0 && self.numbers.contains(number))
     }
 
     /// False if the lower slots have the same user, name and group.
     fn add(&mut self, geometry: &Geometry, entry: &Entry) -> bool {
-        self.numbers.extend(entry.map());
+        self.numbers.extend(entry.map(geometry).iter());
         self.files.insert((entry.user(), entry.name(), geometry.group(entry.extent())))
     }
 }
@@ -57,7 +57,8 @@ pub fn lowest_bad_slot(geometry: &Geometry, volume: &[u8]) -> Option<usize> {
         if entry.is_empty() {
             continue;
         }
-        if !good_by_itself(geometry, &entry) || lower.has_number_of(&entry) || !lower.add(geometry, &entry) {
+        let taken = lower.has_number_of(geometry, &entry);
+        if !good_by_itself(geometry, &entry) || taken || !lower.add(geometry, &entry) {
             return Some(slot);
         }
     }

@@ -14,7 +14,7 @@ fn line(geometry: &Geometry, volume: &[u8], entry: &Entry) -> String {
     for slot in slots_of_file(geometry, volume, entry.user(), &entry.name()) {
         let entry = entry_at(volume, slot);
         size = size.max(entry.size());
-        blocks += entry.map().iter().filter(|&&number| number != 0).count();
+        blocks += entry.map(geometry).iter().filter(|&&number| number != 0).count();
     }
     let name: String = entry.name().iter().map(|&byte| byte as char).collect();
     format!("{} {}.{} {} {}\n", entry.user(), &name[..8], &name[8..], size, blocks)

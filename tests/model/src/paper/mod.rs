@@ -11,6 +11,7 @@
 //! | What each call does when it succeeds | `files`, `records` |
 //! | Numbers of refusal, in order of test | `refusals`; the rows from 255 on in `files`, `records` |
 //! | (02, ii) Several records a call | `several` |
+//! | (02, xi) The hard disk of the second machine | `geometry`; `Entry::map` in `directory` |
 //! | (02, xii) If the emulator is closed halfway | `stores` |
 //! | Examples to hold it to | `lister`, and `tests/examples.rs` |
 

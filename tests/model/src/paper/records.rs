@@ -65,7 +65,7 @@ fn read(
     let extent = extent_of_record(n);
     let slot = slot_of_group(geometry, volume, &file, geometry.group(extent)).ok_or(missing_group)?;
     let entry = entry_at(volume, slot);
-    let block = entry.map()[geometry.place(n)];
+    let block = entry.map(geometry)[geometry.place(n)];
     if n % 128 >= entry.count(extent) || block == 0 {
         return Err(1);
     }
@@ -109,13 +109,13 @@ fn write(
         Some(slot) => (slot, entry_at(volume, slot)),
         None => new_group(state, volume, file[0])?,
     };
-    let number = entry.map()[place];
+    let number = entry.map(&geometry)[place];
     if number != 0 && !geometry.is_data_block(number) {
         return Err(41);
     }
     if number == 0 {
         let block = take_block(state, volume, &entry, place)?;
-        entry.set_place(place, block);
+        entry.set_place(&geometry, place, block);
         if new_block == NewBlock::Cleared {
             let bytes = geometry.block_bytes as usize;
             volume[block as usize * bytes..][..bytes].fill(0);
@@ -124,7 +124,7 @@ fn write(
     // Nothing is refused from here on.
     count_in(&mut entry, is_new, n);
     store_entry(volume, slot, &entry);
-    let begin = geometry.record_begins(entry.map()[place], n);
+    let begin = geometry.record_begins(entry.map(&geometry)[place], n);
     volume[begin..begin + RECORD].copy_from_slice(record);
     control::set_to(control, n, &entry);
     Ok(0)
@@ -141,10 +141,11 @@ fn new_group(state: &State, volume: &[u8], lowest: usize) -> Result<(usize, Entr
 /// "A zero map place gets the lowest free block", which by 02 (ix) is "the lowest
 /// free one above the block in the nearest lower used place of the same entry,
 /// and the lowest free one where that place or such a block doesn't exist".
-fn take_block(state: &mut State, volume: &[u8], entry: &Entry, place: usize) -> Result<u8, u32> {
+fn take_block(state: &mut State, volume: &[u8], entry: &Entry, place: usize) -> Result<u16, u32> {
     let held = state.holding.now(&state.geometry, volume);
-    let free: Vec<u8> = free_blocks(&state.geometry, &held).collect();
-    let lower = entry.map()[..place].iter().rev().find(|&&number| number != 0);
+    let free: Vec<u16> = free_blocks(&state.geometry, &held).collect();
+    let map = entry.map(&state.geometry);
+    let lower = map[..place].iter().rev().find(|&&number| number != 0);
     let above = lower.and_then(|number| free.iter().find(|&block| block > number));
     let block = *above.or(free.first()).ok_or(2u32)?;
     state.holding.take(block);

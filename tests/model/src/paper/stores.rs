@@ -104,8 +104,8 @@ impl Asked {
             let file = slots_of_file(geometry, volume, user, control::name(&self.control));
             slot_of_group(geometry, volume, &file, group)
         };
-        let number_in =
-            |volume: &[u8]| slot_in(volume).map_or(0, |slot| entry_at(volume, slot).map()[geometry.place(n)]);
+        let number_at = |volume: &[u8], slot: usize| entry_at(volume, slot).map(geometry)[geometry.place(n)];
+        let number_in = |volume: &[u8]| slot_in(volume).map_or(0, |slot| number_at(volume, slot));
         let block = number_in(&after.volume);
         let is_given = number_in(&self.volume) == 0;
         let mut records = if self.function == ZERO_FILL_WRITE && is_given {

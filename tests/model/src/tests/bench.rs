@@ -2,7 +2,7 @@
 
 use crate::paper::calls::{self, Lent};
 use crate::paper::control::{show_record, CONTROL_BYTES, CR, EX, S2};
-use crate::paper::directory::{entry_at, Entry, EMPTY};
+use crate::paper::directory::{entry_at, Entry, Map, EMPTY};
 use crate::paper::geometry::{Geometry, RECORD, SLOT};
 use crate::paper::held::Way;
 use crate::paper::inspection::log_in;
@@ -117,6 +117,11 @@ impl Bench {
 
     pub fn entry(&self, slot: usize) -> Entry {
         entry_at(&self.volume, slot)
+    }
+
+    /// The block numbers of a slot's entry.
+    pub fn map(&self, slot: usize) -> Map {
+        self.entry(slot).map(&self.geometry)
     }
 
     pub fn set_byte(&mut self, slot: usize, byte: usize, value: u8) {

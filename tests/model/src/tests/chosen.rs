@@ -7,8 +7,10 @@ use crate::choose::images::{contents, valid_image};
 use crate::choose::random::Random;
 use crate::choose::scripts::script_bytes;
 use crate::choose::tellings::telling;
-use crate::doors::chain::Chain;
+use crate::doors::chain::{Chain, Step};
+use crate::doors::drive_bytes::{drive_bytes, DRIVE_BYTES, WIDE_DRIVE_BYTES};
 use crate::doors::script::Script;
+use crate::paper::geometry::MOST_BYTES;
 use crate::paper::inspection::lowest_bad_slot;
 
 #[test]
@@ -57,4 +59,43 @@ fn chains_are_repeatable_and_read_back() {
             assert_eq!(Chain::decode(&bytes[..bytes.len() - 1]), None);
         }
     }
+}
+
+/// Which geometries the log-ins of chains ask for, and which drives are lent.
+#[test]
+fn wide_volumes_and_drives_occur() {
+    let mut wide = 0;
+    let mut lawful_largest = 0;
+    let mut small_blocks = 0;
+    let mut too_many_blocks = 0;
+    let mut too_many_bytes = 0;
+    let mut other_width = 0;
+    for number in 0..1500 {
+        let chain = chain(6, number);
+        let mut drive = chain.drive.len();
+        for step in &chain.steps {
+            match step {
+                Step::Drive(bytes) => drive = bytes.len(),
+                Step::LogIn(geometry) => {
+                    let bytes = geometry.blocks as u64 * geometry.block_bytes as u64;
+                    let is_block = [2048, 4096].contains(&geometry.block_bytes);
+                    let is_directory = (1..=16).contains(&geometry.directory_blocks);
+                    let but_for_one = is_directory && geometry.is_wide();
+                    wide += u32::from(geometry.within_rules() && geometry.is_wide());
+                    lawful_largest += u32::from(geometry.within_rules() && bytes == MOST_BYTES);
+                    small_blocks +=
+                        u32::from(but_for_one && geometry.blocks <= 4096 && geometry.block_bytes == 1024);
+                    too_many_blocks += u32::from(but_for_one && is_block && geometry.blocks > 4096);
+                    too_many_bytes +=
+                        u32::from(but_for_one && is_block && geometry.blocks <= 4096 && bytes > MOST_BYTES);
+                    let lengths = [DRIVE_BYTES, WIDE_DRIVE_BYTES];
+                    other_width +=
+                        u32::from(lengths.contains(&drive) && drive != drive_bytes(geometry.blocks));
+                }
+                _ => {}
+            }
+        }
+    }
+    let counts = [wide, lawful_largest, small_blocks, too_many_blocks, too_many_bytes, other_width];
+    assert!(counts.iter().all(|&count| count >= 2), "{:?}", counts);
 }

@@ -43,10 +43,10 @@ fn write_0_and_20() {
     for way in WAYS {
         let mut v = with_sigla(way);
         assert_eq!(v.write(SIGLA, 0, 0xA0), 0);
-        assert_eq!((v.entry(0).map()[0], v.entry(0).rc()), (1, 1));
+        assert_eq!((v.map(0)[0], v.entry(0).rc()), (1, 1));
         assert_eq!(v.volume[1024..1152], [0xA0; RECORD]);
         assert_eq!(v.write(SIGLA, 20, 0xA1), 0);
-        assert_eq!((v.entry(0).map()[2], v.entry(0).rc()), (2, 21));
+        assert_eq!((v.map(0)[2], v.entry(0).rc()), (2, 21));
         assert_eq!(v.volume[2560..2688], [0xA1; RECORD]);
     }
 }
@@ -71,7 +71,7 @@ fn write_128_and_size() {
     for way in WAYS {
         let mut v = with_three_records(way);
         let entry = v.entry(1);
-        assert_eq!((entry.user(), entry.bytes[12], entry.rc(), entry.map()[0]), (0, 1, 1, 3));
+        assert_eq!((entry.user(), entry.bytes[12], entry.rc(), v.map(1)[0]), (0, 1, 1, 3));
         assert_eq!(v.on(SIZE, SIGLA), 0);
         assert_eq!(v.control[R0..=R2], [129, 0, 0]);
     }
@@ -86,7 +86,7 @@ fn write_65535_in_a_new_file() {
         // The made entry is of group 0; record 65,535 has a group of its own.
         let entry = v.entry(1);
         assert_eq!((entry.bytes[12], entry.bytes[14], entry.rc()), (31, 15, 128));
-        assert_eq!(entry.map()[15], 1);
+        assert_eq!(v.map(1)[15], 1);
         assert_eq!(v.on(SIZE, "FAR"), 0);
         assert_eq!(v.control[R0..=R2], [0, 0, 1]);
     }
@@ -99,7 +99,7 @@ fn write_200_with_larger_blocks() {
         assert_eq!(v.on(MAKE, "NEW"), 0);
         assert_eq!(v.write("NEW", 200, 1), 0);
         let entry = v.entry(0);
-        assert_eq!((entry.bytes[12], entry.rc(), entry.map()[12]), (1, 73, 1));
+        assert_eq!((entry.bytes[12], entry.rc(), v.map(0)[12]), (1, 73, 1));
         assert_eq!(v.random(RANDOM_READ, "NEW", 5), 1);
     }
 }

@@ -134,7 +134,7 @@ fn delete_gives_blocks_back() {
         for n in [8, 16] {
             assert_eq!(b.write("B", n, 1), 0);
         }
-        assert_eq!(b.entry(1).map()[..3], [2, 3, 1]);
+        assert_eq!(b.map(1)[..3], [2, 3, 1]);
     }
 }
 

@@ -8,6 +8,7 @@ use crate::choose::chains::chain;
 use crate::choose::cuttings::cutting;
 use crate::choose::tellings;
 use crate::doors::cut;
+use crate::doors::drive_bytes::{DRIVE_BYTES, WIDE_DRIVE_BYTES};
 use crate::doors::seam::{self, Memory, Seam};
 use crate::doors::telling;
 use crate::paper::calls::*;
@@ -60,27 +61,27 @@ impl Seam for Mistaken {
     }
 }
 
-/// The first difference in three hundred chains, a third of them tellings and a
-/// third cuttings.
-fn difference(mistake: Mistake) -> Option<String> {
+/// The first difference in three times so many chains, a third of them tellings
+/// and a third cuttings.
+fn difference(mistake: Mistake, numbers: u64) -> Option<String> {
     let mistaken = Mistaken { mistake };
-    (0..100).flat_map(|number| [chain(3, number), tellings::telling(3, number), cutting(3, number)]).find_map(
-        |chain| {
+    (0..numbers)
+        .flat_map(|number| [chain(3, number), tellings::telling(3, number), cutting(3, number)])
+        .find_map(|chain| {
             let difference = side_by_side::first_difference(&chain, &mistaken, &mut Tally::default());
             difference.map(|difference| difference.what)
-        },
-    )
+        })
 }
 
 /// The mistake is found, and the words for it contain these.
 fn found(mistake: Mistake, words: &str) {
-    let what = difference(mistake).expect("a difference");
+    let what = difference(mistake, 1000).expect("a difference");
     assert!(what.starts_with("step ") && what.contains(words), "{}", what);
 }
 
 #[test]
 fn the_model_agrees_with_itself() {
-    assert_eq!(difference(Mistaken::NOT_AT_ALL.mistake), None);
+    assert_eq!(difference(Mistaken::NOT_AT_ALL.mistake, 100), None);
 }
 
 #[test]
@@ -214,7 +215,7 @@ fn a_wrong_line_of_a_file() {
 #[test]
 fn a_wrong_cut() {
     let stays_open: Mistake = |function, answer, memory| {
-        if function == CUT && answer % 65536 == 0 && memory.drive.len() == 64 {
+        if function == CUT && answer % 65536 == 0 {
             memory.drive[1] = 4;
         }
         Ok(answer)
@@ -232,4 +233,69 @@ fn a_wrong_cut() {
         Ok(answer)
     };
     found(half, "(churawel_cut): byte 100 of the volume is ");
+}
+
+/// Whether the drive in hand is as long as a wide volume asks for.
+fn is_wide(memory: &Memory) -> bool {
+    memory.drive.len() == WIDE_DRIVE_BYTES
+}
+
+#[test]
+fn wrong_bytes_of_wide_volumes() {
+    let four_words: Mistake = |function, answer, memory| {
+        if function == 0 && answer % 65536 == 0 && is_wide(memory) {
+            memory.drive[64..].fill(0);
+        }
+        Ok(answer)
+    };
+    found(four_words, " of the drive is 00, by the model ");
+    let not_freed: Mistake = |function, answer, memory| {
+        if function == DELETE && answer == 0 && is_wide(memory) {
+            memory.drive[64] |= 1;
+        }
+        Ok(answer)
+    };
+    found(not_freed, "(function 19): byte 64 of the drive is ");
+    let low_byte_alone: Mistake = |function, answer, memory| {
+        if function == RANDOM_READ && answer == 0 && is_wide(memory) {
+            memory.control[17] = 0;
+        }
+        Ok(answer)
+    };
+    found(low_byte_alone, "(function 33): byte 17 of the control block is 00, by the model ");
+    let high_byte_first: Mistake = |function, answer, memory| {
+        if function == RANDOM_WRITE && answer == 0 && is_wide(memory) {
+            memory.control.swap(16, 17);
+        }
+        Ok(answer)
+    };
+    found(high_byte_first, "(function 34): byte 16 of the control block is ");
+    let fault_of_one_byte: Mistake = |function, answer, memory| {
+        if function == FAULT && answer % 65536 == 36 {
+            memory.buffer[3] = 0;
+        }
+        Ok(answer)
+    };
+    found(fault_of_one_byte, "(churawel_fault): byte 3 of the buffer is 00, by the model ");
+}
+
+#[test]
+fn a_drive_of_the_other_width_that_is_closed() {
+    fn fits_some_t(memory: &Memory) -> bool {
+        [DRIVE_BYTES, WIDE_DRIVE_BYTES].contains(&memory.drive.len())
+    }
+    let by_log_in: Mistake = |function, answer, memory| {
+        if function == 0 && answer == 32 && fits_some_t(memory) {
+            memory.drive.fill(0);
+        }
+        Ok(answer)
+    };
+    found(by_log_in, "(churawel_log_in): byte 0 of the drive is 00, by the model ");
+    let by_a_cut: Mistake = |function, answer, memory| {
+        if function == CUT && answer == 32 && fits_some_t(memory) {
+            memory.drive.fill(0);
+        }
+        Ok(answer)
+    };
+    found(by_a_cut, "(churawel_cut): byte ");
 }

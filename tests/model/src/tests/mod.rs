@@ -1,7 +1,7 @@
 //! Hand-worked cases: the paper's examples, each refusal of the table and its
 //! order against the next ones, what succeeds, which block a write takes,
-//! several records a call, the stores of a call, the script's text, the seam's bytes, and mistakes
-//! that the comparison must find.
+//! several records a call, the stores of a call, volumes of more than 256 blocks, the script's text,
+//! the seam's bytes, and mistakes that the comparison must find.
 
 mod bench;
 mod chosen;
@@ -21,6 +21,7 @@ mod several;
 mod stores;
 mod together;
 mod typing;
+mod wide;
 
 use bench::{control_for, name, Bench};
 
@@ -39,7 +40,7 @@ pub fn bench() -> Bench {
     for n in 0..3 {
         assert_eq!(b.write("A.TXT", n, n as u8), 0);
     }
-    assert_eq!(b.entry(0).map()[0], 1);
+    assert_eq!(b.map(0)[0], 1);
     assert_eq!(b.entry(0).rc(), 3);
     b
 }

@@ -19,7 +19,7 @@ fn the_two_ways_part_on_an_altered_volume() {
         b.set_byte(1, 16, 1);
         assert_eq!(b.on(DELETE, "A"), 0);
         assert_eq!(b.write("B", 128, 1), 0);
-        assert_eq!(b.entry(0).map()[0], block);
+        assert_eq!(b.map(0)[0], block);
     }
 }
 
@@ -99,7 +99,7 @@ fn the_state_decides_what_is_free() {
     // All held but block 1: it is given out again.
     b.state().holding = Holding::Kept((0..=255).filter(|&number| number != 1).collect());
     assert_eq!(b.call(RANDOM_WRITE), 0);
-    assert_eq!(b.entry(0).map()[..2], [1, 1]);
+    assert_eq!(b.map(0)[..2], [1, 1]);
     // A place whose block is not held is written and stays unheld.
     b.state().holding = Holding::Kept(Held::new());
     assert_eq!(b.write("A.TXT", 0, 1), 0);

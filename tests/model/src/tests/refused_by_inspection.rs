@@ -79,7 +79,7 @@ fn number_36_same_file_and_group() {
 
 /// The first fault of slot 5 where the slots 0 and 5 of `number_36_bad_slots`
 /// stand and these bytes of slot 5 are altered.
-fn fault_of(altered: &[(usize, u8)]) -> Option<(u8, usize, u8, Option<usize>)> {
+fn fault_of(altered: &[(usize, u8)]) -> Option<(u8, usize, u16, Option<usize>)> {
     let mut volume = vec![0xE5; 8 * 1024];
     let entry = |name: &str, blocks: [u8; 2]| {
         let mut bytes = [0; 32];

@@ -90,7 +90,7 @@ fn a_number_that_is_not_served() {
 #[test]
 fn an_overlong_script() {
     let mut bytes = small_script().encode();
-    bytes[6..10].copy_from_slice(&1_048_577u32.to_le_bytes());
+    bytes[6..10].copy_from_slice(&3_145_729u32.to_le_bytes());
     assert_eq!(text(&bytes), "BAD SCRIPT 0\nEND 0\n");
 }
 

@@ -2,7 +2,7 @@
 
 use super::*;
 use crate::choose::random::Random;
-use crate::doors::drive_bytes::{decode, encode, CLOSED};
+use crate::doors::drive_bytes::{closed, decode, encode};
 use crate::doors::seam::{call, log_in, Memory};
 use crate::paper::calls::is_served;
 use crate::paper::control::EX;
@@ -70,17 +70,17 @@ fn a_refused_log_in_leaves_the_closed_value() {
     for (geometry, answer) in [
         (Geometry { blocks: 9, ..GEOMETRY }, 33),
         (Geometry { block_bytes: 1024 + 65536, ..GEOMETRY }, 32),
-        (Geometry { blocks: u32::MAX, ..GEOMETRY }, 32),
+        (Geometry { blocks: 0, ..GEOMETRY }, 32),
         (Geometry { directory_blocks: 0, ..GEOMETRY }, 32),
     ] {
         let mut memory = memory();
         assert_eq!(log_in(geometry, &mut memory), answer);
-        assert_eq!(memory.drive, CLOSED);
+        assert_eq!(memory.drive, closed(8));
     }
     let mut memory = memory();
     memory.volume[3 * 32] = 0x20;
     assert_eq!(log_in(GEOMETRY, &mut memory), 36 + (3 << 16));
-    assert_eq!(memory.drive, CLOSED);
+    assert_eq!(memory.drive, closed(8));
 }
 
 #[test]
@@ -102,13 +102,13 @@ fn log_in_anew_with_the_drives_own_geometry() {
         assert_eq!(memory.drive, after_log_in());
         memory.volume[5 * 32] = 0x20;
         assert_eq!(call(function, 0, &mut memory), 36 + (5 << 16));
-        assert_eq!(memory.drive, CLOSED);
+        assert_eq!(memory.drive, closed(8));
         // Closed: not even log-in.
         assert_eq!(call(function, 0, &mut memory), 32);
         let mut memory = logged_in();
         memory.volume.pop();
         assert_eq!(call(function, 0, &mut memory), 33);
-        assert_eq!(memory.drive, CLOSED);
+        assert_eq!(memory.drive, closed(8));
     }
 }
 
@@ -127,7 +127,7 @@ fn numbers_that_are_not_served() {
 fn a_closed_drive_is_32_for_every_number() {
     let mut malformed = after_log_in();
     malformed[24] = 1;
-    for drive in [CLOSED.to_vec(), malformed.to_vec(), vec![0; 63], after_log_in()[..63].to_vec()] {
+    for drive in [closed(8), malformed.to_vec(), vec![0; 63], after_log_in()[..63].to_vec()] {
         let mut memory = Memory { drive, ..memory() };
         let before = memory.clone();
         for function in 0..=255 {
@@ -179,12 +179,11 @@ fn decoding_and_encoding() {
         }
         bytes[24..32].fill(0);
         let drive = decode(&bytes);
-        if drive.is_some() {
+        if let Some(state) = &drive {
             open += 1;
-            assert_eq!(encode(&drive).to_vec(), bytes);
-            assert_eq!(decode(&encode(&drive)), drive);
+            assert_eq!(encode(state), bytes);
+            assert_eq!(decode(&encode(state)), drive);
         }
     }
     assert!(open > 3000);
-    assert_eq!(encode(&None), CLOSED);
 }

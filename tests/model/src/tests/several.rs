@@ -18,7 +18,7 @@ fn three_written_and_read_back() {
     b.control = control_for("NEW");
     b.buffer = records(&[10, 11, 12]);
     assert_eq!(b.answer(WRITE_SEVERAL, 3), (0, 3));
-    assert_eq!((b.control[CR], b.entry(1).rc(), b.entry(1).map()[0]), (3, 3, 2));
+    assert_eq!((b.control[CR], b.entry(1).rc(), b.map(1)[0]), (3, 3, 2));
     assert_eq!(b.buffer, records(&[10, 11, 12]));
     b.control = control_for("NEW");
     b.buffer = records(&[0, 0, 0]);

@@ -4,7 +4,7 @@
 use super::*;
 use crate::check::cuts::first_fault;
 use crate::doors::cut::cut;
-use crate::doors::drive_bytes::{encode, CLOSED};
+use crate::doors::drive_bytes::{closed, encode};
 use crate::doors::script::Call;
 use crate::doors::seam::Memory;
 use crate::paper::calls::*;
@@ -140,7 +140,7 @@ fn what_changes_nothing_stores_nothing() {
 
 /// What is lent at the seam.
 fn memory(b: &Bench) -> Memory {
-    let drive = encode(&b.drive).to_vec();
+    let drive = b.drive.as_ref().map(encode).expect("the drive is open");
     Memory { drive, volume: b.volume.clone(), control: b.control.clone(), buffer: b.buffer.clone() }
 }
 
@@ -155,7 +155,7 @@ fn a_cut_closes_the_drive() {
         for slot in [0, 4, 9].iter().take(most as usize) {
             volume[32 * slot] = 0xE5;
         }
-        assert!(left == Memory { drive: CLOSED.to_vec(), volume, ..memory(&b) });
+        assert!(left == Memory { drive: closed(8), volume, ..memory(&b) });
     }
 }
 
@@ -168,13 +168,14 @@ fn a_cut_that_is_refused_closes_the_drive_too() {
     {
         let mut left = memory(&b);
         assert_eq!(cut(u32::MAX, function, 0, &mut left), answer);
-        assert_eq!(left.drive, CLOSED);
+        assert_eq!(left.drive, closed(8));
         assert!(function == MAKE || left.volume == b.volume);
     }
-    let closed = Memory { drive: vec![9; 64], ..memory(&b) };
-    let mut left = closed.clone();
+    let mut malformed = memory(&b);
+    malformed.drive[31] = 1;
+    let mut left = malformed.clone();
     assert_eq!(cut(1, DELETE, 0, &mut left), 32);
-    assert!(left == Memory { drive: CLOSED.to_vec(), ..closed });
+    assert!(left == Memory { drive: closed(8), ..malformed });
     let short = Memory { drive: vec![9; 63], ..memory(&b) };
     let mut left = short.clone();
     assert_eq!(cut(1, 99, 0, &mut left), 32);

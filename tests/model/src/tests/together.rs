@@ -18,9 +18,9 @@ fn shelf(way: Way) -> Bench {
     b
 }
 
-fn takes(b: &mut Bench, n: u32, slot: usize, map: &[u8]) {
+fn takes(b: &mut Bench, n: u32, slot: usize, map: &[u16]) {
     assert_eq!(b.write("A", n, 1), 0);
-    assert_eq!(b.entry(slot).map()[..map.len()], *map, "record {}", n);
+    assert_eq!(b.map(slot)[..map.len()], *map, "record {}", n);
 }
 
 #[test]
@@ -39,7 +39,7 @@ fn above_the_nearest_lower_used_place() {
         assert_eq!(b.write("A", 40, 1), 2);
         assert_eq!(b.on(DELETE, "B"), 0);
         assert_eq!(b.random(ZERO_FILL_WRITE, "A", 136), 0);
-        assert_eq!(b.entry(2).map()[..3], [2, 4, 0]);
+        assert_eq!(b.map(2)[..3], [2, 4, 0]);
     }
 }
 
@@ -51,7 +51,7 @@ fn a_first_place_takes_the_lowest() {
     assert_eq!(b.log_in(), (0, 5));
     takes(&mut b, 0, 0, &[1, 0, 3]);
     assert_eq!(b.sequential(SEQUENTIAL_WRITE, "A", 0, 0, 8), 0);
-    assert_eq!(b.entry(0).map()[..4], [1, 2, 3, 0]);
+    assert_eq!(b.map(0)[..4], [1, 2, 3, 0]);
 }
 
 #[test]
@@ -60,7 +60,7 @@ fn numbers_that_only_an_altered_volume_has() {
     for (number, block) in [(1, 2), (8, 2), (255, 2), (3, 4), (7, 2)] {
         let mut b = Bench::open(1024, 8, 2, Way::Kept);
         assert_eq!(b.on(MAKE, "A"), 0);
-        b.set_byte(0, 16, number);
+        b.set_byte(0, 16, number as u8);
         takes(&mut b, 8, 0, &[number, block]);
         let held: Held = [block].into_iter().collect();
         assert_eq!(b.state().holding, Holding::Kept(held));

@@ -12,7 +12,7 @@ extents-requires : tie.Need-extents-requires
 extents-requires c κs = search needs
 
 mul-result : tie.Need-mul-result
-mul-result c = search needs
+mul-result c = rw (c .extents .ensures) (omega (arith, bounds _ (c .before .pre)))
 
 rem-result : tie.Need-rem-result
 rem-result c = omega (arith, bounds _ (c .before .pre))

@@ -1,10 +1,16 @@
--- Four parts fill the 64 bytes, in the layout's order.
-use Rattle.drive_bytes.proofs.LayLaws.{four-laid, length-head, length-search, length-held}
-use Rattle.drive_bytes.specs.Layout.{headBytes, searchBytes, heldBytes, encoded}
-use Rattle.numbers.specs.Numbers.{bytesOf}
-use Rattle.lists.specs.Bytes.{put}
+-- Three parts fill the first 32 bytes, and the words fill the rest.
+use mathlib.Core.Path.{refl, sym, ap, _∙_}
+use mathlib.Core.List.{List, _++_}
+use Prim.Native.Nat.{ℕ}
+use native.Mathlib.Omega.{arith}
+use denote.Ref.{now}
 use lib.ListN.{replicate}
-use mathlib.Core.Path.{refl}
+use Rattle.lists.specs.Bytes.{put}
+use Rattle.numbers.specs.Numbers.{bytesOf}
+use Rattle.disk_geometry.specs.Geometry.{blocks}
+use Rattle.drive_bytes.specs.Layout.{storedWords, headBytes, searchBytes, heldBytes, frontBytes, encoded}
+use Rattle.drive_bytes.proofs.LoadLaws.{at-least, counted}
+use Rattle.drive_bytes.proofs.LayLaws.{three-laid, length-head, length-search}
 use borrow.Author.Needs.{needs}
 use Rattle.drive_bytes.proofs.lay.put_drive.Statement.{statement}
 use Rattle.drive_bytes.proofs.lay.put_drive.Tie as tie
@@ -16,7 +22,7 @@ part-put-head-start : tie.Need-part-put-head-start
 part-put-head-start c = search needs
 
 part-put-head-end : tie.Need-part-put-head-end
-part-put-head-end c = search needs
+part-put-head-end c = omega (arith, at-least (blocks (c .before .before .before .before .args .d .geometry)))
 
 put-head-requires : tie.Need-put-head-requires
 put-head-requires c κs = search needs
@@ -28,7 +34,7 @@ part-put-search-start : tie.Need-part-put-search-start
 part-put-search-start c = search needs
 
 part-put-search-end : tie.Need-part-put-search-end
-part-put-search-end c = search needs
+part-put-search-end c = omega (arith, at-least (blocks (c .before .before .before .before .before .before .before .before .args .d .geometry)), c .before .before .before .before .before .before .before .before .pre, c .before .out .given .1)
 
 put-search-requires : tie.Need-put-search-requires
 put-search-requires c κs = search needs
@@ -40,35 +46,36 @@ part-put-eight-start : tie.Need-part-put-eight-start
 part-put-eight-start c = search needs
 
 part-put-eight-end : tie.Need-part-put-eight-end
-part-put-eight-end c = search needs
+part-put-eight-end c = omega (arith, at-least (blocks (c .before .before .before .before .before .before .before .before .before .before .before .before .args .d .geometry)), c .before .before .before .before .before .before .before .before .before .before .before .before .pre, c .before .out2 .given .1, c .before .before .before .before .before .out .given .1)
 
 put-eight-requires : tie.Need-put-eight-requires
 put-eight-requires c κs = search needs
 
-sub-put-words : tie.Need-sub-put-words
-sub-put-words c = search needs
+words-in-requires : tie.Need-words-in-requires
+words-in-requires c κs = search needs
 
-part-put-words-start : tie.Need-part-put-words-start
-part-put-words-start c = search needs
-
-part-put-words-end : tie.Need-part-put-words-end
-part-put-words-end c = search needs
-
-put-words-requires : tie.Need-put-words-requires
-put-words-requires c κs = search needs
+words-requires : tie.Need-words-requires
+words-requires c κs =
+    let size = c .before .before .before .before .out3 .given .1 ∙ c .before .before .before .before .before .before .before .before .out2 .given .1 ∙ c .before .before .before .before .before .before .before .before .before .before .before .before .out .given .1 ∙ c .before .before .before .before .before .before .before .before .before .before .before .before .before .before .before .before .before .before .before .pre in
+    let w = counted (blocks (c .before .before .before .before .before .before .before .before .before .before .before .before .before .before .before .before .before .before .before .args .d .geometry)) size (c .before .before .words-in .ensures) in
+    (w .fill, w .few)
 
 same-length : tie.Need-same-length
 same-length c = search needs
 
 returns : tie.Need-returns
-unfolding encoded put bytesOf
+unfolding encoded frontBytes put bytesOf
 returns c =
-    let a = c .before .before .before .before .before .before .before .before .before .before .before .before .before .before .before .before .before .before .before .before .args in
+    let a = c .before .before .before .before .before .before .before .before .before .before .before .before .before .before .before .before .before .before .before .before .before .before .args in
     let d = a .d in
     let q = d .search in
-    rw (c .before .before .before .before .before .before .before .before .before .before .before .before .before .before .put-head .ensures, c .before .before .before .before .before .before .before .before .before .before .put-search .ensures, c .before .before .before .before .before .before .put-eight .ensures, c .before .before .put-words .ensures)
-    (four-laid (a .out .now) (headBytes (d .geometry) (d .user) (d .protected)) (searchBytes (q .kind) (q .user) (q .last) (q .pattern)) (replicate 8 0) (heldBytes (d .held)) 8 16 8 32 (c .before .before .before .before .before .before .before .before .before .before .before .before .before .before .before .before .before .before .before .before .pre)
-    (length-head (d .geometry) (d .user) (d .protected)) (length-search (q .kind) (q .user) (q .last) (q .pattern)) refl (length-held (d .held)))
+    let size = sym (c .before .out4 .given) ∙ same-length c ∙ c .before .before .before .before .before .before .before .before .before .before .before .before .before .before .before .before .before .before .before .before .before .before .pre in
+    let w = counted (blocks (d .geometry)) size (c .before .before .before .before .before .words-in .ensures) in
+    c .before .before .words .ensures
+    ∙ rw (w .stored, c .before .before .before .before .before .before .before .before .before .before .before .before .before .before .before .before .put-head .ensures, c .before .before .before .before .before .before .before .before .before .before .before .before .put-search .ensures, c .before .before .before .before .before .before .before .before .put-eight .ensures)
+    (ap (λ (l : List ℕ). l ++ heldBytes (d .held) 0 (storedWords (blocks (d .geometry))))
+    (three-laid (now (a .out)) (headBytes (d .geometry) (d .user) (d .protected)) (searchBytes (q .kind) (q .user) (q .last) (q .pattern)) (replicate 8 0) 8 16 8 (omega (arith, c .before .before .before .before .before .before .before .before .before .before .before .before .before .before .before .before .before .before .before .before .before .before .pre, at-least (blocks (d .geometry))))
+    (length-head (d .geometry) (d .user) (d .protected)) (length-search (q .kind) (q .user) (q .last) (q .pattern)) refl))
 
 pub put-drive-spec : {M : Type 1} → statement M
 put-drive-spec =
@@ -86,9 +93,7 @@ put-drive-spec =
     part-put-eight-start
     part-put-eight-end
     put-eight-requires
-    sub-put-words
-    part-put-words-start
-    part-put-words-end
-    put-words-requires
+    words-in-requires
+    words-requires
     same-length
     returns)

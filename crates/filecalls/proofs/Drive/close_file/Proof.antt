@@ -1,72 +1,25 @@
--- What is lent refuses, or the slot that close means decides.
-use Rattle.filecalls.specs.Open.{closeAct, closeTests}
-use Rattle.call_answers.specs.Refusal.{isNone}
-use Rattle.call_open.specs.Open.{closeSlot}
-use Prim.Native.Nat.{_%_}
-use mathlib.Core.Bool.{false}
-use Rattle.filecalls.proofs.NamingLaws.{named-no, named-decided}
-use Rattle.filecalls.proofs.OutcomeLaws.{either}
-use Rattle.filecalls.proofs.StateLaws.{Named, named}
-use Rattle.disk_stores.specs.Stores.{laid}
-use Rattle.filecalls.specs.Outcome.{keeps, changedState}
+-- The call is done by the front.
+use Rattle.filecalls.proofs.JoinLaws.{joined-left}
+use Rattle.filecalls.specs.Leaves.{closeLeaves}
+use Rattle.filecalls.specs.declared.Drive.{Drive}
 use denote.Ref.{now}
-use mathlib.Core.List.{[]}
-use mathlib.Core.Path.{_≡_, _∙_}
 use borrow.Author.Needs.{needs}
 use Rattle.filecalls.proofs.Drive.close_file.Statement.{statement}
 use Rattle.filecalls.proofs.Drive.close_file.Tie as tie
 
--- the tests of what is lent have passed
-clear : (c : tie.Else1) → Named (c .before .before .before .before .before .args .self) (now (c .before .before .before .before .before .args .volume)) (now (c .before .before .before .before .before .args .fcb)) false
-clear c = named _ _ _ false (c .before .before .named-why .ensures) (c .before .is-none .ensures) (c .if1 .left)
-
-named-why-requires : tie.Need-named-why-requires
-named-why-requires c κs = search needs
-
-is-none-requires : tie.Need-is-none-requires
-is-none-requires c κs = search needs
-
-refused-requires : tie.Need-refused-requires
-refused-requires c κs = search needs
-
-returns : tie.Need-returns
-unfolding closeAct closeTests
-returns c =
-    let a = c .before .before .before .before .before .before .args in
-    named-no (a .self) (now (a .volume)) (now (a .fcb)) false _ _ (c .before .before .before .named-why .ensures) (c .before .before .is-none .ensures) (c .before .if1 .taken) (c .refused .ensures)
+front-requires : tie.Need-front-requires
+front-requires c κs = search needs
 
 close-file-requires : tie.Need-close-file-requires
-close-file-requires c κs = let l = clear (c .before) .lent in (l .state .law, (l .volume, l .fcb))
+close-file-requires c κs = search needs
 
-cast-answered : tie.Need-cast-answered
-cast-answered c = search needs
+joined-requires : tie.Need-joined-requires
+joined-requires c κs = search needs
 
-answered-requires : tie.Need-answered-requires
-answered-requires c κs = search needs
-
-returns-2 : tie.Need-returns-2
-unfolding closeAct closeTests changedState laid
-returns-2 c =
-    let a = c .before .before .before .before .before .before .before .before .before .args in
-    let d = a .self in
-    let v = now (a .volume) in
-    let f = now (a .fcb) in
-    let m = c .before .before .close-file in
-    let t = isNone (m .result .why) in
-    let slot = closeSlot (d .geometry) v (d .user) f in
-    let e : m .result .slot ≡ slot = m .ensures .1 in
-    named-decided d v f (clear (c .before .before .before .before)) (slot % 4) keeps [] f _
-    (m .ensures .0) (either t d) (either t v) (either t f) (c .answered .ensures ∙ rw e)
+returns : tie.Need-returns
+returns c =
+    let a = c .before .before .before .before .before .before .args in
+    joined-left (a .self) (c .joined .ensures) (c .before .before .front .ensures) (λ (d : Drive). closeLeaves d (now (a .volume)) (now (a .fcb))) (c .before .close-file .ensures (a .self .held))
 
 pub close-file-spec : {M : Type 1} → statement M
-close-file-spec =
-    tie.close
-    (tie.spec
-    named-why-requires
-    is-none-requires
-    refused-requires
-    returns
-    close-file-requires
-    cast-answered
-    answered-requires
-    returns-2)
+close-file-spec = tie.close (tie.spec front-requires close-file-requires joined-requires returns)

@@ -1,82 +1,29 @@
--- What is lent refuses, or the slot that open means decides.
-use Rattle.filecalls.specs.Open.{openAct, openTests}
-use Rattle.call_answers.specs.Refusal.{isNone}
-use Rattle.call_open.specs.Open.{openSlot}
-use Rattle.call_fcb.specs.Fcb.{opened}
-use Rattle.disk_volume.specs.Directory.{slotAt}
-use Prim.Native.Nat.{_%_}
-use mathlib.Core.Bool.{true}
-use Rattle.filecalls.proofs.NamingLaws.{named-no, named-decided}
-use Rattle.filecalls.proofs.OutcomeLaws.{either}
-use Rattle.filecalls.proofs.StateLaws.{Named, named}
-use Rattle.disk_stores.specs.Stores.{laid}
-use Rattle.filecalls.specs.Outcome.{keeps, changedState}
+-- The call is done by the front.
+use Rattle.filecalls.proofs.JoinLaws.{joined-left}
+use Rattle.filecalls.specs.Leaves.{openLeaves}
+use Rattle.filecalls.specs.declared.Drive.{Drive}
 use denote.Ref.{now}
-use mathlib.Core.List.{[]}
-use mathlib.Core.Path.{_≡_, _∙_}
 use borrow.Author.Needs.{needs}
 use Rattle.filecalls.proofs.Drive.open_file.Statement.{statement}
 use Rattle.filecalls.proofs.Drive.open_file.Tie as tie
 
--- the tests of what is lent have passed
-clear : (c : tie.Else1) → Named (c .before .before .before .before .before .before .args .self) (now (c .before .before .before .before .before .before .args .volume)) (now (c .before .before .before .before .before .before .args .fcb)) true
-clear c = named _ _ _ true (c .before .before .named-why .ensures) (c .before .is-none .ensures) (c .if1 .left)
+front-requires : tie.Need-front-requires
+front-requires c κs = search needs
 
-named-why-requires : tie.Need-named-why-requires
-named-why-requires c κs = search needs
+open-file-requires : tie.Need-open-file-requires
+open-file-requires c κs = search needs
 
-is-none-requires : tie.Need-is-none-requires
-is-none-requires c κs = search needs
-
-refused-requires : tie.Need-refused-requires
-refused-requires c κs = search needs
+joined-requires : tie.Need-joined-requires
+joined-requires c κs = search needs
 
 same-length : tie.Need-same-length
 same-length c = search needs
 
 returns : tie.Need-returns
-unfolding openAct openTests
 returns c =
-    let a = c .before .before .before .before .before .before .before .args in
-    named-no (a .self) (now (a .volume)) (now (a .fcb)) true _ _ (c .before .before .before .named-why .ensures) (c .before .before .is-none .ensures) (c .before .if1 .taken) (c .refused .ensures)
-
-open-file-requires : tie.Need-open-file-requires
-open-file-requires c κs = let l = clear (c .before .before) .lent in (l .state .law, (l .volume, l .fcb))
-
-cast-answered : tie.Need-cast-answered
-cast-answered c = search needs
-
-answered-requires : tie.Need-answered-requires
-answered-requires c κs = search needs
-
-same-length-2 : tie.Need-same-length-2
-same-length-2 c = search needs
-
-returns-2 : tie.Need-returns-2
-unfolding openAct openTests changedState laid
-returns-2 c =
-    let a = c .before .before .before .before .before .before .before .before .before .before .before .before .before .args in
-    let d = a .self in
-    let v = now (a .volume) in
-    let f = now (a .fcb) in
-    let m = c .before .before .before .before .open-file in
-    let t = isNone (m .result .why) in
-    let slot = openSlot (d .geometry) v (d .user) f in
-    let e : m .result .slot ≡ slot = m .ensures .1 .0 in
-    named-decided d v f (clear (c .before .before .before .before .before .before .before)) (slot % 4) keeps [] (opened f (slotAt (d .geometry) v slot)) _
-    (m .ensures .0) (either t d) (either t v) (rw (← e) (m .ensures .1 .1)) (c .answered .ensures ∙ rw e)
+    let a = c .before .before .before .before .before .before .before .before .before .args in
+    joined-left (a .self) (c .joined .ensures) (c .before .before .before .before .before .front .ensures) (λ (d : Drive). openLeaves d (now (a .volume)) (now (a .fcb))) (c .before .before .before .open-file .ensures (a .self .held))
 
 pub open-file-spec : {M : Type 1} → statement M
 open-file-spec =
-    tie.close
-    (tie.spec
-    named-why-requires
-    is-none-requires
-    refused-requires
-    same-length
-    returns
-    open-file-requires
-    cast-answered
-    answered-requires
-    same-length-2
-    returns-2)
+    tie.close (tie.spec front-requires open-file-requires joined-requires same-length returns)

@@ -1,84 +1,39 @@
--- The tests of what is lent stop the ladder, or pass: then the read decides.
-use mathlib.Core.Path.{refl}
+-- The call is done by the front.
+use Rattle.filecalls.proofs.JoinLaws.{joined-left}
+use Rattle.filecalls.specs.Leaves.{readRandomLeaves}
+use Rattle.filecalls.specs.declared.Drive.{Drive}
 use denote.Ref.{now}
-use Prim.Native.Nat.{_%_}
-use lib.ListN.{length}
-use Rattle.disk_volume.specs.Name.{nameOf}
-use Rattle.call_fcb.specs.Fcb.{random}
-use Rattle.call_read.specs.Read.{readTests}
-use Rattle.call_answers.specs.declared.Refusal.the-variants.{NoGroup}
-use Rattle.filecalls.specs.Read.{randomTests, readRandomAct, readDone}
-use Rattle.filecalls.specs.CodeLadder.{namedTests, randomLent}
-use Rattle.filecalls.proofs.LentLaws.{Random, random-passed}
-use Rattle.filecalls.proofs.OutcomeLaws.{passes, refused-at}
 use borrow.Author.Needs.{needs}
 use Rattle.filecalls.proofs.Drive.read_random.Statement.{statement}
 use Rattle.filecalls.proofs.Drive.read_random.Tie as tie
 
-passed : (c : tie.Else1) → Random (c .before .before .before .before .before .before .before .args .self) (now (c .before .before .before .before .before .before .before .args .volume)) (now (c .before .before .before .before .before .before .before .args .fcb)) (length (now (c .before .before .before .before .before .before .before .args .buffer)))
-passed c = random-passed _ _ _ _ (c .before .before .random-why .ensures) (c .before .is-none .ensures) (c .if1 .left)
+front-requires : tie.Need-front-requires
+front-requires c κs = search needs
 
-random-why-requires : tie.Need-random-why-requires
-random-why-requires c κs = search needs
+read-random-requires : tie.Need-read-random-requires
+read-random-requires c κs = search needs
 
-is-none-requires : tie.Need-is-none-requires
-is-none-requires c κs = search needs
-
-refused-requires : tie.Need-refused-requires
-refused-requires c κs = search needs
+joined-requires : tie.Need-joined-requires
+joined-requires c κs = search needs
 
 same-length : tie.Need-same-length
 same-length c = search needs
 
-returns : tie.Need-returns
-unfolding readRandomAct randomTests randomLent namedTests
-returns c =
-    let a = c .before .before .before .before .before .before .before .before .args in
-    let d = a .self in
-    let v = now (a .volume) in
-    let f = now (a .fcb) in
-    let b = now (a .buffer) in
-    refused-at d v f b (randomLent d v f (length b)) _ _
-    (c .before .before .before .random-why .ensures) (c .before .before .is-none .ensures) (c .before .if1 .taken) (c .refused .ensures)
-
-random-of-requires : tie.Need-random-of-requires
-random-of-requires c κs = passed (c .before) .lent .fcb
-
-cast-read-at : tie.Need-cast-read-at
-cast-read-at c = search needs
-
-read-at-requires : tie.Need-read-at-requires
-read-at-requires c κs = let p = passed (c .before .before .before .before) in (p .lent, (c .before .before .random-of .ensures .1, refl))
-
 same-length-2 : tie.Need-same-length-2
 same-length-2 c = search needs
 
-same-length-3 : tie.Need-same-length-3
-same-length-3 c = search needs
-
-returns-2 : tie.Need-returns-2
-unfolding readRandomAct randomTests randomLent namedTests
-returns-2 c =
-    let a = c .before .before .before .before .before .before .before .before .before .before .before .before .before .before .before .before .args in
-    let d = a .self in
-    let v = now (a .volume) in
-    let f = now (a .fcb) in
-    let b = now (a .buffer) in
-    rw (passes (randomLent d v f (length b)) (readTests (d .geometry) v (d .user) (nameOf f) (random f) NoGroup) (readDone d v f (random f) (random f % 128)) (passed (c .before .before .before .before .before .before .before .before .before) .none), ← c .before .before .before .before .before .before .before .random-of .ensures .0)
-    (c .before .before .before .before .read-at .ensures)
+returns : tie.Need-returns
+returns c =
+    let a = c .before .before .before .before .before .before .before .before .before .before .before .before .before .args in
+    joined-left (a .self) (c .joined .ensures) (c .before .before .before .before .before .before .before .before .front .ensures) (λ (d : Drive). readRandomLeaves d (now (a .volume)) (now (a .fcb)) (now (a .buffer))) (c .before .before .before .before .before .read-random .ensures (a .self .held))
 
 pub read-random-spec : {M : Type 1} → statement M
 read-random-spec =
     tie.close
     (tie.spec
-    random-why-requires
-    is-none-requires
-    refused-requires
+    front-requires
+    read-random-requires
+    joined-requires
     same-length
-    returns
-    random-of-requires
-    cast-read-at
-    read-at-requires
     same-length-2
-    same-length-3
-    returns-2)
+    returns)

@@ -1,87 +1,29 @@
--- The tests stop the ladder, or pass: then the search from slot 0 decides.
-use mathlib.Core.Path.{refl}
-use mathlib.Core.List.{[], _∷_}
-use native.Mathlib.Omega.{arith}
+-- The call is done by the front.
+use Rattle.filecalls.proofs.JoinLaws.{joined-left}
+use Rattle.filecalls.specs.Leaves.{searchFirstLeaves}
+use Rattle.filecalls.specs.declared.Drive.{Drive}
 use denote.Ref.{now}
-use lib.Dec.{leb}
-use Rattle.disk_geometry.specs.Geometry.{slots}
-use Rattle.call_answers.specs.declared.Refusal.the-variants.{NoMatch}
-use Rattle.call_answers.specs.Refusal.{test}
-use Rattle.filecalls.specs.CodeLadder.{lentTests, firstLent}
-use Rattle.filecalls.specs.Search.{searchFirstAct, firstTests, newSearch, hit, hitAct}
-use Rattle.filecalls.proofs.SearchLaws.{First, first-passed}
-use Rattle.filecalls.proofs.OutcomeLaws.{passes, refused-at}
 use borrow.Author.Needs.{needs}
 use Rattle.filecalls.proofs.Drive.search_first.Statement.{statement}
 use Rattle.filecalls.proofs.Drive.search_first.Tie as tie
 
-passed : (c : tie.Else1) → First (c .before .before .before .before .before .before .before .args .self) (now (c .before .before .before .before .before .before .before .args .volume)) (now (c .before .before .before .before .before .before .before .args .fcb)) (now (c .before .before .before .before .before .before .before .args .buffer))
-passed c = first-passed _ _ _ _ (c .before .before .first-why .ensures) (c .before .is-none .ensures) (c .if1 .left)
+front-requires : tie.Need-front-requires
+front-requires c κs = search needs
 
-first-why-requires : tie.Need-first-why-requires
-first-why-requires c κs = search needs
+search-first-requires : tie.Need-search-first-requires
+search-first-requires c κs = search needs
 
-is-none-requires : tie.Need-is-none-requires
-is-none-requires c κs = search needs
-
-refused-requires : tie.Need-refused-requires
-refused-requires c κs = search needs
+joined-requires : tie.Need-joined-requires
+joined-requires c κs = search needs
 
 same-length : tie.Need-same-length
 same-length c = search needs
 
 returns : tie.Need-returns
-unfolding searchFirstAct firstTests firstLent lentTests
 returns c =
-    let a = c .before .before .before .before .before .before .before .before .args in
-    let d = a .self in
-    let v = now (a .volume) in
-    let f = now (a .fcb) in
-    let b = now (a .buffer) in
-    refused-at d v f b (firstLent d v f b) _ _ (c .before .before .before .first-why .ensures) (c .before .before .is-none .ensures) (c .before .if1 .taken) (c .refused .ensures)
-
-shared-slice-read-kind-asked : tie.Need-shared-slice-read-kind-asked
-shared-slice-read-kind-asked c = omega (arith, passed (c .before) .lent .fcb)
-
-kind-asked-requires : tie.Need-kind-asked-requires
-kind-asked-requires c κs = search needs
-
-pattern-of-requires : tie.Need-pattern-of-requires
-pattern-of-requires c κs = passed (c .before .before) .lent .fcb
-
-search-on-requires : tie.Need-search-on-requires
-search-on-requires c κs =
-    let l = passed (c .before .before .before .before) .lent in
-    (record { state = l .state; volume = l .volume; fcb = refl; buffer = l .buffer }, search needs)
-
-same-length-2 : tie.Need-same-length-2
-same-length-2 c = search needs
-
-returns-2 : tie.Need-returns-2
-unfolding searchFirstAct firstTests firstLent lentTests newSearch
-returns-2 c =
-    let a = c .before .before .before .before .before .before .before .before .before .before .before .before .before .before .args in
-    let d = a .self in
-    let v = now (a .volume) in
-    let f = now (a .fcb) in
-    let b = now (a .buffer) in
-    let q = newSearch d f in
-    let i = hit (d .geometry) v q 0 in
-    rw (passes (firstLent d v f b) (test NoMatch (leb (slots (d .geometry)) i) ∷ []) (hitAct d v f q i) (passed (c .before .before .before .before .before .before .before) .none))
-    (rw (c .before .before .before .before .before .kind-asked .ensures, c .before .before .before .before .pattern-of .ensures) at (c .before .before .search-on .ensures f))
+    let a = c .before .before .before .before .before .before .before .before .before .before .args in
+    joined-left (a .self) (c .joined .ensures) (c .before .before .before .before .before .front .ensures) (λ (d : Drive). searchFirstLeaves d (now (a .volume)) (now (a .fcb)) (now (a .buffer))) (c .before .before .before .search-first .ensures (a .self .held))
 
 pub search-first-spec : {M : Type 1} → statement M
 search-first-spec =
-    tie.close
-    (tie.spec
-    first-why-requires
-    is-none-requires
-    refused-requires
-    same-length
-    returns
-    shared-slice-read-kind-asked
-    kind-asked-requires
-    pattern-of-requires
-    search-on-requires
-    same-length-2
-    returns-2)
+    tie.close (tie.spec front-requires search-first-requires joined-requires same-length returns)

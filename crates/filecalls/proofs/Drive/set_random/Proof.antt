@@ -1,78 +1,29 @@
--- Refused by its tests, or the position goes into r0 r1 r2.
-use Rattle.filecalls.proofs.OutcomeLaws.{refused-at, clears}
-use Rattle.filecalls.specs.Small.{setRandomTests, setRandomAct}
-use Rattle.disk_stores.specs.Stores.{laid}
-use Rattle.filecalls.specs.Outcome.{unless, outcome, changedState}
-use Rattle.call_answers.proofs.Ladder.{unmet}
-use Rattle.call_answers.specs.Refusal.{firstMet, isNone}
-use Rattle.call_answers.specs.declared.Refusal.the-variants.{Closed, FcbLength}
-use borrow.Author.Tests.{not-false, eqb-true}
-use lib.ListN.{length}
-use lib.Dec.{eqb}
+-- The call is done by the front.
+use Rattle.filecalls.proofs.JoinLaws.{joined-left}
+use Rattle.filecalls.specs.Leaves.{setRandomLeaves}
+use Rattle.filecalls.specs.declared.Drive.{Drive}
 use denote.Ref.{now}
-use native.Mathlib.Omega.{arith}
-use mathlib.Core.Bool.{true}
-use mathlib.Core.List.{[]}
-use mathlib.Core.Path.{_≡_, refl}
 use borrow.Author.Needs.{needs}
 use Rattle.filecalls.proofs.Drive.set_random.Statement.{statement}
 use Rattle.filecalls.proofs.Drive.set_random.Tie as tie
 
-none : (c : tie.Else1) → isNone (firstMet (setRandomTests (c .before .before .before .before .before .args .self) (now (c .before .before .before .before .before .args .fcb)))) ≡ true
-none c = clears (setRandomTests (c .before .before .before .before .before .args .self) (now (c .before .before .before .before .before .args .fcb))) (c .before .before .position-why .ensures) (c .before .is-none .ensures) (c .if1 .left)
+front-requires : tie.Need-front-requires
+front-requires c κs = search needs
 
-whole : (c : tie.Else1) → length (now (c .before .before .before .before .before .args .fcb)) ≡ 36
-unfolding setRandomTests
-whole c =
-    let x = unmet Closed _ _ refl (none c) in
-    let y = unmet FcbLength _ _ refl (x .1) in
-    eqb-true _ _ (not-false (eqb (length (now (c .before .before .before .before .before .args .fcb))) 36) (y .0))
+set-random-requires : tie.Need-set-random-requires
+set-random-requires c κs = search needs
 
-position-why-requires : tie.Need-position-why-requires
-position-why-requires c κs = search needs
-
-is-none-requires : tie.Need-is-none-requires
-is-none-requires c κs = search needs
-
-refused-requires : tie.Need-refused-requires
-refused-requires c κs = search needs
+joined-requires : tie.Need-joined-requires
+joined-requires c κs = search needs
 
 same-length : tie.Need-same-length
 same-length c = search needs
 
 returns : tie.Need-returns
-unfolding setRandomAct setRandomTests
 returns c =
-    let a = c .before .before .before .before .before .before .args in
-    refused-at (a .self) [] (now (a .fcb)) [] (setRandomTests (a .self) (now (a .fcb))) [] _ (c .before .before .before .position-why .ensures) (c .before .before .is-none .ensures) (c .before .if1 .taken) (c .refused .ensures)
-
-position-of-requires : tie.Need-position-of-requires
-position-of-requires c κs = whole (c .before)
-
-set-random-requires : tie.Need-set-random-requires
-set-random-requires c κs = (whole (c .before .before .before), omega (arith, c .before .position-of .ensures .1))
-
-done-requires : tie.Need-done-requires
-done-requires c κs = search needs
-
-same-length-2 : tie.Need-same-length-2
-same-length-2 c = search needs
-
-returns-2 : tie.Need-returns-2
-unfolding setRandomAct setRandomTests unless outcome changedState laid
-returns-2 c = rw (none (c .before .before .before .before .before .before .before), c .done .ensures, c .before .before .before .set-random .ensures, c .before .before .before .before .before .position-of .ensures .0)
+    let a = c .before .before .before .before .before .before .before .before .args in
+    joined-left (a .self) (c .joined .ensures) (c .before .before .before .before .before .front .ensures) (λ (d : Drive). setRandomLeaves d (now (a .fcb))) (c .before .before .before .set-random .ensures (a .self .held))
 
 pub set-random-spec : {M : Type 1} → statement M
 set-random-spec =
-    tie.close
-    (tie.spec
-    position-why-requires
-    is-none-requires
-    refused-requires
-    same-length
-    returns
-    position-of-requires
-    set-random-requires
-    done-requires
-    same-length-2
-    returns-2)
+    tie.close (tie.spec front-requires set-random-requires joined-requires same-length returns)

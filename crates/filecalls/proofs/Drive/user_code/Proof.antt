@@ -1,54 +1,24 @@
--- Closed; a code from 16 to 254; 255; a code that is set.
-use Rattle.filecalls.specs.Small.{userAct, userTests}
-use Rattle.disk_stores.specs.Stores.{laid}
-use Rattle.filecalls.specs.Outcome.{outcome, unless, changedState}
-use Rattle.call_answers.specs.Refusal.{firstMet}
-use borrow.Author.Tests.{eq-eqb, ne-eqb}
+-- The call is done by the front.
+use Rattle.filecalls.proofs.JoinLaws.{joined-left}
+use Rattle.filecalls.specs.Leaves.{userLeaves}
+use Rattle.filecalls.specs.declared.Drive.{Drive}
 use borrow.Author.Needs.{needs}
 use Rattle.filecalls.proofs.Drive.user_code.Statement.{statement}
 use Rattle.filecalls.proofs.Drive.user_code.Tie as tie
 
-is-open-requires : tie.Need-is-open-requires
-is-open-requires c κs = search needs
+front-requires : tie.Need-front-requires
+front-requires c κs = search needs
 
-refused-requires : tie.Need-refused-requires
-refused-requires c κs = search needs
+user-code-requires : tie.Need-user-code-requires
+user-code-requires c κs = search needs
+
+joined-requires : tie.Need-joined-requires
+joined-requires c κs = search needs
 
 returns : tie.Need-returns
-unfolding outcome userAct userTests unless firstMet
-returns c = rw (← c .before .before .is-open .ensures, c .before .if1 .taken, c .refused .ensures)
-
-refused-requires-2 : tie.Need-refused-requires-2
-refused-requires-2 c κs = search needs
-
-returns-2 : tie.Need-returns-2
-unfolding outcome userAct userTests unless firstMet
-returns-2 c = rw (← c .before .before .before .is-open .ensures, c .before .before .if1 .left, c .before .if2 .taken, c .refused2 .ensures)
-
-done-requires : tie.Need-done-requires
-done-requires c κs = search needs
-
-returns-3 : tie.Need-returns-3
-unfolding outcome userAct userTests unless firstMet changedState laid
-returns-3 c = rw (← c .before .before .before .before .is-open .ensures, c .before .before .before .if1 .left, c .before .before .if2 .left, eq-eqb _ _ (c .before .if3 .taken), c .done .ensures)
-
-done-requires-2 : tie.Need-done-requires-2
-done-requires-2 c κs = search needs
-
-returns-4 : tie.Need-returns-4
-unfolding outcome userAct userTests unless firstMet changedState laid
-returns-4 c = rw (← c .before .before .before .before .is-open .ensures, c .before .before .before .if1 .left, c .before .before .if2 .left, ne-eqb _ _ (c .before .if3 .left), c .done2 .ensures)
+returns c =
+    let a = c .before .before .before .before .args in
+    joined-left (a .self) (c .joined .ensures) (c .before .before .front .ensures) (λ (d : Drive). userLeaves d (a .code)) (c .before .user-code .ensures (a .self .held))
 
 pub user-code-spec : {M : Type 1} → statement M
-user-code-spec =
-    tie.close
-    (tie.spec
-    is-open-requires
-    refused-requires
-    returns
-    refused-requires-2
-    returns-2
-    done-requires
-    returns-3
-    done-requires-2
-    returns-4)
+user-code-spec = tie.close (tie.spec front-requires user-code-requires joined-requires returns)
