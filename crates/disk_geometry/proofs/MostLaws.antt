@@ -7,7 +7,7 @@ use lib.Dec.{leb, ltb, eqb}
 use borrow.Author.Tests.{leb-true, le-leb, eqb-true}
 use Rattle.lists.proofs.BoolLaws.{and-parts}
 use Rattle.disk_geometry.specs.declared.Geometry.{Geometry}
-use Rattle.disk_geometry.specs.Geometry.{lawful}
+use Rattle.disk_geometry.specs.Geometry.{lawfulSizes}
 use Rattle.disk_geometry.specs.CodeMost.{mostOf}
 
 -- two tests that pass together are one
@@ -53,8 +53,7 @@ none t = go (leb 2 t) (leb t 0) refl refl
 abbrev rule : ℕ → ℕ → Bool → Bool
 rule t d sized = leb 2 t && sized && leb 1 d && leb d 16 && ltb d t
 
-pub by-most : (g : Geometry) → lawful g ≡ rule (g .blocks) (g .«directory_blocks») (leb (g .blocks) (mostOf g))
-unfolding lawful
+pub by-most : (g : Geometry) → lawfulSizes g ≡ rule (g .blocks) (g .«directory_blocks») (leb (g .blocks) (mostOf g))
 by-most g = one (eqb b 1024) refl
   where
     t : ℕ
@@ -67,7 +66,7 @@ by-most g = one (eqb b 1024) refl
     b = g .«block_bytes»
 
     Says : Type 0
-    Says = lawful g ≡ rule (g .blocks) (g .«directory_blocks») (leb (g .blocks) (mostOf g))
+    Says = lawfulSizes g ≡ rule (g .blocks) (g .«directory_blocks») (leb (g .blocks) (mostOf g))
 
     four : (x : Bool) → eqb b 1024 ≡ false → eqb b 2048 ≡ false → eqb b 4096 ≡ x → Says
     four true p q r = rw (eqb-true b 4096 r) (ap (rule t d) (several t 4096 2048 (omega arith) (omega arith) (omega arith) (λ h. omega (arith, h)) (λ h. omega (arith, h))))

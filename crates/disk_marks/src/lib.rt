@@ -11,6 +11,7 @@ ghost use Rattle.disk_rules.specs.GoodSlot.{seenBelow};
 ghost use Rattle.disk_marks.specs.CodeMarks.{MARKS, markOf, allMarked, Marked, groupBelow};
 use disk_geometry::Geometry;
 use disk_volume::Wanted;
+use disk_volume::directory;
 use disk_volume::entry;
 use disk_volume::fields;
 use disk_volume::names;
@@ -40,21 +41,8 @@ fn is_below(g: Geometry, volume: &[u8], n: usize, user: u8, name: &[u8], k: usiz
     requires { ⌜ (n ≤ slots g) × IsName (now name) ⌝ }
     ensures { λ r. ⌜ r ≡ groupBelow g (now (volume .entry)) n user (strip (now (name .entry))) k ⌝ }
 {
-    let mut j = 0;
-    while j < n {
-        let at = g.slot_start(j);
-        if entry::has(
-            g,
-            &volume[at..at + Geometry::ENTRY_BYTES],
-            user,
-            name,
-            Wanted::Group(k),
-        ) {
-            return true;
-        }
-        j += 1;
-    }
-    false
+    let lowest = directory::find(g, volume, user, name, Wanted::Group(k));
+    lowest < n
 }
 
 // Does a lower slot have the user, name and group of the entry e, which stands in slot i? Sets its mark.
