@@ -7,7 +7,7 @@ ghost use Rattle.disk_volume.specs.Name.{strip};
 ghost use Rattle.disk_volume.specs.declared.Wanted.the-variants.{File};
 ghost use Rattle.disk_volume.specs.Directory.{slotAt, findFrom, findSlot};
 ghost use Rattle.call_answers.specs.Refusal.{unlessRefused};
-ghost use Rattle.call_size.specs.Size.{entryEnd, sizeOf};
+ghost use Rattle.call_size.specs.Size.{entryEnd, larger, sizeOf};
 ghost use Rattle.call_size.specs.CodeMeasure.{endBound, measureWhy, measured};
 use call_answers::Refusal;
 use disk_geometry::Geometry;
@@ -35,6 +35,25 @@ fn larger_at(g: Geometry, volume: &[u8], m: usize, i: usize) -> usize
     if m < end { end } else { m }
 }
 
+// The larger of m and what slot i says of the file.
+fn larger_of(g: Geometry, volume: &[u8], user: u8, name: &[u8], m: usize, i: usize) -> usize
+    requires { ⌜ VolumeAnd g (now volume) (IsName (now name)) ⌝ }
+    requires { ⌜ (i < slots g) × (m < endBound) ⌝ }
+    ensures { λ r. ⌜ (r ≡ larger g (now (volume .entry)) user (strip (now (name .entry))) m i) × (r < endBound) ⌝ }
+{
+    let at = g.slot_start(i);
+    if !disk_volume::entry::has(
+        g,
+        &volume[at..at + Geometry::ENTRY_BYTES],
+        user,
+        name,
+        Wanted::File,
+    ) {
+        return m;
+    }
+    larger_at(g, volume, m, i)
+}
+
 // The file's lowest entry from slot `from` on.
 fn entry_from(g: Geometry, volume: &[u8], from: usize, user: u8, name: &[u8]) -> usize
     requires { ⌜ IsVolume g (now volume) ⌝ }
@@ -46,8 +65,24 @@ fn entry_from(g: Geometry, volume: &[u8], from: usize, user: u8, name: &[u8]) ->
     disk_volume::directory::find_from(g, volume, from, user, name, Wanted::File)
 }
 
-// The file's size in records, from its first entry to the next and so on.
-fn size_from(g: Geometry, volume: &[u8], user: u8, name: &[u8], first: usize) -> usize
+// The file's size in records, by every slot from its first entry on.
+fn size_by_slots(g: Geometry, volume: &[u8], user: u8, name: &[u8], first: usize) -> usize
+    requires { ⌜ VolumeAnd g (now volume) (IsName (now name)) ⌝ }
+    requires { ⌜ first ≡ findSlot g (now volume) user (strip (now name)) File ⌝ }
+    ensures { λ r. ⌜ (r ≡ sizeOf g (now (volume .entry)) user (strip (now (name .entry)))) × (r < endBound) ⌝ }
+{
+    let n = g.slots();
+    let mut m = 0;
+    let mut i = first;
+    while i < n {
+        m = larger_of(g, volume, user, name, m, i);
+        i += 1;
+    }
+    m
+}
+
+// The same from its first entry to the next and so on.
+fn size_by_entries(g: Geometry, volume: &[u8], user: u8, name: &[u8], first: usize) -> usize
     requires { ⌜ VolumeAnd g (now volume) (IsName (now name)) ⌝ }
     requires { ⌜ first ≡ findSlot g (now volume) user (strip (now name)) File ⌝ }
     ensures { λ r. ⌜ (r ≡ sizeOf g (now (volume .entry)) user (strip (now (name .entry)))) × (r < endBound) ⌝ }
@@ -60,6 +95,18 @@ fn size_from(g: Geometry, volume: &[u8], user: u8, name: &[u8], first: usize) ->
         i = entry_from(g, volume, i + 1, user, name);
     }
     m
+}
+
+// The same: by the slots, or where a slot's place is dear by the entries.
+fn size_from(g: Geometry, volume: &[u8], user: u8, name: &[u8], first: usize) -> usize
+    requires { ⌜ VolumeAnd g (now volume) (IsName (now name)) ⌝ }
+    requires { ⌜ first ≡ findSlot g (now volume) user (strip (now name)) File ⌝ }
+    ensures { λ r. ⌜ (r ≡ sizeOf g (now (volume .entry)) user (strip (now (name .entry)))) × (r < endBound) ⌝ }
+{
+    if g.placing == Geometry::STRAIGHT {
+        return size_by_slots(g, volume, user, name, first);
+    }
+    size_by_entries(g, volume, user, name, first)
 }
 
 // Answers the file's size in records.

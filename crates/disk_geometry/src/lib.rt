@@ -62,7 +62,7 @@ impl Geometry {
             & (self.directory_blocks == 2)
     }
 
-    // Is the geometry within the rules?
+    // Is the geometry within the rules? T is 2 at least, being above D.
     pub fn is_lawful(self) -> bool
         ensures { λ r. ⌜ r ≡ lawful self ⌝ }
     {
@@ -70,8 +70,7 @@ impl Geometry {
             return self.is_floppy();
         }
         let most = self.most_blocks();
-        (2 <= self.blocks)
-            & (self.blocks <= most)
+        (self.blocks <= most)
             & (1 <= self.directory_blocks)
             & (self.directory_blocks <= 16)
             & (self.directory_blocks < self.blocks)
@@ -158,7 +157,7 @@ impl Geometry {
         requires { ⌜ lawful self ≡ true ⌝ }
         ensures { λ r. ⌜ (r ≡ slots self) × (r ≤ 2048) ⌝ }
     {
-        Geometry::RECORD_SLOTS * (self.directory_blocks * self.records())
+        self.directory_blocks * (self.block_bytes / Geometry::ENTRY_BYTES)
     }
 
     // Where logical record q begins.
@@ -186,6 +185,9 @@ impl Geometry {
         requires { ⌜ (lawful self ≡ true) × (i < slots self) ⌝ }
         ensures { λ r. ⌜ (r ≡ slotStart self i) × (r + entryBytes ≤ bytes self) ⌝ }
     {
+        if self.placing == Geometry::STRAIGHT {
+            return i * Geometry::ENTRY_BYTES;
+        }
         self.slot_record(i) + i % Geometry::RECORD_SLOTS * Geometry::ENTRY_BYTES
     }
 

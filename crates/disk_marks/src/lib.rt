@@ -35,14 +35,40 @@ fn mark_of(user: u8, name: &[u8], k: usize) -> usize
     mark
 }
 
-// Does one of the n lowest slots have group k of this user's file of this name?
+// Does one of the n lowest slots have group k of this user's file of this name? Looks at them one by one.
+fn is_in_lower(g: Geometry, volume: &[u8], n: usize, user: u8, name: &[u8], k: usize) -> bool
+    requires { ⌜ IsVolume g (now volume) ⌝ }
+    requires { ⌜ (n ≤ slots g) × IsName (now name) ⌝ }
+    ensures { λ r. ⌜ r ≡ groupBelow g (now (volume .entry)) n user (strip (now (name .entry))) k ⌝ }
+{
+    let mut j = 0;
+    while j < n {
+        let at = g.slot_start(j);
+        if entry::has(
+            g,
+            &volume[at..at + Geometry::ENTRY_BYTES],
+            user,
+            name,
+            Wanted::Group(k),
+        ) {
+            return true;
+        }
+        j += 1;
+    }
+    false
+}
+
+// The same; where a slot's place is dear, by a search of the directory.
 fn is_below(g: Geometry, volume: &[u8], n: usize, user: u8, name: &[u8], k: usize) -> bool
     requires { ⌜ IsVolume g (now volume) ⌝ }
     requires { ⌜ (n ≤ slots g) × IsName (now name) ⌝ }
     ensures { λ r. ⌜ r ≡ groupBelow g (now (volume .entry)) n user (strip (now (name .entry))) k ⌝ }
 {
-    let lowest = directory::find(g, volume, user, name, Wanted::Group(k));
-    lowest < n
+    if g.placing != Geometry::STRAIGHT {
+        let lowest = directory::find(g, volume, user, name, Wanted::Group(k));
+        return lowest < n;
+    }
+    is_in_lower(g, volume, n, user, name, k)
 }
 
 // Does a lower slot have the user, name and group of the entry e, which stands in slot i? Sets its mark.

@@ -3,6 +3,7 @@ ghost use mathlib.Core.Path.{_≡_};
 ghost use Prim.Native.Nat.{_≤_};
 ghost use mathlib.Core.Bool.{true};
 ghost use Rattle.disk_geometry.specs.Geometry.{floppy, lawful, slots};
+ghost use Rattle.disk_volume.specs.declared.Wanted.the-variants.{Empty};
 ghost use Rattle.disk_volume.specs.Name.{strip};
 ghost use Rattle.disk_volume.specs.Directory.{findFrom, findSlot};
 ghost use Rattle.disk_volume.specs.CodeLent.{IsVolume, VolumeAnd, IsName};
@@ -95,7 +96,8 @@ fn find_by_record(volume: &[u8], from: usize, user: u8, name: &[u8], wanted: Wan
 }
 
 // The lowest slot from `from` on that has what is wanted, the number of slots where none has. On a straight volume the
-// directory's entries lie one behind the other. This and `find` are kept small, so that a caller's loop is made for what it wants.
+// directory's entries lie one behind the other. This and `find` are kept small, so that a caller's loop is made for what it wants; and
+// what they lend on for an eight-inch disk is copied there, so that no other search lays it down.
 pub fn find_from(
     g: Geometry,
     volume: &[u8],
@@ -111,7 +113,9 @@ pub fn find_from(
         ⌝ }
 {
     if g.placing != Geometry::STRAIGHT {
-        return find_by_record(volume, from, user, name, wanted);
+        let own_name = name;
+        let own_wanted = wanted;
+        return find_by_record(volume, from, user, own_name, own_wanted);
     }
     let end = g.slots() * Geometry::ENTRY_BYTES;
     find_in(g, &volume[0..end], from, user, name, wanted)
@@ -125,8 +129,49 @@ pub fn find(g: Geometry, volume: &[u8], user: u8, name: &[u8], wanted: Wanted) -
         ⌝ }
 {
     if g.placing != Geometry::STRAIGHT {
-        return find_by_record(volume, 0, user, name, wanted);
+        let own_name = name;
+        let own_wanted = wanted;
+        return find_by_record(volume, 0, user, own_name, own_wanted);
     }
     let end = g.slots() * Geometry::ENTRY_BYTES;
     find_in(g, &volume[0..end], 0, user, name, wanted)
+}
+
+// The lowest empty slot, slot by slot. That the slots fill whole records is said here, since then those of a record are looked at
+// at once.
+fn empty_by_slots(g: Geometry, volume: &[u8], user: u8, name: &[u8]) -> usize
+    requires { ⌜ VolumeAnd g (now volume) (IsName (now name)) ⌝ }
+    ensures { λ r. ⌜
+        (r ≡ findFrom g (now (volume .entry)) user (strip (now (name .entry))) Empty 0) × (r ≤ slots g)
+        ⌝ }
+{
+    let n = g.slots() / Geometry::RECORD_SLOTS * Geometry::RECORD_SLOTS;
+    let mut i = 0;
+    while i < n {
+        let at = g.slot_start(i);
+        if entry::has(
+            g,
+            &volume[at..at + Geometry::ENTRY_BYTES],
+            user,
+            name,
+            Wanted::Empty,
+        ) {
+            return i;
+        }
+        i += 1;
+    }
+    i
+}
+
+// The lowest empty slot, the number of slots where none is: slot by slot, or where a slot's place is dear as any search.
+pub fn find_empty(g: Geometry, volume: &[u8], user: u8, name: &[u8]) -> usize
+    requires { ⌜ VolumeAnd g (now volume) (IsName (now name)) ⌝ }
+    ensures { λ r. ⌜
+        (r ≡ findSlot g (now (volume .entry)) user (strip (now (name .entry))) Empty) × (r ≤ slots g)
+        ⌝ }
+{
+    if g.placing == Geometry::STRAIGHT {
+        return empty_by_slots(g, volume, user, name);
+    }
+    find(g, volume, user, name, Wanted::Empty)
 }

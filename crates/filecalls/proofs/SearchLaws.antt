@@ -1,6 +1,6 @@
 -- What the tests of a search tell where they do not refuse, and what a search leaves.
 use mathlib.Core.Path.{_≡_, refl, sym, ap, _∙_}
-use mathlib.Core.Bool.{Bool, true, false, not, cond, _&&_, false≢true}
+use mathlib.Core.Bool.{Bool, true, false, not, cond, _&&_, false≢true, true≢false}
 use mathlib.Core.List.{List, [], _∷_}
 use Prim.Native.Nat.{ℕ, _%_, _≤_, _<_}
 use lib.Dec.{leb, ltb}
@@ -67,6 +67,17 @@ kept-below Nothing user last pattern n k e = absurd (false≢true k)
 kept-below Pattern user last pattern n k e =
     ltb-true last n (and-parts (leb user 15) (ltb last n) (and-parts (leb user 15 && ltb last n) (goodPattern pattern) e .0) .1)
 kept-below Everything user last pattern n k e = ltb-true last n (and-parts (leb user 15) (ltb last n) e .1)
+
+-- a kept search that stands outside is outside the rules, and one that is not kept is within them
+pub kept-outside : (kind : SearchKind) (user last : ℕ) (pattern : List ℕ) (n : ℕ) → isKept kind ≡ true → (leb user 15 && ltb last n) ≡ false → goodKept kind user last pattern n ≡ false
+kept-outside Nothing user last pattern n k e = absurd (false≢true k)
+kept-outside Pattern user last pattern n k e = rw e
+kept-outside Everything user last pattern n k e = e
+
+pub not-kept : (kind : SearchKind) (user last : ℕ) (pattern : List ℕ) (n : ℕ) → isKept kind ≡ false → goodKept kind user last pattern n ≡ true
+not-kept Nothing user last pattern n k = refl
+not-kept Pattern user last pattern n k = absurd (true≢false k)
+not-kept Everything user last pattern n k = absurd (true≢false k)
 
 -- what a search leaves that came to slot i, j in the code: a hit, and none
 module _ (d : Drive) (v f b : List ℕ) (q : KeptSearch) (i : ℕ) where

@@ -3,7 +3,7 @@
 use mathlib.Core.Path.{sym, _∙_}
 use borrow.Author.Needs.{needs}
 use Rattle.disk_geometry.proofs.GeometryLaws.{lawful-placed, lawful-straight}
-use Rattle.disk_geometry.proofs.MostLaws.{by-most}
+use Rattle.disk_geometry.proofs.MostLaws.{by-tests}
 use Rattle.disk_geometry.proofs.Geometry.is_lawful.Statement.{statement}
 use Rattle.disk_geometry.proofs.Geometry.is_lawful.Tie as tie
 
@@ -18,9 +18,9 @@ most-blocks-requires c κs = search needs
 
 returns-2 : tie.Need-returns-2
 returns-2 c =
-    let s = c .before .before .before .before .before in
+    let s = c .before .before .before .before in
     let g = s .before .before .before .args .self in
-    rw (s .most-blocks .ensures) (sym (lawful-straight g (s .before .if1 .left) ∙ by-most g))
+    rw (s .most-blocks .ensures) (sym (lawful-straight g (s .before .if1 .left) ∙ by-tests g))
 
 pub is-lawful-spec : {M : Type 1} → statement M
 is-lawful-spec = tie.close (tie.spec is-floppy-requires returns most-blocks-requires returns-2)

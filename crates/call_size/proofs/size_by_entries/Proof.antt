@@ -12,8 +12,8 @@ use Rattle.disk_volume.specs.Directory.{slotFits}
 use Rattle.disk_volume.specs.Name.{strip}
 use Rattle.disk_volume.proofs.FindLaws.{find-le, found-fits, folded-from-found, from-low, from-fits, folded-to-next}
 use Rattle.call_size.specs.Size.{larger, sizeOf}
-use Rattle.call_size.proofs.size_from.Statement.{statement}
-use Rattle.call_size.proofs.size_from.Tie as tie
+use Rattle.call_size.proofs.size_by_entries.Statement.{statement}
+use Rattle.call_size.proofs.size_by_entries.Tie as tie
 
 abbrev Inv-loop : tie.InvT-loop
 Inv-loop g volume user name first n m₀ i₀ m i =
@@ -66,8 +66,8 @@ returns : tie.Need-returns Inv-loop μ-loop
 unfolding sizeOf
 returns c = (sym (folded-end (c .before .loop .inv .1 .1) (search needs)), search needs)
 
-pub size-from-spec : {M : Type 1} → statement M
-size-from-spec =
+pub size-by-entries-spec : {M : Type 1} → statement M
+size-by-entries-spec =
     tie.close
     (tie.spec
     Inv-loop
