@@ -12,7 +12,7 @@ def both(before, after):
     old, new = (counts(Path(folder) / "labels", Path(folder) / "marks") for folder in (before, after))
     for work, by_shape in new.items():
         for shape, sides in sorted(by_shape.items()):
-            if shape in old.get(work, {}):
+            if "proved" in sides and "proved" in old.get(work, {}).get(shape, {}):
                 yield work, shape, old[work][shape]["proved"], sides["proved"]
 
 

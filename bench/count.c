@@ -51,27 +51,44 @@ static const struct piece pieces[] = {
 // slots as there can be.
 static const uint32_t shapes[][3] = {{1024, 256, 1}, {4096, 256, 1}, {4096, 256, 2}, {4096, 256, 16}, {2048, 4096, 16}, {4096, 2048, 16}};
 
-static void mark(long label)
+static long label;
+
+static void mark(long number)
 {
-    syscall(SYS_getpriority, MARK, label);
+    syscall(SYS_getpriority, MARK, number);
+}
+
+// One piece of work on the shelf as it is.
+static void count(const struct piece *piece, const struct side *side, const char *name)
+{
+    job_function = piece->function;
+    taking = piece->taking;
+    piece->before(side);
+    mark(0);
+    piece->job(side, 1);
+    mark(++label);
+    printf("%ld %s %u %u %s\n", label, piece->work, full.total, full.slots, name);
+}
+
+// The proved calls on an eight-inch floppy, and on the straight volume of the same numbers.
+static void count_floppy(void)
+{
+    for (size_t i = 0; i < sizeof pieces / sizeof *pieces; i++) {
+        fill_shelf(&full, 1024, 243, 2);
+        count(&pieces[i], &sides[0].side, "straight");
+        make_floppy(&full);
+        count(&pieces[i], &sides[0].side, "floppy");
+    }
 }
 
 int main(void)
 {
-    long label = 0;
     for (size_t k = 0; k < sizeof shapes / sizeof *shapes; k++) {
         fill_shelf(&full, shapes[k][0], shapes[k][1], shapes[k][2]);
-        for (size_t i = 0; i < sizeof pieces / sizeof *pieces; i++) {
-            for (size_t s = 0; s < sizeof sides / sizeof *sides; s++) {
-                job_function = pieces[i].function;
-                taking = pieces[i].taking;
-                pieces[i].before(&sides[s].side);
-                mark(0);
-                pieces[i].job(&sides[s].side, 1);
-                mark(++label);
-                printf("%ld %s %u %u %s\n", label, pieces[i].work, full.total, full.slots, sides[s].name);
-            }
-        }
+        for (size_t i = 0; i < sizeof pieces / sizeof *pieces; i++)
+            for (size_t s = 0; s < sizeof sides / sizeof *sides; s++)
+                count(&pieces[i], &sides[s].side, sides[s].name);
     }
+    count_floppy();
     return 0;
 }

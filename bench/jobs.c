@@ -17,7 +17,7 @@ static void log_in_work(const struct side *side)
 {
     memset(&desk, 0, sizeof desk);
     uint32_t answer =
-        side->log_in(work.block, work.total, work.directory, work.volume, work.bytes, desk.drive, drive_bytes(&work));
+        side->log_in(work.block, work.total, work.directory, work.placing, work.volume, work.bytes, desk.drive, drive_bytes(&work));
     if ((answer & 0xFFFF) != 0) {
         puts("the volume is refused");
         exit(1);
@@ -39,7 +39,7 @@ void pass_job(const struct side *side, unsigned times)
 void log_in_job(const struct side *side, unsigned times)
 {
     while (times-- > 0)
-        sink += side->log_in(work.block, work.total, work.directory, work.volume, work.bytes, desk.drive, drive_bytes(&work));
+        sink += side->log_in(work.block, work.total, work.directory, work.placing, work.volume, work.bytes, desk.drive, drive_bytes(&work));
 }
 
 void call_job(const struct side *side, unsigned times)
@@ -51,7 +51,7 @@ void call_job(const struct side *side, unsigned times)
 
 static uint8_t *last_entry(void)
 {
-    return work.volume + (size_t)(work.slots - 1) * ENTRY;
+    return entry_in(&work, work.slots - 1);
 }
 
 // The control block of a call on record n of the last file, whose entry is in the last slot.
@@ -124,7 +124,7 @@ void start_taking(const struct side *side)
     uint32_t place = taking->place < places ? taking->place : places - 1;
     memset(last_entry() + MAP, 0, MAP_BYTES);
     for (uint32_t slot = 0; taking->alone && slot < work.slots; slot++)
-        memset(work.volume + (size_t)slot * ENTRY + MAP, 0, MAP_BYTES);
+        memset(entry_in(&work, slot) + MAP, 0, MAP_BYTES);
     if (taking->lower < place)
         lay_number(&work, last_entry(), taking->lower, taking->highest ? work.total - 1 : first);
     log_in_work(side);

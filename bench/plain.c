@@ -372,14 +372,14 @@ static uint32_t inspect(const struct geometry *g, const uint8_t *volume, uint8_t
     return g->slots;
 }
 
-uint32_t plain_log_in(uint32_t block_bytes, uint32_t blocks, uint32_t directory_blocks, const uint8_t *volume,
+uint32_t plain_log_in(uint32_t block_bytes, uint32_t blocks, uint32_t directory_blocks, uint32_t placing, const uint8_t *volume,
                       size_t volume_bytes, uint8_t *drive, size_t drive_bytes)
 {
     struct geometry g;
     if (drive_bytes != (blocks > NARROW ? WIDE_DRIVE : DRIVE))
         return CLOSED;
     memset(drive, 0, drive_bytes);
-    if (!set_geometry(&g, block_bytes, blocks, directory_blocks))
+    if (placing != 0 || !set_geometry(&g, block_bytes, blocks, directory_blocks))
         return CLOSED;
     if (volume_bytes != (size_t)blocks * block_bytes)
         return VOLUME_LENGTH;
@@ -798,7 +798,7 @@ uint32_t plain_call(uint8_t function, uint8_t parameter, uint8_t *drive, size_t 
         return CLOSED;
     switch (function) {
     case 13:
-    case 37: return plain_log_in(w.g.block, w.g.total, w.g.directory, volume, volume_bytes, drive, drive_bytes);
+    case 37: return plain_log_in(w.g.block, w.g.total, w.g.directory, 0, volume, volume_bytes, drive, drive_bytes);
     case 15: return open_file(&w);
     case 16: return close_file(&w);
     case 17: return search_first(&w);

@@ -5,7 +5,8 @@
 #include <stddef.h>
 #include <stdint.h>
 
-uint32_t plain_log_in(uint32_t block_bytes, uint32_t blocks, uint32_t directory_blocks, const uint8_t *volume,
+// Placing is 0: the plain calls know straight volumes alone.
+uint32_t plain_log_in(uint32_t block_bytes, uint32_t blocks, uint32_t directory_blocks, uint32_t placing, const uint8_t *volume,
                       size_t volume_bytes, uint8_t *drive, size_t drive_bytes);
 
 uint32_t plain_call(uint8_t function, uint8_t parameter, uint8_t *drive, size_t drive_bytes, uint8_t *volume,

@@ -40,6 +40,33 @@ size_t drive_bytes(const struct shelf *s)
     return s->total > 256 ? 544 : 64;
 }
 
+// An eight-inch floppy: sectors of a track, reserved tracks, and the sector of each place of a track.
+enum { SECTORS = 26, RESERVED = 2, IMAGE_BYTES = 77 * SECTORS * RECORD };
+
+static size_t start(uint32_t q)
+{
+    static const uint8_t sector[SECTORS] = {1, 7, 13, 19, 25, 5, 11, 17, 23, 3, 9, 15, 21, 2, 8, 14, 20, 26, 6, 12, 18, 24, 4, 10, 16, 22};
+    return ((RESERVED + q / SECTORS) * SECTORS + sector[q % SECTORS] - 1u) * RECORD;
+}
+
+uint8_t *entry_in(struct shelf *s, uint32_t slot)
+{
+    if (s->placing == 0)
+        return s->volume + (size_t)slot * ENTRY;
+    return s->volume + start(slot / 4) + slot % 4 * ENTRY;
+}
+
+void make_floppy(struct shelf *s)
+{
+    static uint8_t volume[IMAGE_BYTES];
+    memcpy(volume, s->volume, s->bytes);
+    memset(s->volume, 0xE5, IMAGE_BYTES);
+    for (uint32_t q = 0; q < s->bytes / RECORD; q++)
+        memcpy(s->volume + start(q), volume + (size_t)q * RECORD, RECORD);
+    s->placing = 1;
+    s->bytes = IMAGE_BYTES;
+}
+
 void copy_shelf(struct shelf *to, const struct shelf *from)
 {
     memcpy(to, from, offsetof(struct shelf, volume) + from->bytes);
@@ -96,6 +123,7 @@ void fill_shelf(struct shelf *s, uint32_t block, uint32_t total, uint32_t direct
     s->block = block;
     s->total = total;
     s->directory = directory;
+    s->placing = 0;
     s->slots = directory * block / ENTRY;
     s->bytes = (size_t)total * block;
     for (uint32_t slot = 0; slot < s->slots; slot++) {
@@ -117,6 +145,6 @@ void fill_shelf(struct shelf *s, uint32_t block, uint32_t total, uint32_t direct
 void fill_directory(struct shelf *s)
 {
     for (uint32_t slot = 0; slot < s->slots; slot++)
-        if (s->volume[(size_t)slot * ENTRY] == 0xE5)
-            other_entry(s->volume + (size_t)slot * ENTRY, slot);
+        if (entry_in(s, slot)[0] == 0xE5)
+            other_entry(entry_in(s, slot), slot);
 }

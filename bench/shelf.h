@@ -9,7 +9,7 @@ enum { FILES = 8, RECORD = 128, SEVERAL = 16, ENTRY = 32, NAME = 11, MAP = 16, M
 
 // The proved calls, or those in plain C.
 struct side {
-    uint32_t (*log_in)(uint32_t, uint32_t, uint32_t, const uint8_t *, size_t, uint8_t *, size_t);
+    uint32_t (*log_in)(uint32_t, uint32_t, uint32_t, uint32_t, const uint8_t *, size_t, uint8_t *, size_t);
     uint32_t (*call)(uint8_t, uint8_t, uint8_t *, size_t, uint8_t *, size_t, uint8_t *, size_t, uint8_t *, size_t);
 };
 
@@ -17,12 +17,18 @@ struct side {
 // whose entries are spread from the first slot to the last; one slot in 64 is empty; the other slots have entries without
 // blocks, half of them of user 0.
 struct shelf {
-    uint32_t block, total, directory, slots;
+    uint32_t block, total, directory, placing, slots;
     size_t bytes;
     uint8_t volume[VOLUME_MOST];
 };
 
 void fill_shelf(struct shelf *s, uint32_t block, uint32_t total, uint32_t directory);
+
+// The same as the image of an eight-inch floppy: the shelf has 243 blocks of 1,024 bytes.
+void make_floppy(struct shelf *s);
+
+// The entry in a slot.
+uint8_t *entry_in(struct shelf *s, uint32_t slot);
 
 // The volume as it is, without what lies behind it.
 void copy_shelf(struct shelf *to, const struct shelf *from);

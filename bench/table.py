@@ -1,11 +1,13 @@
 """The tables of counted instructions: table.py LABELS MARKS [markdown] reads what count.c printed and the marks of the plugin, and
-holds each ratio to its aim. One table is of volumes up to 256 blocks, the other of hard disks. The exit status is 1 where an aim is
-missed. With `markdown` they are printed as docs/SPEED.md has them."""
+holds each ratio to its aim. One table is of volumes up to 256 blocks, one of hard disks, and one of the eight-inch floppy beside the
+straight volume of the same numbers. The exit status is 1 where an aim is missed. With `markdown` they are printed as docs/SPEED.md
+has them."""
 import sys
 
 # The pass up to 256 blocks has an aim of its own.
 PASS_AIM = 1.0
 AIM = 1.3
+FLOPPY_AIM = 1.5
 NARROW = 256
 
 
@@ -27,6 +29,22 @@ def counts(named, marked):
 
 def aim_of(work, blocks):
     return PASS_AIM if work == "pass" and blocks <= NARROW else AIM
+
+
+def show_floppy(found, markdown):
+    """the floppy beside the straight volume; what misses its aim: the pass alone has one"""
+    missed = []
+    head, row = ("| call | straight | floppy | ratio |\n|---|---|---|---|", "| {} | {:,} | {:,} | {:.2f} |") if markdown else \
+        (f"{'eight-inch floppy':<20}{'straight':>16}{'floppy':>16} ratio", "{:<20}{:>16,}{:>16,}  {:.2f}")
+    print(head)
+    for work, by_shape in found.items():
+        for sides in by_shape.values():
+            if "floppy" in sides:
+                print(row.format(work, sides["straight"], sides["floppy"], sides["floppy"] / sides["straight"]))
+                if work == "pass" and sides["floppy"] > FLOPPY_AIM * sides["straight"]:
+                    missed.append("pass on the floppy")
+    print()
+    return missed
 
 
 def show_markdown(found, shapes):
@@ -63,14 +81,16 @@ def show(found, shapes):
 
 def main():
     found = counts(sys.argv[1], sys.argv[2])
-    shapes = sorted({shape for work in found.values() for shape in work}, key=lambda shape: (shape[0] > NARROW, shape[1]))
+    shapes = {shape for work in found.values() for shape, sides in work.items() if "plain" in sides}
+    shapes = sorted(shapes, key=lambda shape: (shape[0] > NARROW, shape[1]))
     narrow, wide = ([shape for shape in shapes if (shape[0] > NARROW) == is_wide] for is_wide in (False, True))
     if "markdown" in sys.argv:
         show_markdown(found, narrow)
         show_markdown(found, wide)
+        show_floppy(found, True)
         return 0
     print("Instructions of the proved calls, and the ratio to those of plain C (gcc -O2)\n")
-    missed = show(found, narrow) + show(found, wide)
+    missed = show(found, narrow) + show(found, wide) + show_floppy(found, False)
     print("All aims are met." if not missed else "MISSED: " + "; ".join(missed))
     return len(missed) > 0
 

@@ -48,14 +48,15 @@ static void store(struct machine *m, uint16_t base, uint16_t offset, const uint8
         *at(m, base, (uint16_t)(offset + i)) = from[i];
 }
 
-/* Puts an image into a drive: log-in's answer. */
+/* Puts an image into a drive: log-in's answer. One of 256,256 bytes is an eight-inch floppy: 1024, 243, 2, CHURAWEL_EIGHT_INCH. */
 static uint32_t put_in(
-    struct disk *d, uint8_t *image, size_t image_bytes, uint32_t block_bytes, uint32_t blocks, uint32_t directory_blocks)
+    struct disk *d, uint8_t *image, size_t image_bytes, uint32_t block_bytes, uint32_t blocks, uint32_t directory_blocks,
+    uint32_t placing)
 {
     d->image = image;
     d->image_bytes = image_bytes;
     d->drive_bytes = churawel_drive_bytes(blocks);
-    return churawel_log_in(block_bytes, blocks, directory_blocks, image, image_bytes, d->drive, d->drive_bytes);
+    return churawel_log_in(block_bytes, blocks, directory_blocks, placing, image, image_bytes, d->drive, d->drive_bytes);
 }
 
 static int is_several(uint8_t function)

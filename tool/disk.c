@@ -13,14 +13,14 @@ struct disk *read_disk(const struct options *options, const char *path, bool to_
     struct disk *disk = room_for(sizeof *disk);
     disk->path = path;
     disk->original = open_image(path, to_change);
-    disk->geometry = geometry_of_image(options->geometry, path, (uint64_t)disk->original.state.st_size);
+    disk->geometry = geometry_of_image(options, path, (uint64_t)disk->original.state.st_size);
     disk->volume = read_all(disk->original.file, path, VOLUME_MOST + 1);
     return disk;
 }
 
 uint32_t log_in(const struct geometry *g, struct bytes volume, uint8_t *drive)
 {
-    return churawel_log_in(g->block_bytes, g->blocks, g->directory_blocks, volume.at, volume.count, drive,
+    return churawel_log_in(g->block_bytes, g->blocks, g->directory_blocks, g->placing, volume.at, volume.count, drive,
                            churawel_drive_bytes(g->blocks));
 }
 

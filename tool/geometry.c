@@ -4,8 +4,28 @@
 #include <inttypes.h>
 #include <stdio.h>
 #include <stdlib.h>
+#include <string.h>
 
-static const struct geometry V = {1024, 40, 1};
+static const struct geometry V = {1024, 40, 1, CHURAWEL_STRAIGHT};
+static const struct geometry FLOPPY = {1024, 243, 2, CHURAWEL_EIGHT_INCH};
+
+// An eight-inch floppy has 77 tracks of 26 sectors.
+enum { FLOPPY_BYTES = 77 * 26 * RECORD_BYTES };
+
+size_t bytes_of(const struct geometry *geometry)
+{
+    if (geometry->placing == CHURAWEL_EIGHT_INCH)
+        return FLOPPY_BYTES;
+    return (size_t)geometry->block_bytes * geometry->blocks;
+}
+
+const char *shown_geometry(const struct geometry *geometry)
+{
+    static char shown[64];
+    snprintf(shown, sizeof shown, "%u,%u,%u%s", geometry->block_bytes, geometry->blocks, geometry->directory_blocks,
+             geometry->placing == CHURAWEL_EIGHT_INCH ? " eight-inch" : "");
+    return shown;
+}
 
 // A number, and the sign behind it; where there is none, no text comes back.
 static const char *take_number(const char *text, char behind, uint32_t *number)
@@ -22,7 +42,7 @@ static const char *take_number(const char *text, char behind, uint32_t *number)
 
 static struct geometry said(const char *text, const char *by)
 {
-    struct geometry geometry;
+    struct geometry geometry = V;
     const char *rest = take_number(text, ',', &geometry.block_bytes);
     rest = take_number(rest, ',', &geometry.blocks);
     if (take_number(rest, '\0', &geometry.directory_blocks) == NULL)
@@ -31,31 +51,42 @@ static struct geometry said(const char *text, const char *by)
     return geometry;
 }
 
-// By -g or by the environment; false where neither says it.
-static bool is_said(const char *option, struct geometry *geometry)
+// By -g and -f, or by the environment; false where none of them says it.
+static bool is_said(const struct options *options, struct geometry *geometry)
 {
     const char *environment = getenv("CHURAWEL_GEOMETRY");
-    if (option == NULL && (environment == NULL || *environment == '\0'))
+    if (options->format != NULL && strcmp(options->format, "eight-inch") != 0)
+        wrong_use("-f takes the word eight-inch, and not '%s'", options->format);
+    if (options->geometry != NULL)
+        *geometry = said(options->geometry, "-g");
+    else if (options->format != NULL)
+        *geometry = FLOPPY;
+    else if (environment != NULL && *environment != '\0')
+        *geometry = said(environment, "CHURAWEL_GEOMETRY");
+    else
         return false;
-    *geometry = option != NULL ? said(option, "-g") : said(environment, "CHURAWEL_GEOMETRY");
+    if (options->format != NULL)
+        geometry->placing = CHURAWEL_EIGHT_INCH;
     return true;
 }
 
-struct geometry geometry_of_image(const char *option, const char *image, uint64_t image_bytes)
+struct geometry geometry_of_image(const struct options *options, const char *image, uint64_t image_bytes)
 {
     struct geometry geometry;
-    if (is_said(option, &geometry))
+    if (is_said(options, &geometry))
         return geometry;
-    if (image_bytes != (uint64_t)V.block_bytes * V.blocks)
-        wrong_use("%s has %" PRIu64 " bytes: say its geometry by -g B,T,D; known without it is an image of 40960 bytes, "
-                  "1024,40,1",
+    if (image_bytes == bytes_of(&FLOPPY))
+        return FLOPPY;
+    if (image_bytes != bytes_of(&V))
+        wrong_use("%s has %" PRIu64 " bytes: say its geometry by -g B,T,D; known without it are images of 40960 bytes, "
+                  "1024,40,1, and of 256256 bytes, eight-inch floppies",
                   image, image_bytes);
     return V;
 }
 
-struct geometry geometry_of_new(const char *option)
+struct geometry geometry_of_new(const struct options *options)
 {
     struct geometry geometry = V;
-    is_said(option, &geometry);
+    is_said(options, &geometry);
     return geometry;
 }

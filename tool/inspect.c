@@ -101,8 +101,8 @@ const char *inspect(struct disk *disk)
     static char said[SAID_MOST];
     uint8_t bytes[CHURAWEL_FAULT_BYTES];
     const struct geometry *g = &disk->geometry;
-    uint32_t answer = churawel_fault(g->block_bytes, g->blocks, g->directory_blocks, disk->volume.at, disk->volume.count, bytes,
-                                     sizeof bytes);
+    uint32_t answer = churawel_fault(g->block_bytes, g->blocks, g->directory_blocks, g->placing, disk->volume.at,
+                                     disk->volume.count, bytes, sizeof bytes);
     uint32_t number = CHURAWEL_NUMBER(answer);
     if (number == 0) {
         disk->free_blocks = CHURAWEL_VALUE(answer);
@@ -113,8 +113,7 @@ const char *inspect(struct disk *disk)
         return in_words(&fault, g);
     }
     bool unlawful = number == CHURAWEL_REFUSED_CLOSED;
-    snprintf(said, sizeof said, "%s (%u): %lld bytes, %u,%u,%u%s%s", words_of(number), number,
-             (long long)disk->original.state.st_size, g->block_bytes, g->blocks, g->directory_blocks, unlawful ? "; " : "",
-             unlawful ? LAWFUL : "");
+    snprintf(said, sizeof said, "%s (%u): %lld bytes, %s%s%s", words_of(number), number,
+             (long long)disk->original.state.st_size, shown_geometry(g), unlawful ? "; " : "", unlawful ? LAWFUL : "");
     return said;
 }

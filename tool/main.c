@@ -12,36 +12,36 @@
     "In PATTERN ? stands for any character, and * for the rest of the name or of the type; SIG*.* is each file whose name begins with SIG."
 
 const struct command COMMANDS[] = {
-    {"list", "IMAGE [PATTERN]", "guh", 1, 2, false,
+    {"list", "IMAGE [PATTERN]", "gfuh", 1, 2, false,
      "Lists the files of every user: user, name, records, bytes, blocks, attributes; then the free blocks.\n"
      PATTERN_WORDS,
      list},
-    {"check", "IMAGE", "gh", 1, 1, false,
+    {"check", "IMAGE", "gfh", 1, 1, false,
      "Says whether the disk is sound; if not, the first bad slot of its directory, its file, and what is wrong with it.", check},
-    {"get", "IMAGE FILE [OUT]", "gtRGh", 2, 3, false,
+    {"get", "IMAGE FILE [OUT]", "gftRGh", 2, 3, false,
      "Copies a file of the disk to a file of this machine.\n"
      "Without OUT that has the file's own name; - is standard output. One that is there is replaced only with --replace.\n"
      "A record that was never written is an error, but not with --gaps zero.",
      get},
-    {"type", "IMAGE FILE", "gGh", 2, 2, false,
+    {"type", "IMAGE FILE", "gfGh", 2, 2, false,
      "Shows a file as text, to its first 1AH.\n"
      "A record before that which was never written is an error, but not with --gaps zero.",
      type},
-    {"put", "IMAGE IN [FILE]", "gtRh", 2, 3, true,
+    {"put", "IMAGE IN [FILE]", "gftRh", 2, 3, true,
      "Copies a file of this machine to the disk, whole or not at all.\n"
      "Without FILE it keeps its name, in capitals; - is standard input. One that is there is replaced only with --replace, and\n"
      "stays a system file if it was one. The last record is filled up with zeros, or with 1AH as text.",
      put},
-    {"rename", "IMAGE FILE NEW", "gh", 3, 3, true, "Gives a file another name.", rename_file},
-    {"erase", "IMAGE PATTERN", "gh", 2, 2, true,
+    {"rename", "IMAGE FILE NEW", "gfh", 3, 3, true, "Gives a file another name.", rename_file},
+    {"erase", "IMAGE PATTERN", "gfh", 2, 2, true,
      "Erases one user's files that match, all or none: a file that is read-only stops it.\n"
      PATTERN_WORDS,
      erase},
-    {"attributes", "IMAGE FILE SIGN ..", "gh", 3, 6, true,
+    {"attributes", "IMAGE FILE SIGN ..", "gfh", 3, 6, true,
      "Makes a file read-only (+r) or not (-r), and a system file (+s) or not (-s).\n"
      "Options stand before IMAGE.",
      attributes},
-    {"new", "IMAGE", "gh", 1, 1, true,
+    {"new", "IMAGE", "gfh", 1, 1, true,
      "Makes an empty disk; IMAGE must not be there yet.\n"
      "Without a geometry that of 40960 bytes is taken.",
      new_image},
@@ -49,10 +49,11 @@ const struct command COMMANDS[] = {
 const int COMMANDS_COUNT = sizeof COMMANDS / sizeof *COMMANDS;
 
 static const struct option LONG[] = {
-    {"geometry", required_argument, NULL, GEOMETRY}, {"user", required_argument, NULL, USER},
-    {"text", no_argument, NULL, TEXT},               {"replace", no_argument, NULL, REPLACE},
-    {"gaps", required_argument, NULL, GAPS},         {"help", no_argument, NULL, HELP},
-    {"version", no_argument, NULL, VERSION},         {NULL, 0, NULL, 0},
+    {"geometry", required_argument, NULL, GEOMETRY}, {"format", required_argument, NULL, FORMAT},
+    {"user", required_argument, NULL, USER},         {"text", no_argument, NULL, TEXT},
+    {"replace", no_argument, NULL, REPLACE},         {"gaps", required_argument, NULL, GAPS},
+    {"help", no_argument, NULL, HELP},               {"version", no_argument, NULL, VERSION},
+    {NULL, 0, NULL, 0},
 };
 
 // An option that getopt_long does not take: unknown, or not as it is spelled.
@@ -71,8 +72,8 @@ static _Noreturn void refuse_option(const char *word)
 static int take_options(const struct command *command, int count, char **words, struct options *options)
 {
     const char *about = command == NULL ? "churawel, before its command," : command->name;
-    const char *letters = command == NULL ? "ghV" : command->takes;
-    const char *text = command == NULL || command->run == attributes ? "+g:u:thV" : "g:u:thV";
+    const char *letters = command == NULL ? "gfhV" : command->takes;
+    const char *text = command == NULL || command->run == attributes ? "+g:f:u:thV" : "g:f:u:thV";
     opterr = 0;
     optind = 0;
     for (int letter; (letter = getopt_long(count, words, text, LONG, NULL)) != -1;) {
@@ -82,6 +83,7 @@ static int take_options(const struct command *command, int count, char **words, 
             wrong_use("%s has no option %s", about, option_spelled(letter));
         switch (letter) {
         case GEOMETRY: options->geometry = optarg; break;
+        case FORMAT: options->format = optarg; break;
         case USER: options->user = user_of(optarg); break;
         case TEXT: options->text = true; break;
         case REPLACE: options->replace = true; break;
@@ -127,7 +129,7 @@ static int ended(const struct command *command)
 
 int main(int count, char **words)
 {
-    struct options options = {NULL, NULL, ANY_USER, false, false};
+    struct options options = {NULL, NULL, NULL, ANY_USER, false, false};
     hold_standard_files();
     int at = take_options(NULL, count, words, &options);
     if (at >= count)

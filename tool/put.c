@@ -78,17 +78,16 @@ static void allow_geometry(const struct geometry *geometry, const char *about)
     uint8_t none = 0, drive[CHURAWEL_WIDE_DRIVE_BYTES];
     uint32_t number = CHURAWEL_NUMBER(log_in(geometry, (struct bytes){&none, 0}, drive));
     if (number != CHURAWEL_REFUSED_VOLUME_LENGTH)
-        refuse("%s: %s (%u): %u,%u,%u; %s", about, words_of(number), number, geometry->block_bytes, geometry->blocks,
-               geometry->directory_blocks, LAWFUL);
+        refuse("%s: %s (%u): %s; %s", about, words_of(number), number, shown_geometry(geometry), LAWFUL);
 }
 
 void new_image(const struct options *options, char **operands, int count)
 {
     (void)count;
     uint8_t drive[CHURAWEL_WIDE_DRIVE_BYTES];
-    struct geometry geometry = geometry_of_new(options->geometry);
+    struct geometry geometry = geometry_of_new(options);
     allow_geometry(&geometry, operands[0]);
-    size_t volume_bytes = (size_t)geometry.block_bytes * geometry.blocks;
+    size_t volume_bytes = bytes_of(&geometry);
     struct bytes volume = {memset(room_for(volume_bytes), EMPTY, volume_bytes), volume_bytes};
     uint32_t answer = log_in(&geometry, volume, drive);
     if (CHURAWEL_NUMBER(answer) != 0)

@@ -65,13 +65,18 @@ const char *shown_file(uint8_t user, const uint8_t *name, char *shown);
 // ---- geometry.c: which sizes a disk has
 
 struct geometry {
-    uint32_t block_bytes, blocks, directory_blocks;
+    uint32_t block_bytes, blocks, directory_blocks, placing;
 };
 
-// By -g, else by the environment, else by the image's length.
-struct geometry geometry_of_image(const char *option, const char *image, uint64_t image_bytes);
-// By -g, else by the environment, else V's.
-struct geometry geometry_of_new(const char *option);
+struct options;
+// By -g and -f, else by the environment, else by the image's length.
+struct geometry geometry_of_image(const struct options *options, const char *image, uint64_t image_bytes);
+// By -g and -f, else by the environment, else V's.
+struct geometry geometry_of_new(const struct options *options);
+// The length of an image.
+size_t bytes_of(const struct geometry *geometry);
+// 1024,40,1, or 1024,243,2 eight-inch.
+const char *shown_geometry(const struct geometry *geometry);
 
 // ---- host.c: memory and files of this machine
 
@@ -118,7 +123,6 @@ struct listed {
     uint32_t records, blocks;
 };
 
-struct options;
 // Logs a volume in: the seam's answer, and the drive, which has room for the longest.
 uint32_t log_in(const struct geometry *geometry, struct bytes volume, uint8_t *drive);
 // Reads an image and its geometry, without log-in.
@@ -156,7 +160,7 @@ const char *inspect(struct disk *disk);
 // ---- the commands
 
 struct options {
-    const char *geometry;
+    const char *geometry, *format;
     const char *gaps;
     int user;
     bool text, replace;
@@ -179,7 +183,7 @@ extern const int COMMANDS_COUNT;
 _Noreturn void show_command_help(const struct command *command);
 
 // The options' letters, one for each; --replace and --gaps have no short form.
-enum { GEOMETRY = 'g', USER = 'u', TEXT = 't', REPLACE = 'R', GAPS = 'G', HELP = 'h', VERSION = 'V' };
+enum { GEOMETRY = 'g', FORMAT = 'f', USER = 'u', TEXT = 't', REPLACE = 'R', GAPS = 'G', HELP = 'h', VERSION = 'V' };
 
 void list(const struct options *options, char **operands, int count);
 void check(const struct options *options, char **operands, int count);

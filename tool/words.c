@@ -36,7 +36,8 @@ static const struct {
 };
 
 #define LAWFUL_WORDS \
-    "B is 1024, 2048 or 4096 and T 2 to 256, or B is 2048 or 4096 and T 257 to 4096, at most 8388608 bytes in all; D is 1 to 16, below T"
+    "B is 1024, 2048 or 4096 and T 2 to 256, or B is 2048 or 4096 and T 257 to 4096, at most 8388608 bytes in all; D is 1 to 16, below T; " \
+    "an eight-inch floppy is 1024,243,2"
 
 const char LAWFUL[] = LAWFUL_WORDS;
 
@@ -96,6 +97,7 @@ static const struct {
     const char *spelled, *what;
 } OPTIONS[] = {
     {GEOMETRY, "-g, --geometry B,T,D", "bytes a block, blocks, blocks of directory"},
+    {FORMAT, "-f, --format FORMAT", "the word eight-inch: the image of an eight-inch floppy"},
     {USER, "-u, --user USER", "files of this user alone"},
     {TEXT, "-t, --text", "as text, which ends at its first 1AH"},
     {REPLACE, "--replace", "a file that is there already is replaced"},
@@ -124,15 +126,15 @@ static const char GENERAL[] =
     "\n"
     "A file on a disk is typed as SIGLA.TXT, or 3:SIGLA.TXT for user 3, in small or capital letters.\n"
     "\n"
-    "The geometry is said by -g, or else by CHURAWEL_GEOMETRY in the environment. Without both an image of 40960 bytes is\n"
-    "1024,40,1.\n"
+    "The geometry is said by -g, or by -f eight-inch, or else by CHURAWEL_GEOMETRY in the environment. Without them an image of 40960\n"
+    "bytes is 1024,40,1, and one of 256256 bytes an eight-inch floppy.\n"
     LAWFUL_WORDS ".\n"
     "\n"
     "An image is changed as a whole or not at all. Exit status: 0 done, 1 refused, 2 wrong use.\n";
 
 void show_help(void)
 {
-    puts("Usage: churawel [-g B,T,D] COMMAND ..\n"
+    puts("Usage: churawel [-g B,T,D] [-f FORMAT] COMMAND ..\n"
          "\n"
          "Lists, checks, reads and changes disk images of SCP 1700 (CP/M-86).\n"
          "\n"
@@ -141,7 +143,7 @@ void show_help(void)
         const char *what = COMMANDS[k].what;
         printf("  %-11s %s\n              %.*s\n", COMMANDS[k].name, COMMANDS[k].operands, (int)strcspn(what, "\n"), what);
     }
-    show_options("ghV");
+    show_options("gfhV");
     fputs(GENERAL, stdout);
     exit(DONE);
 }

@@ -65,7 +65,7 @@ static void put_images_in(void)
     m.dma_offset = DMA;
     for (int i = 0; i < DRIVES; i++) {
         memset(images[i], 0xE5, IMAGE_MOST);
-        uint32_t answer = put_in(&m.disk[i], images[i], (size_t)block[i] * blocks[i], block[i], blocks[i], 1);
+        uint32_t answer = put_in(&m.disk[i], images[i], (size_t)block[i] * blocks[i], block[i], blocks[i], 1, CHURAWEL_STRAIGHT);
         expect("log-in of an empty volume: 0", CHURAWEL_NUMBER(answer), 0);
         expect("all blocks but the directory's are free", CHURAWEL_VALUE(answer), blocks[i] - 1);
     }
@@ -175,6 +175,25 @@ static void protection(void)
     expect("a function that is not served: 255", int224(99, 0, FCB), 255);
 }
 
+/* In the place of the hard disk an eight-inch floppy: record 0 of a file is logical record 16, in sector 20 of track 2. */
+static void floppy(void)
+{
+    memset(images[1], 0xE5, 256256);
+    uint32_t answer = put_in(&m.disk[1], images[1], 256256, 1024, 243, 2, CHURAWEL_EIGHT_INCH);
+    expect("log-in of an empty floppy: 0", CHURAWEL_NUMBER(answer), 0);
+    expect("241 blocks are free", CHURAWEL_VALUE(answer), 241);
+    name(2, "SIGLA   TXT", 0);
+    expect("make on it: code 0", int224(22, 0, FCB), 0);
+    memset(dma(), 'F', 128);
+    expect("write record 0: 0", int224(34, 0, FCB), 0);
+    expect("its bytes stand in sector 20 of track 2", images[1][(2 * 26 + 19) * 128], 'F');
+    expect("13 logs it in anew: 0", int224(13, 0, 0), 0);
+    memset(dma(), 0, 128);
+    name(2, "SIGLA   TXT", 0);
+    expect("read record 0: 0", int224(33, 0, FCB), 0);
+    expect("the record is at the DMA address", dma()[127], 'F');
+}
+
 int main(void)
 {
     put_images_in();
@@ -184,6 +203,7 @@ int main(void)
     searches_and_users();
     overlapping();
     protection();
+    floppy();
     printf("%d passed, %d failed\n", passed, failed);
     return failed > 0;
 }

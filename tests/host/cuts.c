@@ -36,7 +36,7 @@ static uint32_t cut(uint32_t most, uint8_t function, uint8_t parameter)
 static int accepted(void)
 {
     uint8_t drive[CHURAWEL_DRIVE_BYTES];
-    return CHURAWEL_NUMBER(churawel_log_in(G.block, G.total, G.directory, now.volume, lent.volume, drive, sizeof drive)) == 0;
+    return CHURAWEL_NUMBER(churawel_log_in(G.block, G.total, G.directory, CHURAWEL_STRAIGHT, now.volume, lent.volume, drive, sizeof drive)) == 0;
 }
 
 // The volumes that must stand after 0, 1, 2 .. stores, and how many stores there are.

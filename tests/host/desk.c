@@ -9,6 +9,7 @@
 struct desk now;
 struct desk want;
 struct lengths lent;
+uint32_t placing;
 
 static int passed;
 static int failed;
@@ -19,6 +20,7 @@ static size_t span;
 void fresh(struct geometry g)
 {
     lent = (struct lengths){churawel_drive_bytes(g.total), (size_t)g.block * g.total, 36, RECORD};
+    placing = CHURAWEL_STRAIGHT;
     span = offsetof(struct desk, volume) + lent.volume + GUARD;
     memset(&now, 0xA5, span);
     memset(now.drive, 0, lent.drive);
@@ -109,7 +111,7 @@ uint32_t call(uint8_t function, uint8_t parameter)
 
 void log_in(const char *what, struct geometry g, uint32_t number, uint32_t value)
 {
-    uint32_t is = churawel_log_in(g.block, g.total, g.directory, now.volume, lent.volume, now.drive, lent.drive);
+    uint32_t is = churawel_log_in(g.block, g.total, g.directory, placing, now.volume, lent.volume, now.drive, lent.drive);
     compare(what, is, number | value << 16);
 }
 

@@ -28,6 +28,9 @@ extern struct desk now;
 extern struct desk want;
 extern struct lengths lent;
 
+// How records lie in the volume that is lent; `fresh` makes it straight.
+extern uint32_t placing;
+
 // B bytes a block, T blocks, the first D of them directory; and the paper's volume.
 struct geometry {
     uint32_t block, total, directory;
@@ -137,6 +140,7 @@ void why_bad(void);
 void each_line(void);
 void cut_calls(void);
 void hard_disk(void);
+void floppies(void);
 void stack_used(void);
 
 #endif

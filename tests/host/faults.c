@@ -38,7 +38,7 @@ static int says(struct geometry g, uint32_t answer, const uint8_t *bytes)
     memset(fault, 0xAA, sizeof fault);
     memset(expected, 0xAA, sizeof expected);
     memcpy(expected, bytes, CHURAWEL_FAULT_BYTES);
-    uint32_t said = churawel_fault(g.block, g.total, g.directory, now.volume, lent.volume, fault, CHURAWEL_FAULT_BYTES);
+    uint32_t said = churawel_fault(g.block, g.total, g.directory, placing, now.volume, lent.volume, fault, CHURAWEL_FAULT_BYTES);
     return said == answer && memcmp(fault, expected, sizeof fault) == 0 && same_bytes();
 }
 
@@ -132,7 +132,7 @@ static void without_fault(void)
     int good = 1;
     for (size_t length = 0; length <= sizeof fault; length++)
         if (length != CHURAWEL_FAULT_BYTES)
-            good &= churawel_fault(1000, 40, 1, now.volume, lent.volume, fault, length) == 35;
+            good &= churawel_fault(1000, 40, 1, CHURAWEL_STRAIGHT, now.volume, lent.volume, fault, length) == 35;
     for (size_t i = 0; i < sizeof fault; i++)
         good &= fault[i] == 0xAA;
     verdict("a fault of another length: 35 before 32, and nothing changes", good && same_bytes());

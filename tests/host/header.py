@@ -104,6 +104,11 @@ def refusals_in(source):
     return list(dict.fromkeys(lines))
 
 
+def placings_in(source):
+    """how records lie, by the geometry's constants"""
+    return [f"{name} = {number}" for name, number in re.findall(r"const (STRAIGHT|EIGHT_INCH): usize = (\d+);", source)]
+
+
 def halves_in(source):
     """the mask of the number and the shift of the value, by what the value is multiplied with"""
     (step,) = map(int, re.findall(r"number \+ (\d+) \* value", source))
@@ -145,7 +150,7 @@ def lengths_of(header):
 def constants_of(header):
     """the enumerations, each as a list of NAME = NUMBER"""
     lists = re.findall(r"enum { (.*?) }", "\n".join(statements(header)))
-    return [re.sub(r"CHURAWEL_(FN|REFUSED)_", "", body).split(" , ") for body in lists]
+    return [re.sub(r"CHURAWEL_((FN|REFUSED)_)?", "", body).split(" , ") for body in lists]
 
 
 def halves_of(header):
@@ -159,6 +164,7 @@ FUNCTIONS = "the header declares the exported functions, in the source's order"
 LENGTHS_AGREE = "the header's lengths are the source's"
 CALLS_AGREE = "the header's functions have the numbers of call_of"
 REFUSALS_AGREE = "the header's refusals have their numbers and the source's order"
+PLACINGS_AGREE = "the header's placings are the source's"
 HALVES_AGREE = "the header takes an answer apart as the source puts it together"
 
 
@@ -170,13 +176,14 @@ def cases(header, source):
     """what is compared, what the header has, and what the source has"""
     header = bare(header)
     have, want = declared(header), exported(source)
-    calls, refusals = constants_of(header)
+    calls, refusals, placings = constants_of(header)
     yield FUNCTIONS, list(have), list(want)
     for name in want:
         yield signature(name), have.get(name, []), want[name]
     yield LENGTHS_AGREE, lengths_of(header), lengths_in(source)
     yield CALLS_AGREE, calls, calls_in(source)
     yield REFUSALS_AGREE, refusals, refusals_in(source)
+    yield PLACINGS_AGREE, placings, placings_in(source)
     yield HALVES_AGREE, halves_of(header), halves_in(source)
 
 
@@ -233,6 +240,11 @@ WRONG = [
     ("another number of a refusal", r"CHURAWEL_REFUSED_OUTSIDE = 41", "CHURAWEL_REFUSED_OUTSIDE = 31", REFUSALS_AGREE),
     ("a refusal that is missing", r"CHURAWEL_REFUSED_UNTYPEABLE = 45,", "", REFUSALS_AGREE),
     ("two refusals in the other order", r"(\w+_COUNT = 46,)(.*\s*)(\w+_BUFFER_LENGTH = 35,)", r"\3\2\1", REFUSALS_AGREE),
+    ("a log-in without its placing", r"(?s)(_log_in\([^;]*?), uint32_t placing", r"\1", LOG_IN),
+    ("a fault without its placing", r"(?s)(_fault\([^;]*?), uint32_t placing", r"\1", FAULT),
+    ("the placing before the directory", r"(?s)(_log_in\([^;]*?)(uint32_t directory_blocks), (uint32_t placing)", r"\1\3, \2", LOG_IN),
+    ("another number of a placing", r"EIGHT_INCH = 1", "EIGHT_INCH = 2", PLACINGS_AGREE),
+    ("a placing that is missing", r"CHURAWEL_STRAIGHT = 0,", "", PLACINGS_AGREE),
     ("a mask of eight bits", r"& 0xFFFFu", "& 0xFFu", HALVES_AGREE),
     ("a shift by eight bits", r">> 16", ">> 8", HALVES_AGREE),
 ]

@@ -18,6 +18,7 @@ int main(void)
     each_line();
     cut_calls();
     hard_disk();
+    floppies();
     stack_used();
     return summary() == 0 ? 0 : 1;
 }

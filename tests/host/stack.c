@@ -19,7 +19,7 @@ static uint8_t asked, parameter;
 
 static void log_in_there(void)
 {
-    churawel_log_in(B, total, D, volume, volume_bytes, drive, drive_bytes);
+    churawel_log_in(B, total, D, CHURAWEL_STRAIGHT, volume, volume_bytes, drive, drive_bytes);
 }
 
 static void call_there(void)
@@ -36,7 +36,7 @@ static void cut_there(void)
 
 static void fault_there(void)
 {
-    churawel_fault(B, total, D, volume, volume_bytes, buffer, CHURAWEL_FAULT_BYTES);
+    churawel_fault(B, total, D, CHURAWEL_STRAIGHT, volume, volume_bytes, buffer, CHURAWEL_FAULT_BYTES);
 }
 
 static void file_there(void)

@@ -28,7 +28,7 @@ static int accepted(struct geometry g)
 {
     uint8_t drive[CHURAWEL_WIDE_DRIVE_BYTES];
     uint32_t answer =
-        churawel_log_in(g.block, g.total, g.directory, now.volume, lent.volume, drive, churawel_drive_bytes(g.total));
+        churawel_log_in(g.block, g.total, g.directory, CHURAWEL_STRAIGHT, now.volume, lent.volume, drive, churawel_drive_bytes(g.total));
     return CHURAWEL_NUMBER(answer) == 0;
 }
 
@@ -204,7 +204,7 @@ static void bad(const char *what, size_t at, unsigned block, uint8_t rule, uint8
         memcpy(expected + 20, now.volume + (size_t)other * ENTRY, 12);
     }
     as_it_stands();
-    uint32_t said = churawel_fault(HARD.block, HARD.total, HARD.directory, now.volume, lent.volume, fault, sizeof fault);
+    uint32_t said = churawel_fault(HARD.block, HARD.total, HARD.directory, CHURAWEL_STRAIGHT, now.volume, lent.volume, fault, sizeof fault);
     verdict(what, said == (36 | 5u << 16) && memcmp(fault, expected, sizeof fault) == 0 && same_bytes());
     log_in_refused("and log-in: 36 with 5 above", HARD, 36, 5);
 }
@@ -355,7 +355,7 @@ static void largest(uint32_t block, uint32_t total)
     memset(volume, 0xE5, sizeof volume);
     memset(buffer, 7, sizeof buffer);
     memcpy(fcb + 1, DRAFT, 11);
-    uint32_t said = churawel_log_in(block, total, 16, volume, sizeof volume, drive, sizeof drive);
+    uint32_t said = churawel_log_in(block, total, 16, CHURAWEL_STRAIGHT, volume, sizeof volume, drive, sizeof drive);
     snprintf(what, sizeof what, "log-in of %u blocks of %u: all but 16 are free", total, block);
     verdict(what, said == (total - 16) << 16);
     int good = churawel_call(22, 0, drive, sizeof drive, volume, sizeof volume, fcb, sizeof fcb, buffer, RECORD) == 0;

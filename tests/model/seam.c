@@ -2,7 +2,7 @@
    built for the machine that it runs on, and the archive, which is for x86-64, may run under an emulator.
 
    A request: 0 for churawel_log_in, 1 for churawel_call, 2 for churawel_fault, 3 for churawel_file or 4 for churawel_cut, function,
-   parameter, one byte unused; then B, T, D (in B's place churawel_file has the slot and churawel_cut the most stores; what
+   parameter, one byte unused; then B, T, D and placing (in B's place churawel_file has the slot and churawel_cut the most stores; what
    churawel_file and churawel_fault lay is the buffer) and the lengths of drive, volume, control block and buffer, 32 bits each,
    low byte first; then their bytes. The reply: the answer, and which of
    the four (1 to 4, 0 for none) has a byte before or behind it that was changed, 32 bits each; then the four again. */
@@ -63,11 +63,11 @@ static uint32_t ask(const uint8_t *head, struct lent *x)
     uint8_t *drive = x[DRIVE].all + GUARD, *volume = x[VOLUME].all + GUARD;
     uint8_t *control = x[CONTROL].all + GUARD, *buffer = x[BUFFER].all + GUARD;
     if (head[0] == 0)
-        return churawel_log_in(number(head + 4), number(head + 8), number(head + 12), volume, x[VOLUME].length, drive,
-                               x[DRIVE].length);
+        return churawel_log_in(number(head + 4), number(head + 8), number(head + 12), number(head + 16), volume, x[VOLUME].length,
+                               drive, x[DRIVE].length);
     if (head[0] == 2)
-        return churawel_fault(number(head + 4), number(head + 8), number(head + 12), volume, x[VOLUME].length, buffer,
-                              x[BUFFER].length);
+        return churawel_fault(number(head + 4), number(head + 8), number(head + 12), number(head + 16), volume, x[VOLUME].length,
+                              buffer, x[BUFFER].length);
     if (head[0] == 3)
         return churawel_file(drive, x[DRIVE].length, volume, x[VOLUME].length, number(head + 4), buffer, x[BUFFER].length);
     if (head[0] == 4)
@@ -79,12 +79,12 @@ static uint32_t ask(const uint8_t *head, struct lent *x)
 
 int main(void)
 {
-    uint8_t head[32];
+    uint8_t head[36];
     struct lent x[LENT];
     for (;;) {
         take(head, sizeof head);
         for (int i = 0; i < LENT; i++)
-            x[i] = read_lent(number(head + 16 + 4 * i));
+            x[i] = read_lent(number(head + 20 + 4 * i));
         uint32_t answer = ask(head, x), changed = 0;
         for (int i = 0; i < LENT; i++)
             if (changed == 0 && !guards_stand(x[i]))

@@ -1,11 +1,11 @@
 // Our side of the peer test, beside the tool: what the tool does not do, or does in another way. One file read or written by
 // calls, over an image file.
 //
-//     layer IMAGE B T D get USER NAME FILE      by sequential reads
-//     layer IMAGE B T D gather USER NAME FILE   by random reads, the last record first
-//     layer IMAGE B T D scatter USER NAME FILE  make, then random writes, the last record first
-//     layer IMAGE B T D append USER NAME FILE   sequential writes from the file's size on
-//     layer IMAGE B T D patch USER NAME FILE N  random writes from record N on
+//     layer IMAGE B T D PLACING get USER NAME FILE      by sequential reads
+//     layer IMAGE B T D PLACING gather USER NAME FILE   by random reads, the last record first
+//     layer IMAGE B T D PLACING scatter USER NAME FILE  make, then random writes, the last record first
+//     layer IMAGE B T D PLACING append USER NAME FILE   sequential writes from the file's size on
+//     layer IMAGE B T D PLACING patch USER NAME FILE N  random writes from record N on
 //
 // A name is NAME.TYP. A refusal prints its number in brackets, as the tool does, and ends with status 1. The image is written
 // back where the call was done.
@@ -158,17 +158,17 @@ static void write_random(const uint8_t *bytes, size_t n, uint32_t from, int back
 int main(int count, char **words)
 {
     static uint8_t bytes[FILE_MOST];
-    if (count < 9)
+    if (count < 10)
         fail("too few words");
-    const char *image = words[1], *what = words[5], *name = words[7], *path = words[8];
-    uint32_t record = count > 9 ? (uint32_t)atoi(words[9]) : 0;
+    const char *image = words[1], *what = words[6], *name = words[8], *path = words[9];
+    uint32_t record = count > 10 ? (uint32_t)atoi(words[10]) : 0;
     volume_bytes = load(image, volume, sizeof volume);
     uint32_t block = (uint32_t)atoi(words[2]), total = (uint32_t)atoi(words[3]), directory = (uint32_t)atoi(words[4]);
     drive_bytes = churawel_drive_bytes(total);
-    uint32_t answer = churawel_log_in(block, total, directory, volume, volume_bytes, drive, drive_bytes);
+    uint32_t answer = churawel_log_in(block, total, directory, (uint32_t)atoi(words[5]), volume, volume_bytes, drive, drive_bytes);
     if ((answer & 0xFFFF) != 0)
         refused(answer);
-    must(32, (uint8_t)atoi(words[6]));
+    must(32, (uint8_t)atoi(words[7]));
     block_for(name);
     if (strcmp(what, "get") == 0 || strcmp(what, "gather") == 0) {
         save(path, bytes, read_file(bytes, strcmp(what, "gather") == 0));

@@ -37,12 +37,12 @@ def shown(lent):
 class Script:
     """What replay reads, and what it must print."""
 
-    def __init__(self, block_bytes, blocks, directory_blocks, first=b""):
-        """A volume of this geometry, all E5H but for the bytes that stand first."""
+    def __init__(self, block_bytes, blocks, directory_blocks, first=b"", length=None):
+        """A volume of this geometry, all E5H but for the bytes that stand first. The placing is the high byte of the last number."""
         self.bytes = bytearray()
         for number in (block_bytes, blocks, directory_blocks):
             self.bytes += number.to_bytes(2, "little")
-        length = block_bytes * blocks
+        length = block_bytes * blocks if length is None else length
         self.bytes += length.to_bytes(4, "little") + first + bytes([0xE5]) * (length - len(first))
         self.lines = []
 

@@ -1,6 +1,7 @@
 """Every command on every block size: what it prints, what it leaves on the disk, what fills the disk, and names."""
 from desk import Desk
-from disk import EMPTY, HEADING, entries_of, entry, file_on, line, numbers, places, volume
+from disk import (EMPTY, FLOPPY, FLOPPY_BYTES, HEADING, entries_of, entry, file_on, line, numbers, places, skewed, start, unskewed,
+                  volume)
 
 GEOMETRIES = [(1024, 40, 1), (1024, 256, 16), (2048, 160, 2), (4096, 256, 2), (2048, 300, 1), (4096, 257, 2)]
 LARGEST = [(2048, 4096, 16), (4096, 2048, 16)]
@@ -252,7 +253,37 @@ def hard_disks(tally, geometry):
     desk.refused("check of a block beyond the last", "check", "A.IMG", said="", out=f"A.IMG: the disk is not sound (36): {said}".encode())
 
 
+def floppies(tally):
+    """eight-inch floppies: every command does to an image what it does to the unskewed volume, and nothing else"""
+    desk = Desk(tally, "eight-inch floppy")
+    desk.done("new", "-f", "eight-inch", "new", "N.IMG", out=b"N.IMG: an empty disk, free blocks: 241\n")
+    desk.same("new: all bytes are E5H", desk.read("N.IMG"), bytes([EMPTY]) * FLOPPY_BYTES)
+    noise = bytes((k * 7 + k // 128) % 251 for k in range(FLOPPY_BYTES))
+    laid = volume(FLOPPY, {0: entry(name="A.TXT", rc=8, blocks=[2]), 70 - 8: entry(user=3, name="B.TXT", rc=1, blocks=[242])})
+    desk.write("A.IMG", skewed(laid, noise))
+    desk.write("A.VOL", laid)
+    desk.write("in", text_of(30000))
+    straight = ["-g", "1024,243,2"]
+    for words in (["check"], ["list"], ["put", "in", "c.txt"], ["put", "--replace", "-t", "in", "a.txt"], ["get", "c.txt", "-"],
+                  ["type", "a.txt"], ["rename", "c.txt", "d.txt"], ["attributes", "3:b.txt", "+s"], ["erase", "d.txt"], ["list"]):
+        command, options, operands = words[0], [w for w in words[1:] if w.startswith("-") and len(w) > 1], \
+            [w for w in words[1:] if not (w.startswith("-") and len(w) > 1)]
+        by_length = desk.run(command, *options, "A.IMG", *operands)
+        on_volume = desk.run(command, *straight, *options, "A.VOL", *operands)
+        expected = (0, on_volume[1].replace(b"A.VOL", b"A.IMG"), b"")
+        desk.same(f"{' '.join(words)}: as on the unskewed volume", by_length, expected)
+        desk.same(f"{' '.join(words)}: what it leaves", desk.read("A.IMG"), bytes(skewed(desk.read("A.VOL"), noise)))
+    desk.same("the volume is read back", unskewed(desk.read("A.IMG")), desk.read("A.VOL"))
+    desk.done("-f says it too", "list", "-f", "eight-inch", "A.IMG", out=desk.run("list", "A.IMG")[1])
+    image = bytearray(desk.read("A.IMG"))
+    image[start(1)] = 16
+    desk.write("A.IMG", image)
+    said = b"A.IMG: the disk is not sound (36): slot 4 (16:"
+    desk.same("check of a bad slot", desk.run("check", "A.IMG")[1][:len(said)], said)
+
+
 def run(tally):
+    floppies(tally)
     for geometry in LARGEST:
         hard_disks(tally, geometry)
     for geometry in GEOMETRIES:

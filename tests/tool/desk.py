@@ -11,7 +11,7 @@ PROGRAM = ROOT / "target/bin/churawel"
 NATIVE = platform.machine() == "x86_64"
 TOOL = [PROGRAM] if NATIVE else ["qemu-x86_64", PROGRAM]
 C, CPP = ("gcc", "g++") if NATIVE else ("x86_64-linux-gnu-gcc", "x86_64-linux-gnu-g++")
-SECONDS = 60
+SECONDS = 300
 
 
 class Tally:

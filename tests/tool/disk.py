@@ -47,6 +47,29 @@ def entry(user=0, name="SIGLA.TXT", ex=0, s1=0, s2=0, rc=0, blocks=(), geometry=
     return bytes([user]) + name_bytes(name) + bytes([ex, s1, s2, rc]) + laid.ljust(16, b"\0")
 
 
+# An eight-inch floppy: its geometry, its image's length, and the sectors of a track in the order of its logical records.
+FLOPPY, FLOPPY_BYTES = (1024, 243, 2), 77 * 26 * 128
+SECTORS = [1, 7, 13, 19, 25, 5, 11, 17, 23, 3, 9, 15, 21, 2, 8, 14, 20, 26, 6, 12, 18, 24, 4, 10, 16, 22]
+
+
+def start(q):
+    """where logical record q of a floppy begins"""
+    return ((2 + q // 26) * 26 + SECTORS[q % 26] - 1) * 128
+
+
+def unskewed(image):
+    """the volume of a floppy's image"""
+    return b"".join(bytes(image[start(q):start(q) + 128]) for q in range(243 * 8))
+
+
+def skewed(laid, image):
+    """the image with this volume; all else as it was"""
+    image = bytearray(image)
+    for q in range(243 * 8):
+        image[start(q):start(q) + 128] = laid[128 * q:128 * q + 128]
+    return image
+
+
 def volume(geometry, entries):
     """entries by slot; all else is E5H"""
     block, total, _ = geometry

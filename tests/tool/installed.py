@@ -14,7 +14,7 @@ int main(void)
 {
     uint8_t drive[CHURAWEL_DRIVE_BYTES];
     memset(volume, 0xE5, sizeof volume);
-    uint32_t answer = churawel_log_in(1024, 40, 1, volume, sizeof volume, drive, sizeof drive);
+    uint32_t answer = churawel_log_in(1024, 40, 1, CHURAWEL_STRAIGHT, volume, sizeof volume, drive, sizeof drive);
     printf("%u %u\n", CHURAWEL_NUMBER(answer), CHURAWEL_VALUE(answer));
     return 0;
 }

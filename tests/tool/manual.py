@@ -46,7 +46,7 @@ def short(spelled):
 def spellings(spelled):
     """each way to give an option of a help text, with a value where it has one"""
     *_, value = spelled.split(" ")
-    given = {"B,T,D": ["1024,40,1"], "USER": ["3"], "zero": ["zero"]}.get(value, [])
+    given = {"B,T,D": ["1024,40,1"], "FORMAT": ["eight-inch"], "USER": ["3"], "zero": ["zero"]}.get(value, [])
     return [[word.split(" ")[0], *given] for word in spelled.split(", ")]
 
 

@@ -59,7 +59,8 @@ def wrong_names(desk):
 
 def geometries(desk):
     desk.write("odd", bytes(40961))
-    said = "odd has 40961 bytes: say its geometry by -g B,T,D; known without it is an image of 40960 bytes"
+    said = "odd has 40961 bytes: say its geometry by -g B,T,D; known without it are images of 40960 bytes, 1024,40,1, and of 256256 " \
+           "bytes, eight-inch floppies"
     desk.wrong_use("an image of an unknown length", "list", "odd", said=said)
     for text in ("", "1024", "1024,40", "1024,40,1,", "1024,40,x", "1024,,1", "-1,40,1", "1024,40,99999999999"):
         desk.wrong_use(f"-g '{text}'", "-g", text, "list", "V.IMG", said="takes three numbers")
@@ -72,7 +73,7 @@ def geometries(desk):
     for text in ("1000,40,1", "512,80,1", "1024,1,1", "1024,257,1", "1024,40,0", "1024,40,17", "1024,40,40", "8192,5,1",
                  "1024,4096,1", "2048,4097,1", "4096,2049,1", "2048,65576,1", "2048,257,17"):
         lawful = "; B is 1024, 2048 or 4096 and T 2 to 256, or B is 2048 or 4096 and T 257 to 4096, at most 8388608 bytes in all; " \
-                 "D is 1 to 16, below T\n"
+                 "D is 1 to 16, below T; an eight-inch floppy is 1024,243,2\n"
         said = f"no disk has this geometry (32): 40960 bytes, {text}{lawful}"
         desk.refused(f"list with geometry {text}", "-g", text, "list", "V.IMG", said=said)
         desk.refused(f"new with geometry {text}", "-g", text, "new", "N.IMG", said=f"no disk has this geometry (32): {text}{lawful}")
@@ -80,6 +81,12 @@ def geometries(desk):
         desk.write("odd", bytes(bytes_there))
         desk.refused(f"{bytes_there} bytes for V", "-g", "1024,40,1", "list", "odd", said=f"(33): {bytes_there} bytes, 1024,40,1")
     desk.path("odd").unlink()
+    for word in ("", "eight", "8-inch", "straight", "EIGHT-INCH"):
+        desk.wrong_use(f"-f '{word}'", "-f", word, "list", "V.IMG", said="-f takes the word eight-inch")
+    desk.refused("-f on another length", "-f", "eight-inch", "list", "V.IMG", said="(33): 40960 bytes, 1024,243,2 eight-inch\n")
+    desk.refused("-f with other numbers", "-f", "eight-inch", "-g", "1024,40,1", "list", "V.IMG", said="(32): 40960 bytes, 1024,40,1 eight-inch")
+    desk.refused("-f with other numbers for a new one", "-f", "eight-inch", "-g", "1024,242,2", "new", "N.IMG", said="(32): 1024,242,2 eight-inch")
+    desk.refused("-f counts before CHURAWEL_GEOMETRY", "-f", "eight-inch", "list", "V.IMG", said="(33)", environment=other)
 
 
 def changed(laid, at, byte):

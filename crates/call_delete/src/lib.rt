@@ -7,7 +7,7 @@ ghost use Rattle.disk_volume.specs.declared.Wanted.the-variants.{Match};
 ghost use Rattle.disk_geometry.specs.Geometry.{lawful, slots, places};
 ghost use Rattle.disk_held.specs.Held.{heldWords};
 ghost use Rattle.disk_volume.specs.Name.{strip};
-ghost use Rattle.disk_volume.specs.Directory.{findSlot};
+ghost use Rattle.disk_volume.specs.Directory.{findFrom, findSlot};
 ghost use Rattle.disk_volume.specs.CodeLent.{IsVolume, VolumeAnd, IsName, IsEntry};
 ghost use Rattle.call_answers.specs.Refusal.{isNone, first, firstMet};
 ghost use Rattle.disk_stores.specs.Stores.{cut};
@@ -89,7 +89,18 @@ fn free_slot(g: Geometry, volume: &[u8], user: u8, pattern: &[u8], held: &mut [u
     free_entry(g, &volume[at..at + Geometry::ENTRY_BYTES], held);
 }
 
-// The blocks of the entries that match are no longer held, from the first match on.
+// The lowest match from slot `from` on.
+fn match_from(g: Geometry, volume: &[u8], from: usize, user: u8, pattern: &[u8]) -> usize
+    requires { ⌜ IsVolume g (now volume) ⌝ }
+    requires { ⌜ (from ≤ slots g) × IsName (now pattern) ⌝ }
+    ensures { λ r. ⌜
+        (r ≡ findFrom g (now (volume .entry)) user (strip (now (pattern .entry))) Match from) × (r ≤ slots g)
+        ⌝ }
+{
+    directory::find_from(g, volume, from, user, pattern, Wanted::Match)
+}
+
+// The blocks of the entries that match are no longer held, from the first match to the next and so on.
 fn free_matches(
     g: Geometry,
     volume: &[u8],
@@ -110,7 +121,7 @@ fn free_matches(
     let mut i = first;
     while i < slots {
         free_slot(g, volume, user, pattern, held, i);
-        i += 1;
+        i = match_from(g, volume, i + 1, user, pattern);
     }
 }
 

@@ -49,7 +49,7 @@ fn make_why(g: Geometry, volume: &[u8], user: u8, name: &[u8], before: Refusal) 
 {
     let slots = g.slots();
     let taken = directory::find(g, volume, user, name, Wanted::File);
-    let slot = directory::find(g, volume, user, name, Wanted::Empty);
+    let slot = directory::find_empty(g, volume, user, name);
     let exists = call_answers::refuse(Refusal::Exists, taken < slots);
     let no_room = call_answers::refuse(Refusal::NoRoom, slots <= slot);
     let why = call_answers::first_of(before, call_answers::first_of(exists, no_room));

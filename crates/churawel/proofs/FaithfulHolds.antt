@@ -10,7 +10,7 @@ use lib.ListN.{length}
 use borrow.Author.Tests.{not-false, eq-eqb}
 use Rattle.disk_geometry.specs.declared.Geometry.{Geometry}
 use Rattle.disk_geometry.specs.Geometry.{lawful, blocks}
-use Rattle.disk_geometry.proofs.GeometryLaws.{bounds}
+use Rattle.disk_geometry.proofs.GeometryLaws.{Floppy, bounds}
 use Rattle.call_answers.specs.declared.Refusal.the-variants.{Closed}
 use Rattle.call_answers.specs.declared.Answer.the-variants as answer
 use Rattle.call_answers.specs.Refusal.{isNone, firstMet}
@@ -49,9 +49,7 @@ use Rattle.churawel.proofs.CallsLast.{open-lasting, close-lasting, size
 closed-carried : Carried closed
 closed-carried =
     record {
-      block-bytes-16 = omega arith;
-      blocks-16 = omega arith;
-      directory-blocks-16 = omega arith;
+      geometry = record { block-bytes-16 = omega arith; blocks-16 = omega arith; directory-blocks-16 = omega arith; placing-8 = omega arith };
       last = omega arith;
       pattern = refl;
       all-words = refl;
@@ -60,13 +58,21 @@ closed-carried =
       idle = λ e. refl;
     }
 
+-- one of the two placings
+placing-low : (g : Geometry) → (g .placing ≡ 0) ⊎ Floppy g → g .placing < 256
+placing-low g (inl e) = omega arith
+placing-low g (inr f) = omega (arith, f .placed)
+
 logged-in-carried : (g : Geometry) (held : List ℕ) → lawful g ≡ true → StoredOf g held → Carried (loggedIn g held)
 logged-in-carried g held law w =
     let k = bounds g law in
     record {
-      block-bytes-16 = omega (arith, k .block-high);
-      blocks-16 = omega (arith, k .blocks-high);
-      directory-blocks-16 = omega (arith, k .directory-high);
+      geometry = record {
+        block-bytes-16 = omega (arith, k .block-high);
+        blocks-16 = omega (arith, k .blocks-high);
+        directory-blocks-16 = omega (arith, k .directory-high);
+        placing-8 = placing-low g (k .placed);
+      };
       last = omega arith;
       pattern = refl;
       all-words = w .words .size;

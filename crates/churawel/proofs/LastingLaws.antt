@@ -83,7 +83,7 @@ module _ (d : Drive) (l : Lasts d) where
   held-lasts held w =
       let c = l .carried in
       record {
-        carried = record { block-bytes-16 = c .block-bytes-16; blocks-16 = c .blocks-16; directory-blocks-16 = c .directory-blocks-16; last = c .last; pattern = c .pattern; all-words = w .words .size; words = w .words .small; rest = w .rest; idle = c .idle };
+        carried = record { geometry = c .geometry; last = c .last; pattern = c .pattern; all-words = w .words .size; words = w .words .small; rest = w .rest; idle = c .idle };
         opens = l .opens;
       }
 
@@ -92,7 +92,7 @@ module _ (d : Drive) (l : Lasts d) where
   protects-lasts =
       let c = l .carried in
       record {
-        carried = record { block-bytes-16 = c .block-bytes-16; blocks-16 = c .blocks-16; directory-blocks-16 = c .directory-blocks-16; last = c .last; pattern = c .pattern; all-words = c .all-words; words = c .words; rest = c .rest; idle = c .idle };
+        carried = record { geometry = c .geometry; last = c .last; pattern = c .pattern; all-words = c .all-words; words = c .words; rest = c .rest; idle = c .idle };
         opens = l .opens;
       }
 
@@ -101,7 +101,7 @@ module _ (d : Drive) (l : Lasts d) where
       let c = l .carried in
       let o = is-open d (l .opens) in
       record {
-        carried = record { block-bytes-16 = c .block-bytes-16; blocks-16 = c .blocks-16; directory-blocks-16 = c .directory-blocks-16; last = c .last; pattern = c .pattern; all-words = c .all-words; words = c .words; rest = c .rest; idle = c .idle };
+        carried = record { geometry = c .geometry; last = c .last; pattern = c .pattern; all-words = c .all-words; words = c .words; rest = c .rest; idle = c .idle };
         opens = unfold isOpen in rw (o .law, le-leb u 15 h) (o .kept);
       }
 
@@ -111,7 +111,7 @@ module _ (d : Drive) (l : Lasts d) where
       let c = l .carried in
       let o = is-open d (l .opens) in
       record {
-        carried = record { block-bytes-16 = c .block-bytes-16; blocks-16 = c .blocks-16; directory-blocks-16 = c .directory-blocks-16; last = low; pattern = size; all-words = c .all-words; words = c .words; rest = c .rest; idle = λ e. absurd (true≢false (sym kept ∙ ap isKept e)) };
+        carried = record { geometry = c .geometry; last = low; pattern = size; all-words = c .all-words; words = c .words; rest = c .rest; idle = λ e. absurd (true≢false (sym kept ∙ ap isKept e)) };
         opens = unfold isOpen in rw (o .law, le-leb (d .user) 15 (o .user15)) good;
       }
 

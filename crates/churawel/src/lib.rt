@@ -6,7 +6,7 @@ ghost use mathlib.Core.List.{List, []};
 ghost use Rattle.call_answers.specs.Answer.{numberOf, valueOf};
 ghost use Rattle.call_served.specs.Calls.{callOf};
 ghost use Rattle.call_served.specs.declared.Call.the-variants.{LogIn};
-ghost use Rattle.disk_geometry.specs.Geometry.{geometryOf};
+ghost use Rattle.disk_geometry.specs.Geometry.{geometryOf, withPlacing};
 ghost use Rattle.filecalls.specs.State.{isOpen};
 ghost use Rattle.filecalls.specs.CodeFront.{frontOf, joined};
 ghost use Rattle.bdos.specs.CodeWay.{wayOf, asks, changes};
@@ -42,6 +42,18 @@ fn wide(b: u8) -> u32
     ensures { λ r. ⌜ (r ≡ b) × (r < 256) ⌝ }
 {
     b as u32
+}
+
+// The geometry of a caller's four numbers.
+fn geometry(block_bytes: u32, blocks: u32, directory_blocks: u32, placing: u32) -> Geometry
+    ensures { λ r. ⌜ r ≡ withPlacing (geometryOf «block_bytes» blocks «directory_blocks») placing ⌝ }
+{
+    Geometry {
+        block_bytes: size(block_bytes),
+        blocks: size(blocks),
+        directory_blocks: size(directory_blocks),
+        placing: size(placing),
+    }
 }
 
 // The answer as one number: its number in the low 16 bits, the value beside it in the high 16.
@@ -211,19 +223,17 @@ pub extern "C" fn churawel_log_in(
     block_bytes: u32,
     blocks: u32,
     directory_blocks: u32,
+    placing: u32,
     volume: &[u8],
     drive: &mut [u8],
 ) -> u32
     ensures { λ r. ⌜
         sealed r (now (drive .exit)) (now (volume .entry)) [] []
-        ≡ logInAtSeam (geometryOf «block_bytes» blocks «directory_blocks») (now (volume .entry)) (now (drive .entry))
+        ≡ logInAtSeam (withPlacing (geometryOf «block_bytes» blocks «directory_blocks») placing) (now (volume .entry))
+        (now (drive .entry))
         ⌝ }
 {
-    let g = Geometry {
-        block_bytes: size(block_bytes),
-        blocks: size(blocks),
-        directory_blocks: size(directory_blocks),
-    };
+    let g = geometry(block_bytes, blocks, directory_blocks, placing);
     if drive.len() != drive_bytes::length_for(g.blocks) {
         return seal(Answer::Refused(Refusal::Closed));
     }
@@ -315,22 +325,20 @@ pub extern "C" fn churawel_fault(
     block_bytes: u32,
     blocks: u32,
     directory_blocks: u32,
+    placing: u32,
     volume: &[u8],
     fault: &mut [u8],
 ) -> u32
     ensures { λ r. ⌜
         explained r (now (fault .exit))
-        ≡ faultAtSeam (geometryOf «block_bytes» blocks «directory_blocks») (now (volume .entry)) (now (fault .entry))
+        ≡ faultAtSeam (withPlacing (geometryOf «block_bytes» blocks «directory_blocks») placing) (now (volume .entry))
+        (now (fault .entry))
         ⌝ }
 {
     if fault.len() != fault::FAULT_BYTES {
         return seal(Answer::Refused(Refusal::BufferLength));
     }
-    let g = Geometry {
-        block_bytes: size(block_bytes),
-        blocks: size(blocks),
-        directory_blocks: size(directory_blocks),
-    };
+    let g = geometry(block_bytes, blocks, directory_blocks, placing);
     let reply = Drive::log_in(g, volume);
     let answer = reply.answer;
     fault::put_fault_for(fault, g, volume, answer);

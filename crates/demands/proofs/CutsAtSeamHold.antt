@@ -32,7 +32,7 @@ use Rattle.demands.proofs.CutsHold.{any-cut}
 
 -- a drive that is open, by its bytes s, as many as lent
 module _ (g : Geometry) (c : Asked) (s v : List ℕ) (opens : isOpen (decoded s) ≡ true) (same : decoded s .geometry ≡ g) (lent : List ℕ) (size : length lent ≡ driveBytes (blocks g)) where
-  cut-open : (most : ℕ) → cutAtSeam most (c .function) (c .parameter) s v (c .fcb) (c .buffer)
+  pub cut-open : (most : ℕ) → cutAtSeam most (c .function) (c .parameter) s v (c .fcb) (c .buffer)
       ≡ sealed (refusedBy (step g c (decoded s) v .answer) + 65536 * min most (length (storesOf c (decoded s) v))) (zeros lent)
       (cut g v most (storesOf c (decoded s) v)) (c .fcb) (c .buffer)
   unfolding cutAtSeam

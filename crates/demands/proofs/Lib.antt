@@ -55,5 +55,11 @@ pub mod StoresInTurn
 pub mod DoneBefore
 pub mod CutsHold
 pub mod CutsAtSeamHold
+pub mod EightInchActs
+pub mod EightInchCalls
+pub mod EightInchHolds
+pub mod EightInchImage
+pub mod EightInchAtSeamHolds
 pub mod WrongWaysFail
 pub mod WrongOrdersFail
+pub mod WrongPlacingsFail

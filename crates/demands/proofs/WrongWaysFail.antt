@@ -12,7 +12,7 @@ use borrow.Author.Tests.{ltb-true}
 use Rattle.lists.specs.Bounded.{lowFrom, anyFrom, everyFrom, countFrom, fold}
 use Rattle.lists.specs.Bytes.{byte, part, put, all}
 use Rattle.disk_geometry.specs.declared.Geometry.{Geometry}
-use Rattle.disk_geometry.specs.Geometry.{lawful, start, slotStart, recordStart, groupOf, placeOf, inside, places, geometryOf}
+use Rattle.disk_geometry.specs.Geometry.{lawful, bytes, start, slotStart, recordStart, groupOf, placeOf, inside, places, geometryOf}
 use Rattle.disk_volume.specs.Name.{strip, nameAt, same, like, goodName}
 use Rattle.disk_volume.specs.Entry.{blockIn, withBlock, countOf, ofFile, ofGroup, matches}
 use Rattle.disk_volume.specs.Directory.{slotAt, putSlot, findSlot, mapSlot}
@@ -54,7 +54,7 @@ use Rattle.demands.specs.WrongWays.{refusesEvery, readsNothing, storesNo
 
 -- what has to compute where a call is evaluated
 unfoldable pub computes : Unit {0}
-unfolding lowFrom anyFrom everyFrom countFrom fold part put all lawful start slotStart recordStart groupOf placeOf inside strip nameAt same like goodName places blockIn withBlock countOf ofFile ofGroup matches slotAt putSlot findSlot mapSlot recordSlot counted present recordAt putRecord fillRecord putFilled digit holds hold release wordOf wordsOf lowestFree freeCount position random setTo firstMet goodFields goodTopBits inPlaces namesBlock namedBelow goodPlace seenBelow goodSlot lowestBad named heldOf readBlock readTests readBytes changed deleteTests freePlace freeEntry freeSlot freeMatches alloc likeEntry grown writeSlot baseEntry needsBlock writeBlock writtenEntry writeTests isOpen outcome unless laid fillStores recordStores entryStores mapPiece sweepStores changedState logIn logInTests refusedLogIn deleteLadder deleteAct sequentialTests randomTests readDone readRandomAct writeEntry writeDone writeSequentialAct writeRandomAct writeZeroFillAct callOf does carries step
+unfolding lowFrom anyFrom everyFrom countFrom fold part put all lawful bytes start slotStart recordStart groupOf placeOf inside strip nameAt same like goodName places blockIn withBlock countOf ofFile ofGroup matches slotAt putSlot findSlot mapSlot recordSlot counted present recordAt putRecord fillRecord putFilled digit holds hold release wordOf wordsOf lowestFree freeCount position random setTo firstMet goodFields goodTopBits inPlaces namesBlock namedBelow goodPlace seenBelow goodSlot lowestBad named heldOf readBlock readTests readBytes changed deleteTests freePlace freeEntry freeSlot freeMatches alloc likeEntry grown writeSlot baseEntry needsBlock writeBlock writtenEntry writeTests isOpen outcome unless laid fillStores recordStores entryStores mapPiece sweepStores changedState logIn logInTests refusedLogIn deleteLadder deleteAct sequentialTests randomTests readDone readRandomAct writeEntry writeDone writeSequentialAct writeRandomAct writeZeroFillAct callOf does carries step
 computes = tt
 
 -- ---- the volume: B 1,024, T 4, D 1, three files. A has record 0 in block 1; B and C have no block; block 2 has old bytes

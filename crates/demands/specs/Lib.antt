@@ -14,5 +14,8 @@ pub mod RenamingOnV
 pub mod ZeroFill
 pub mod Cuts
 pub mod CutsAtSeam
+pub mod EightInch
+pub mod EightInchAtSeam
 pub mod WrongWays
 pub mod WrongOrders
+pub mod WrongPlacings

@@ -11,7 +11,7 @@ use lib.ListN.{replicate, set}
 use Rattle.lists.specs.Bounded.{lowFrom, anyFrom, everyFrom, countFrom, fold}
 use Rattle.lists.specs.Bytes.{byte, part, put, all}
 use Rattle.disk_geometry.specs.declared.Geometry.{Geometry}
-use Rattle.disk_geometry.specs.Geometry.{lawful, start, slotStart, groupOf, inside, places, geometryOf}
+use Rattle.disk_geometry.specs.Geometry.{lawful, bytes, start, slotStart, groupOf, inside, places, geometryOf}
 use Rattle.disk_volume.specs.Name.{strip, nameAt, same, goodName}
 use Rattle.call_typing.specs.Typing.{typeableByte, blankBefore, typeable}
 use Rattle.disk_volume.specs.Entry.{Entry, blockIn, ofFile, ofGroup}
@@ -87,7 +87,7 @@ abbrev pub back : List ℕ
 back = topped 25 (renaming temporary draft)
 
 pub logged-in : logIn geometryV (volumeV draft) ≡ record { answer = Ready 34; drive = stateV }
-unfolding logIn logInTests firstMet lawful heldOf named wordOf wordsOf freeCount digit holds countFrom lowestBad goodSlot goodFields goodTopBits goodPlace inPlaces namesBlock namedBelow seenBelow lowFrom anyFrom everyFrom part all start slotStart groupOf inside strip nameAt same goodName places blockIn ofFile ofGroup slotAt
+unfolding logIn logInTests firstMet lawful bytes heldOf named wordOf wordsOf freeCount digit holds countFrom lowestBad goodSlot goodFields goodTopBits goodPlace inPlaces namesBlock namedBelow seenBelow lowFrom anyFrom everyFrom part all start slotStart groupOf inside strip nameAt same goodName places blockIn ofFile ofGroup slotAt
 logged-in = refl
 
 -- ---- what is asked is met
@@ -96,7 +96,7 @@ unfolding lowestBad goodSlot goodFields goodTopBits goodPlace inPlaces namesBloc
 inspected = refl
 
 pub drafts : Drafts stateV (volumeV draft) draft temporary finished
-unfolding isOpen lawful goodName typeable typeableByte blankBefore all same findSlot lowFrom ofFile strip nameAt part slotAt slotStart start
+unfolding isOpen lawful bytes goodName typeable typeableByte blankBefore all same findSlot lowFrom ofFile strip nameAt part slotAt slotStart start
 drafts = record {
   is-open = refl;
   volume-length = refl;
@@ -148,7 +148,7 @@ pub record OnV : Type 0 where
   pub back-is : rename stateV (volumeV temporary) back ≡ done stateV back (volumeV draft)
 
 pub on-v : OnV
-unfolding outcome unless firstMet laid fillStores recordStores entryStores mapPiece sweepStores changedState renameAct renameLadder renameTests renamed changed isOpen lawful goodName typeable typeableByte blankBefore all same findSlot lowFrom anyFrom fold mapSlot putSlot put ofFile strip nameAt part slotAt slotStart start
+unfolding outcome unless firstMet laid fillStores recordStores entryStores mapPiece sweepStores changedState renameAct renameLadder renameTests renamed changed isOpen lawful bytes goodName typeable typeableByte blankBefore all same findSlot lowFrom anyFrom fold mapSlot putSlot put ofFile strip nameAt part slotAt slotStart start
 on-v = record { there-is = refl; on-is = refl; direct-is = refl; back-is = refl }
 
 -- ---- an altered volume: B 1,024, T 2, D 1, and an entry with a top bit on byte 1. All is met but inspection, and renaming
@@ -167,7 +167,7 @@ unfolding lowestBad goodSlot goodFields goodTopBits goodPlace inPlaces namesBloc
 refused-altered = refl
 
 pub drafts-altered : Drafts stateAltered (volumeAltered topped1) draft temporary finished
-unfolding isOpen lawful goodName typeable typeableByte blankBefore all same findSlot lowFrom ofFile strip nameAt part slotAt slotStart start
+unfolding isOpen lawful bytes goodName typeable typeableByte blankBefore all same findSlot lowFrom ofFile strip nameAt part slotAt slotStart start
 drafts-altered = record {
   is-open = refl;
   volume-length = refl;
@@ -187,5 +187,5 @@ drafts-altered = record {
 }
 
 pub altered-trace : thenRename (rename stateAltered (volumeAltered topped1) there) back ≡ done stateAltered back (volumeAltered (entry 0 draft 0 0 0 0))
-unfolding outcome unless firstMet laid fillStores recordStores entryStores mapPiece sweepStores changedState renameAct renameLadder renameTests renamed changed isOpen lawful goodName typeable typeableByte blankBefore all same findSlot lowFrom anyFrom fold mapSlot putSlot put ofFile strip nameAt part slotAt slotStart start
+unfolding outcome unless firstMet laid fillStores recordStores entryStores mapPiece sweepStores changedState renameAct renameLadder renameTests renamed changed isOpen lawful bytes goodName typeable typeableByte blankBefore all same findSlot lowFrom anyFrom fold mapSlot putSlot put ofFile strip nameAt part slotAt slotStart start
 altered-trace = refl

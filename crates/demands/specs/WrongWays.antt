@@ -37,7 +37,7 @@ use Rattle.demands.specs.ZeroFill.{ZeroFillOf}
 
 -- ---- what the ways are written with
 -- the functions of these numbers are done by another way
-abbrev instead : List ℕ → (Geometry → Way) → Geometry → Way
+abbrev pub instead : List ℕ → (Geometry → Way) → Geometry → Way
 instead ns way g c d v = cond (among (c .function) ns) (way g c d v) (step g c d v)
 
 -- an answer, with a state and a volume, and control block and buffer as given
@@ -48,7 +48,7 @@ answering a c d v = left (record { answer = a; drive = d }) v (c .fcb) (c .buffe
 abbrev withDrive : Outcome → Drive → Outcome
 withDrive o d = record { answer = o .answer; drive = d; volume = o .volume; fcb = o .fcb; buffer = o .buffer }
 
-abbrev withVolume : Outcome → List ℕ → Outcome
+abbrev pub withVolume : Outcome → List ℕ → Outcome
 withVolume o v = record { answer = o .answer; drive = o .drive; volume = v; fcb = o .fcb; buffer = o .buffer }
 
 abbrev withFcb : Outcome → List ℕ → Outcome

@@ -1,18 +1,21 @@
 -- What a lawful geometry's sizes are, and where its records and slots lie: inside the volume, and apart from each other.
--- Only `start-in` and `start-apart` know how records lie. Of two things apart the first lies before the second, or behind it.
+-- Only `start-in`, `start-apart` and `start-straight` know how records lie. Of two things apart the first lies before the second,
+-- or behind it.
 use mathlib.Core.Path.{_≡_, refl, sym, ap, _∙_}
-use mathlib.Core.Bool.{Bool, true, false, _&&_, _||_, false≢true, true≢false}
+use mathlib.Core.Bool.{Bool, true, false, _&&_, _||_, and-true, true≢false}
 use mathlib.Core.Logic.{_⊎_, inl, inr, ⊎-elim, _≢_}
 use Prim.Native.Nat.{ℕ, suc, _+_, _*_, _/_, _%_, _^_, _≤_, _<_}
 use native.Mathlib.Decide.{ℕ-discrete}
 use native.Mathlib.Nat.{mul-comm, mul-le-mul, mul-le-mul-right, mod-lt, div-lt-iff-lt-mul, div-add-mod', div-div-eq-div-mul}
 use native.Mathlib.Omega.{arith}
 use lib.Arith.{digits-lt, digits-div, mod-mul}
-use lib.Dec.{leb, ltb}
+use lib.Dec.{leb, ltb, eqb}
 use borrow.Author.Tests.{leb-true, ltb-true, ltb-false, le-ltb, eqb-true}
-use Rattle.lists.proofs.BoolLaws.{and-parts}
+use Rattle.lists.proofs.BoolLaws.{and-parts, and-left}
 use Rattle.disk_geometry.specs.declared.Geometry.{Geometry}
-use Rattle.disk_geometry.specs.Geometry.{lawful, bytes, numberBytes, records, extents, start, slots, slotStart, recordStart, groupOf, placeOf, places}
+use Rattle.disk_geometry.specs.EightInch.{trackRecords, imageBytes, imageStart}
+use Rattle.disk_geometry.specs.Geometry.{straight, withPlacing, floppy, isFloppy, lawfulSizes, lawful, bytes, numberBytes, records, extents, start, slots, slotStart, recordStart, groupOf, placeOf, places}
+use Rattle.disk_geometry.proofs.EightInchLaws.{less-or-more, image-in, image-apart}
 
 -- ---- the map of an entry, of any geometry: its numbers take one byte or two, and fill it
 pub record MapSizes (g : Geometry) : Type 0 where
@@ -28,6 +31,40 @@ map-sizes g = go (leb (g .blocks) 256) refl
     go : (t : Bool) → leb (g .blocks) 256 ≡ t → MapSizes g
     go true q = record { some-bytes = rw q (omega arith); few-bytes = rw q (omega arith); full = rw q; places-high = rw q (omega arith) }
     go false q = record { some-bytes = rw q (omega arith); few-bytes = rw q (omega arith); full = rw q; places-high = rw q (omega arith) }
+
+-- ---- the placing
+-- the numbers of an eight-inch disk
+pub record Floppy (g : Geometry) : Type 0 where
+  pub placed : g .placing ≡ 1
+  pub block : g .«block_bytes» ≡ 1024
+  pub blocks-are : g .blocks ≡ 243
+  pub directory : g .«directory_blocks» ≡ 2
+
+pub is-floppy : (g : Geometry) → isFloppy g ≡ true → Floppy g
+is-floppy g e =
+    let p = and-parts _ _ e in
+    let q = and-parts _ _ (p .0) in
+    let r = and-parts _ _ (q .0) in
+    record { placed = eqb-true _ _ (r .0); block = eqb-true _ _ (r .1); blocks-are = eqb-true _ _ (q .1); directory = eqb-true _ _ (p .1) }
+
+is-floppy-test : (g : Geometry) → Floppy g → isFloppy g ≡ true
+is-floppy-test g f = rw (f .placed, f .block, f .blocks-are, f .directory)
+
+placed-by : (g : Geometry) → eqb (g .placing) 0 || isFloppy g ≡ true → (g .placing ≡ 0) ⊎ Floppy g
+placed-by g e = go (eqb (g .placing) 0) refl e
+  where
+    go : (t : Bool) → eqb (g .placing) 0 ≡ t → t || isFloppy g ≡ true → (g .placing ≡ 0) ⊎ Floppy g
+    go true q f = inl (eqb-true _ _ q)
+    go false q f = inr (is-floppy g f)
+
+-- the volume's length, by the placing
+pub bytes-straight : (g : Geometry) → g .placing ≡ 0 → bytes g ≡ g .blocks * g .«block_bytes»
+unfolding bytes
+bytes-straight g e = rw e
+
+pub bytes-floppy : (g : Geometry) → g .placing ≡ 1 → bytes g ≡ imageBytes
+unfolding bytes
+bytes-floppy g e = rw e
 
 -- ---- the sizes
 pub record Bounds (g : Geometry) : Type 0 where
@@ -51,6 +88,8 @@ pub record Bounds (g : Geometry) : Type 0 where
   pub part-records : g .«directory_blocks» * records g ≤ g .blocks * records g
   pub slots-bytes : slots g * 32 ≡ g .«directory_blocks» * g .«block_bytes»
   pub slots-high : slots g ≤ 2048
+  pub placed : (g .placing ≡ 0) ⊎ Floppy g
+  pub bytes-high : bytes g ≤ 8388608
 
 -- each of the three block sizes is a number of records
 in-records : (b : ℕ) → (b ≡ 1024) ⊎ ((b ≡ 2048) ⊎ (b ≡ 4096)) → (b / 128 * 128 ≡ b) × ((1024 ≤ b) × (b ≤ 4096))
@@ -97,10 +136,10 @@ record Sized (g : Geometry) : Type 0 where
   entries : Entries (g .blocks) (g .«block_bytes») (numberBytes g)
 
 sized : (g : Geometry) → (g .«block_bytes» ≡ 1024) ⊎ ((g .«block_bytes» ≡ 2048) ⊎ (g .«block_bytes» ≡ 4096))
-    → leb (g .blocks) 256 || (leb (g .blocks) 4096 && leb 2048 (g .«block_bytes») && leb (bytes g) 8388608) ≡ true → Sized g
+    → leb (g .blocks) 256 || (leb (g .blocks) 4096 && leb 2048 (g .«block_bytes») && leb (g .blocks * g .«block_bytes») 8388608) ≡ true → Sized g
 sized g sizes e = go (leb (g .blocks) 256) refl e
   where
-    go : (t : Bool) → leb (g .blocks) 256 ≡ t → t || (leb (g .blocks) 4096 && leb 2048 (g .«block_bytes») && leb (bytes g) 8388608) ≡ true → Sized g
+    go : (t : Bool) → leb (g .blocks) 256 ≡ t → t || (leb (g .blocks) 4096 && leb 2048 (g .«block_bytes») && leb (g .blocks * g .«block_bytes») 8388608) ≡ true → Sized g
     go true q f =
         let low : g .blocks ≤ 256 = leb-true _ _ q in
         record { high = omega arith; whole = omega (arith, mul-le-mul low (in-records (g .«block_bytes») sizes .1 .1)); entries = rw q (one-byte _ _ sizes low) }
@@ -112,7 +151,8 @@ sized g sizes e = go (leb (g .blocks) 256) refl e
 pub bounds : (g : Geometry) → lawful g ≡ true → Bounds g
 unfolding lawful places
 bounds g e =
-    let p₁ = and-parts _ _ e in
+    let p₀ = and-parts (lawfulSizes g) (eqb (g .placing) 0 || isFloppy g) e in
+    let p₁ = and-parts _ _ (p₀ .0) in
     let p₂ = and-parts _ _ (p₁ .0) in
     let p₃ = and-parts _ _ (p₂ .0) in
     let p₄ = and-parts _ _ (p₃ .0) in
@@ -147,25 +187,79 @@ bounds g e =
       part-records = mul-le-mul-right (g .«block_bytes» / 128) (omega arith);
       slots-bytes = omega arith;
       slots-high = omega arith;
+      placed = placed-by g (p₀ .1);
+      bytes-high =
+          ⊎-elim
+          (λ (z : g .placing ≡ 0). rw (bytes-straight g z) (k .whole))
+          (λ (f : Floppy g). rw (bytes-floppy g (f .placed)) (omega arith))
+          (placed-by g (p₀ .1));
     }
 
--- ---- where records and slots lie
-less-or-more : (p q : ℕ) → p ≢ q → (p < q) ⊎ (q < p)
-less-or-more p q ne = go (ltb p q) refl
+-- a lawful geometry that is not straight is that of an eight-inch disk
+pub placed-floppy : (g : Geometry) → lawful g ≡ true → g .placing ≢ 0 → Floppy g
+placed-floppy g good ne = ⊎-elim (λ (z : g .placing ≡ 0). absurd (ne z)) (λ (f : Floppy g). f) (bounds g good .placed)
+
+pub is-the-floppy : (g : Geometry) → Floppy g → g ≡ floppy
+is-the-floppy g f = λ i. record { «block_bytes» = f .block i; blocks = f .blocks-are i; «directory_blocks» = f .directory i; placing = f .placed i }
+
+floppy-lawful : (g : Geometry) → Floppy g → lawful g ≡ true
+unfolding lawful
+floppy-lawful g f = rw (f .placed, f .block, f .blocks-are, f .directory)
+
+-- a straight geometry is lawful by its sizes alone
+pub lawful-straight : (g : Geometry) → g .placing ≡ 0 → lawful g ≡ lawfulSizes g
+unfolding lawful
+lawful-straight g e = rw e (and-true _)
+
+pub straight-lawful : (g : Geometry) → lawful g ≡ true → lawful (withPlacing g straight) ≡ true
+unfolding lawful
+straight-lawful g e = lawful-straight (withPlacing g straight) refl ∙ and-left _ _ e
+
+-- a placing that is not straight is lawful with the numbers of an eight-inch disk, and with no others
+pub lawful-placed : (g : Geometry) → g .placing ≢ 0 → lawful g ≡ isFloppy g
+lawful-placed g ne = go (isFloppy g) refl
   where
-    go : (t : Bool) → ltb p q ≡ t → (p < q) ⊎ (q < p)
-    go true e = inl (ltb-true p q e)
-    go false e = inr (omega (arith, ltb-false p q e))
+    go : (t : Bool) → isFloppy g ≡ t → lawful g ≡ t
+    go true e = floppy-lawful g (is-floppy g e)
+    go false e = not-lawful (lawful g) refl
+      where
+        not-lawful : (u : Bool) → lawful g ≡ u → u ≡ false
+        not-lawful false p = refl
+        not-lawful true p = absurd (true≢false (sym (is-floppy-test g (placed-floppy g p ne)) ∙ e))
+
+-- ---- where records and slots lie
+-- the records of an eight-inch disk's blocks are some of its tracks'
+pub floppy-record : (g : Geometry) → Floppy g → (q : ℕ) → q < g .blocks * records g → q < trackRecords
+floppy-record g f q h = let k : q < 243 * (1024 / 128) = rw (f .blocks-are, f .block) at h in omega arith
 
 module _ (g : Geometry) (good : lawful g ≡ true) where
-  pub start-in : (q : ℕ) → q < g .blocks * records g → start g q + 128 ≤ bytes g
+  -- on a straight volume one record lies behind the other
+  pub start-straight : (q : ℕ) → g .placing ≡ 0 → start g q ≡ q * 128
   unfolding start
-  start-in q h = let a : suc q * 128 ≤ g .blocks * records g * 128 = mul-le-mul-right 128 h in omega (arith, bounds g good)
+  start-straight q e = rw e
+
+  pub start-floppy : (q : ℕ) → g .placing ≡ 1 → start g q ≡ imageStart q
+  unfolding start
+  start-floppy q e = rw e
+
+  pub start-in : (q : ℕ) → q < g .blocks * records g → start g q + 128 ≤ bytes g
+  start-in q h =
+      ⊎-elim
+      (λ (e : g .placing ≡ 0).
+      let a : suc q * 128 ≤ g .blocks * records g * 128 = mul-le-mul-right 128 h in
+      rw (start-straight q e, bytes-straight g e) (omega (arith, bounds g good)))
+      (λ (f : Floppy g). rw (start-floppy q (f .placed), bytes-floppy g (f .placed)) (image-in q (floppy-record g f q h)))
+      (bounds g good .placed)
 
   pub start-apart : (p q : ℕ) → p < g .blocks * records g → q < g .blocks * records g → p ≢ q
       → (start g p + 128 ≤ start g q) ⊎ (start g q + 128 ≤ start g p)
-  unfolding start
-  start-apart p q hp hq ne = ⊎-elim (λ (k : p < q). inl (omega arith)) (λ (k : q < p). inr (omega arith)) (less-or-more p q ne)
+  start-apart p q hp hq ne =
+      ⊎-elim
+      (λ (e : g .placing ≡ 0).
+      rw (start-straight p e, start-straight q e)
+      (⊎-elim (λ (k : p < q). inl (omega arith)) (λ (k : q < p). inr (omega arith)) (less-or-more p q ne)))
+      (λ (f : Floppy g). rw (start-floppy p (f .placed), start-floppy q (f .placed)) (image-apart p q ne))
+      (bounds g good .placed)
 
   -- ---- slots
   -- the record that holds slot i is one of the directory's
@@ -174,6 +268,11 @@ module _ (g : Geometry) (good : lawful g ≡ true) where
 
   pub slot-record-below : (i : ℕ) → i < slots g → i / 4 < g .blocks * records g
   slot-record-below i h = omega (arith, bounds g good)
+
+  -- on a straight volume one slot lies behind the other
+  pub slot-straight : (i : ℕ) → g .placing ≡ 0 → slotStart g i ≡ i * 32
+  unfolding slotStart
+  slot-straight i e = rw (start-straight (i / 4) e) (omega arith)
 
   pub slot-in : (i : ℕ) → i < slots g → slotStart g i + 32 ≤ bytes g
   unfolding slotStart

@@ -4,10 +4,10 @@ use mathlib.Core.Bool.{Bool, true, false, cond, _&&_, _||_, false≢true}
 use Prim.Native.Nat.{ℕ, _*_, _≤_}
 use native.Mathlib.Omega.{arith}
 use lib.Dec.{leb, ltb, eqb}
-use borrow.Author.Tests.{leb-true, le-leb, eqb-true}
+use borrow.Author.Tests.{leb-true, leb-false, le-leb, ltb-true, eqb-true}
 use Rattle.lists.proofs.BoolLaws.{and-parts}
 use Rattle.disk_geometry.specs.declared.Geometry.{Geometry}
-use Rattle.disk_geometry.specs.Geometry.{lawful}
+use Rattle.disk_geometry.specs.Geometry.{lawfulSizes}
 use Rattle.disk_geometry.specs.CodeMost.{mostOf}
 
 -- two tests that pass together are one
@@ -53,8 +53,20 @@ none t = go (leb 2 t) (leb t 0) refl refl
 abbrev rule : ℕ → ℕ → Bool → Bool
 rule t d sized = leb 2 t && sized && leb 1 d && leb d 16 && ltb d t
 
-pub by-most : (g : Geometry) → lawful g ≡ rule (g .blocks) (g .«directory_blocks») (leb (g .blocks) (mostOf g))
-unfolding lawful
+-- T is above D, so it is 2 at least
+two-at-least : (t d : ℕ) (sized : Bool) → rule t d sized ≡ (sized && leb 1 d && leb d 16 && ltb d t)
+two-at-least t d sized = go (leb 2 t) refl
+  where
+    go : (x : Bool) → leb 2 t ≡ x → (x && sized && leb 1 d && leb d 16 && ltb d t) ≡ (sized && leb 1 d && leb d 16 && ltb d t)
+    go true q = refl
+    go false q =
+        together false (sized && leb 1 d && leb d 16 && ltb d t) (λ e. absurd (false≢true e))
+        (λ e.
+        let p = and-parts (sized && leb 1 d && leb d 16) (ltb d t) e in
+        let r = and-parts (sized && leb 1 d) (leb d 16) (p .0) in
+        absurd (omega (arith, leb-false 2 t q, ltb-true d t (p .1), leb-true 1 d (and-parts sized (leb 1 d) (r .0) .1))))
+
+pub by-most : (g : Geometry) → lawfulSizes g ≡ rule (g .blocks) (g .«directory_blocks») (leb (g .blocks) (mostOf g))
 by-most g = one (eqb b 1024) refl
   where
     t : ℕ
@@ -67,7 +79,7 @@ by-most g = one (eqb b 1024) refl
     b = g .«block_bytes»
 
     Says : Type 0
-    Says = lawful g ≡ rule (g .blocks) (g .«directory_blocks») (leb (g .blocks) (mostOf g))
+    Says = lawfulSizes g ≡ rule (g .blocks) (g .«directory_blocks») (leb (g .blocks) (mostOf g))
 
     four : (x : Bool) → eqb b 1024 ≡ false → eqb b 2048 ≡ false → eqb b 4096 ≡ x → Says
     four true p q r = rw (eqb-true b 4096 r) (ap (rule t d) (several t 4096 2048 (omega arith) (omega arith) (omega arith) (λ h. omega (arith, h)) (λ h. omega (arith, h))))
@@ -80,3 +92,7 @@ by-most g = one (eqb b 1024) refl
     one : (x : Bool) → eqb b 1024 ≡ x → Says
     one true p = rw (eqb-true b 1024 p) (ap (rule t d) (narrow t))
     one false p = two (eqb b 2048) p refl
+
+-- the tests as code asks them
+pub by-tests : (g : Geometry) → lawfulSizes g ≡ (leb (g .blocks) (mostOf g) && leb 1 (g .«directory_blocks») && leb (g .«directory_blocks») 16 && ltb (g .«directory_blocks») (g .blocks))
+by-tests g = by-most g ∙ two-at-least (g .blocks) (g .«directory_blocks») (leb (g .blocks) (mostOf g))

@@ -8,7 +8,7 @@ use Prim.Native.Nat.{ℕ, _-_, _*_, _/_, _%_, _^_, _<_}
 use native.Mathlib.Nat.{mod-eq-of-lt}
 use lib.Bits.{bitAnd, and-mask}
 use Rattle.disk_geometry.specs.declared.Geometry.{Geometry}
-use Rattle.disk_geometry.specs.Geometry.{lawful, records}
+use Rattle.disk_geometry.specs.Geometry.{geometryOf, lawful, records}
 use Rattle.disk_geometry.specs.Shift.{bsh, blm}
 use Rattle.disk_geometry.proofs.GeometryLaws.{bounds}
 
@@ -43,7 +43,7 @@ block-shift g good =
 -- ---- the table, evaluated
 -- the row of a block size: BLS, BSH, BLM
 abbrev row : ℕ → List ℕ
-row b = let g : Geometry = record { «block_bytes» = b; blocks = 40; «directory_blocks» = 1 } in b ∷ bsh g ∷ blm g ∷ []
+row b = let g : Geometry = geometryOf b 40 1 in b ∷ bsh g ∷ blm g ∷ []
 
 pub tabelle-13 : map row (1024 ∷ 2048 ∷ 4096 ∷ []) ≡ (1024 ∷ 3 ∷ 7 ∷ []) ∷ (2048 ∷ 4 ∷ 15 ∷ []) ∷ (4096 ∷ 5 ∷ 31 ∷ []) ∷ []
 unfolding bsh blm

@@ -1,9 +1,11 @@
 -- The geometry: "T blocks of B bytes in logical record order .. the first D blocks are directory". Request (xi): "block numbers
--- in entries take two bytes" where T is above 256.
+-- in entries take two bytes" where T is above 256. Request (i): how records are placed, one behind the other or as on eight-inch
+-- disks.
 use mathlib.Core.Bool.{Bool, cond, _&&_, _||_}
 use Prim.Native.Nat.{ℕ, _+_, _*_, _/_, _%_}
 use lib.Dec.{leb, ltb, eqb}
 use Rattle.disk_geometry.specs.declared.Geometry.{Geometry}
+use Rattle.disk_geometry.specs.EightInch.{imageBytes, imageStart}
 
 -- bytes of a record, of an entry and of its map, records of an extent, slots of a directory record, bytes of a block for each
 -- extent of its entry and each byte of a block number
@@ -35,7 +37,14 @@ mostBlocks = 4096
 abbrev pub mostBytes : ℕ
 mostBytes = 8 * 1024 * 1024
 
--- B, T and D
+-- how records are placed
+abbrev pub straight : ℕ
+straight = 0
+
+abbrev pub eightInch : ℕ
+eightInch = 1
+
+-- B, T and D, and the placing
 abbrev pub blockBytes : Geometry → ℕ
 blockBytes g = g .«block_bytes»
 
@@ -45,23 +54,41 @@ blocks g = g .blocks
 abbrev pub directoryBlocks : Geometry → ℕ
 directoryBlocks g = g .«directory_blocks»
 
-abbrev pub geometryOf : ℕ → ℕ → ℕ → Geometry
-geometryOf b t d = record { «block_bytes» = b; blocks = t; «directory_blocks» = d }
+abbrev pub placing : Geometry → ℕ
+placing g = g .placing
 
--- "Its length is T times B."
-abbrev pub bytes : Geometry → ℕ
-bytes g = blocks g * blockBytes g
+-- a straight geometry, and one with another placing
+abbrev pub geometryOf : ℕ → ℕ → ℕ → Geometry
+geometryOf b t d = record { «block_bytes» = b; blocks = t; «directory_blocks» = d; placing = straight }
+
+abbrev pub withPlacing : Geometry → ℕ → Geometry
+withPlacing g p = record { «block_bytes» = blockBytes g; blocks = blocks g; «directory_blocks» = directoryBlocks g; placing = p }
+
+-- the eight-inch disks of (i): "1,024-byte blocks, T 243, D 2"
+abbrev pub floppy : Geometry
+floppy = withPlacing (geometryOf 1024 243 2) eightInch
+
+abbrev pub isFloppy : Geometry → Bool
+isFloppy g = eqb (placing g) eightInch && eqb (blockBytes g) 1024 && eqb (blocks g) 243 && eqb (directoryBlocks g) 2
+
+-- "Its length is T times B."; (i): "256,256 bytes"
+unfoldable pub bytes : Geometry → ℕ
+bytes g = cond (eqb (placing g) eightInch) imageBytes (blocks g * blockBytes g)
 
 -- "B is 1,024, 2,048 or 4,096; T is 2 to 256; .. D from 1 to 16 and below T"; (xi): "From T 257 to 4,096, with B 2,048 or
 -- 4,096 and at most 8 MiB"
-unfoldable pub lawful : Geometry → Bool
-lawful g =
+abbrev pub lawfulSizes : Geometry → Bool
+lawfulSizes g =
     (eqb (blockBytes g) 1024 || eqb (blockBytes g) 2048 || eqb (blockBytes g) 4096)
     && leb 2 (blocks g)
-    && (leb (blocks g) narrowBlocks || (leb (blocks g) mostBlocks && leb 2048 (blockBytes g) && leb (bytes g) mostBytes))
+    && (leb (blocks g) narrowBlocks || (leb (blocks g) mostBlocks && leb 2048 (blockBytes g) && leb (blocks g * blockBytes g) mostBytes))
     && leb 1 (directoryBlocks g)
     && leb (directoryBlocks g) 16
     && ltb (directoryBlocks g) (blocks g)
+
+-- and (i): the eight-inch placing with its own numbers alone
+unfoldable pub lawful : Geometry → Bool
+lawful g = lawfulSizes g && (eqb (placing g) straight || isFloppy g)
 
 -- how many bytes a block number takes in an entry: nothing else knows where that changes
 abbrev pub numberBytes : Geometry → ℕ
@@ -76,7 +103,7 @@ extents g = blockBytes g / (extentBlockBytes * numberBytes g)
 
 -- where logical record q of the volume begins: nothing else knows how records lie
 unfoldable pub start : Geometry → ℕ → ℕ
-start g q = q * recordBytes
+start g q = cond (eqb (placing g) eightInch) (imageStart q) (q * recordBytes)
 
 -- "Slots are the directory's 32-byte pieces, numbered from 0": four in each of its records
 abbrev pub slots : Geometry → ℕ

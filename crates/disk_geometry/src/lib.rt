@@ -2,15 +2,18 @@
 ghost use mathlib.Core.Path.{_≡_};
 ghost use mathlib.Core.Bool.{true};
 ghost use Prim.Native.Nat.{_+_, _*_, _/_, _%_, _≤_, _<_};
-ghost use Rattle.disk_geometry.specs.Geometry.{recordBytes, entryBytes, mapBytes, recordSlots, lawful, bytes, numberBytes, records, extents, start, slots, slotStart, recordOf, recordStart, groupOf, places, placeOf, inside, blocks};
+ghost use Rattle.disk_geometry.specs.Geometry.{recordBytes, entryBytes, mapBytes, recordSlots, isFloppy, lawful, bytes, numberBytes, records, extents, start, slots, slotStart, recordOf, recordStart, groupOf, places, placeOf, inside, blocks};
 ghost use Rattle.disk_geometry.specs.Shift.{bsh, blm};
 ghost use Rattle.disk_geometry.specs.CodeMost.{mostOf};
 
-// How the volume is cut up: B, T and D of the paper.
+mod eight_inch;
+
+// How the volume is cut up: B, T and D of the paper; and how its records are placed, which is one of the two numbers below.
 pub struct Geometry {
     pub block_bytes: usize,
     pub blocks: usize,
     pub directory_blocks: usize,
+    pub placing: usize,
 }
 
 impl Geometry {
@@ -28,6 +31,19 @@ impl Geometry {
 
     pub const EXTENT_BLOCK_BYTES: usize = 1024;
 
+    // Records one behind the other, and as on eight-inch disks.
+    pub const STRAIGHT: usize = 0;
+
+    pub const EIGHT_INCH: usize = 1;
+
+    // That of an eight-inch disk.
+    pub const FLOPPY: Geometry = Geometry {
+        block_bytes: 1024,
+        blocks: 243,
+        directory_blocks: 2,
+        placing: Geometry::EIGHT_INCH,
+    };
+
     // The most blocks whose numbers take one byte, and the most bytes of a volume with more.
     pub const NARROW_BLOCKS: usize = 256;
 
@@ -36,13 +52,25 @@ impl Geometry {
     // More extents than an entry has.
     const EXTENTS_BELOW: usize = 8;
 
-    // Is the geometry within the rules?
+    // Is it that of an eight-inch disk?
+    fn is_floppy(self) -> bool
+        ensures { λ r. ⌜ r ≡ isFloppy self ⌝ }
+    {
+        (self.placing == Geometry::EIGHT_INCH)
+            & (self.block_bytes == 1024)
+            & (self.blocks == 243)
+            & (self.directory_blocks == 2)
+    }
+
+    // Is the geometry within the rules? T is 2 at least, being above D.
     pub fn is_lawful(self) -> bool
         ensures { λ r. ⌜ r ≡ lawful self ⌝ }
     {
+        if self.placing != Geometry::STRAIGHT {
+            return self.is_floppy();
+        }
         let most = self.most_blocks();
-        (2 <= self.blocks)
-            & (self.blocks <= most)
+        (self.blocks <= most)
             & (1 <= self.directory_blocks)
             & (self.directory_blocks <= 16)
             & (self.directory_blocks < self.blocks)
@@ -61,12 +89,16 @@ impl Geometry {
         }
     }
 
-    // T times B: the volume's length.
+    // The volume's length: T times B, or that of an eight-inch disk.
     pub fn bytes(self) -> usize
         requires { ⌜ lawful self ≡ true ⌝ }
         ensures { λ r. ⌜ r ≡ bytes self ⌝ }
     {
-        self.blocks * self.block_bytes
+        if self.placing == Geometry::STRAIGHT {
+            self.blocks * self.block_bytes
+        } else {
+            eight_inch::IMAGE_BYTES
+        }
     }
 
     // R: records a block.
@@ -125,7 +157,7 @@ impl Geometry {
         requires { ⌜ lawful self ≡ true ⌝ }
         ensures { λ r. ⌜ (r ≡ slots self) × (r ≤ 2048) ⌝ }
     {
-        Geometry::RECORD_SLOTS * (self.directory_blocks * self.records())
+        self.directory_blocks * (self.block_bytes / Geometry::ENTRY_BYTES)
     }
 
     // Where logical record q begins.
@@ -133,7 +165,11 @@ impl Geometry {
         requires { ⌜ (lawful self ≡ true) × (q < blocks self * records self) ⌝ }
         ensures { λ r. ⌜ (r ≡ start self q) × (r + recordBytes ≤ bytes self) ⌝ }
     {
-        q * Geometry::RECORD_BYTES
+        if self.placing == Geometry::STRAIGHT {
+            q * Geometry::RECORD_BYTES
+        } else {
+            eight_inch::image_start(q)
+        }
     }
 
     // Where the directory record begins that holds slot i.
@@ -149,6 +185,9 @@ impl Geometry {
         requires { ⌜ (lawful self ≡ true) × (i < slots self) ⌝ }
         ensures { λ r. ⌜ (r ≡ slotStart self i) × (r + entryBytes ≤ bytes self) ⌝ }
     {
+        if self.placing == Geometry::STRAIGHT {
+            return i * Geometry::ENTRY_BYTES;
+        }
         self.slot_record(i) + i % Geometry::RECORD_SLOTS * Geometry::ENTRY_BYTES
     }
 

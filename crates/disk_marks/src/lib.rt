@@ -11,6 +11,7 @@ ghost use Rattle.disk_rules.specs.GoodSlot.{seenBelow};
 ghost use Rattle.disk_marks.specs.CodeMarks.{MARKS, markOf, allMarked, Marked, groupBelow};
 use disk_geometry::Geometry;
 use disk_volume::Wanted;
+use disk_volume::directory;
 use disk_volume::entry;
 use disk_volume::fields;
 use disk_volume::names;
@@ -34,8 +35,8 @@ fn mark_of(user: u8, name: &[u8], k: usize) -> usize
     mark
 }
 
-// Does one of the n lowest slots have group k of this user's file of this name?
-fn is_below(g: Geometry, volume: &[u8], n: usize, user: u8, name: &[u8], k: usize) -> bool
+// Does one of the n lowest slots have group k of this user's file of this name? Looks at them one by one.
+fn is_in_lower(g: Geometry, volume: &[u8], n: usize, user: u8, name: &[u8], k: usize) -> bool
     requires { ⌜ IsVolume g (now volume) ⌝ }
     requires { ⌜ (n ≤ slots g) × IsName (now name) ⌝ }
     ensures { λ r. ⌜ r ≡ groupBelow g (now (volume .entry)) n user (strip (now (name .entry))) k ⌝ }
@@ -55,6 +56,19 @@ fn is_below(g: Geometry, volume: &[u8], n: usize, user: u8, name: &[u8], k: usiz
         j += 1;
     }
     false
+}
+
+// The same; where a slot's place is dear, by a search of the directory.
+fn is_below(g: Geometry, volume: &[u8], n: usize, user: u8, name: &[u8], k: usize) -> bool
+    requires { ⌜ IsVolume g (now volume) ⌝ }
+    requires { ⌜ (n ≤ slots g) × IsName (now name) ⌝ }
+    ensures { λ r. ⌜ r ≡ groupBelow g (now (volume .entry)) n user (strip (now (name .entry))) k ⌝ }
+{
+    if g.placing != Geometry::STRAIGHT {
+        let lowest = directory::find(g, volume, user, name, Wanted::Group(k));
+        return lowest < n;
+    }
+    is_in_lower(g, volume, n, user, name, k)
 }
 
 // Does a lower slot have the user, name and group of the entry e, which stands in slot i? Sets its mark.

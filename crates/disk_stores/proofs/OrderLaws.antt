@@ -26,7 +26,7 @@ module _ (g : Geometry) (good : lawful g ≡ true) where
   -- ---- a sweep
   module _ (meant : Entry → Bool) (f : Entry → Entry) (keeps : (e : Entry) → length e ≡ 32 → length (f e) ≡ 32)
       (v : List ℕ) (size : length v ≡ bytes g) where
-    sweep-rising : (m r : ℕ) → r + m ≤ g .«directory_blocks» * records g → Rising g r (sweepStores g meant f v r m)
+    pub sweep-rising : (m r : ℕ) → r + m ≤ g .«directory_blocks» * records g → Rising g r (sweepStores g meant f v r m)
     unfolding sweepStores
     sweep-rising zero r h = ends r
     sweep-rising (suc m) r h = go (holdsMeant meant (part v (start g r) 128)) (sweep-rising m (suc r) (omega arith))

@@ -31,7 +31,10 @@ fn lay(sector: &mut [u8], o: usize, e: &[u8])
     requires { ⌜ (o + entryBytes ≤ length (now sector)) × IsEntry (now e) ⌝ }
     ensures { λ _. ⌜ now (sector .exit) ≡ put (now (sector .entry)) o entryBytes (now (e .entry)) ⌝ }
 {
-    lists::copy(&mut sector[o..o + Geometry::ENTRY_BYTES], e);
+    lists::copy(
+        &mut sector[o..o + Geometry::ENTRY_BYTES],
+        &e[0..Geometry::ENTRY_BYTES],
+    );
 }
 
 // Lays an entry into slot i, by one store of the directory record that holds it.

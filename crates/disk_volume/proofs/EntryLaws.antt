@@ -1,5 +1,5 @@
 -- Laws of entries: what an entry counts below, in and above its own extent, and the entry in a slot as it is lent.
-use mathlib.Core.Path.{_≡_, refl, sym}
+use mathlib.Core.Path.{_≡_, refl, sym, ap, _∙_}
 use mathlib.Core.Bool.{Bool, true, false, _&&_, and-true, and-false, true≢false, false≢true}
 use mathlib.Core.List.{List}
 use Prim.Native.Nat.{ℕ, _+_, _-_, _<_, _≤_, min}
@@ -30,12 +30,16 @@ module _ (e : Entry) (x : ℕ) where
       let h : x ≤ extent e = omega arith in
       rw (le-ltb x (extent e) l, le-ltb (extent e) x h)
 
--- `&volume[at..at + 32]`, where at is the start of slot i
+-- `&l[at..at + n]`, and `&volume[at..at + 32]`, where at is the start of slot i
+pub lent-part : (l : List ℕ) (at n : ℕ) → take (at + n - at) (drop at l) ≡ part l at n
+unfolding part
+lent-part l at n =
+    let z : at + n - at ≡ n = omega arith in
+    rw z
+
 pub lent-slot : (g : Geometry) (v : List ℕ) (i at : ℕ) → at ≡ slotStart g i → take (at + 32 - at) (drop at v) ≡ slotAt g v i
-unfolding slotAt part
-lent-slot g v i at e =
-    let z : at + 32 - at ≡ 32 = omega arith in
-    rw (z, e)
+unfolding slotAt
+lent-slot g v i at e = lent-part v at 32 ∙ ap (λ (a : ℕ). part v a 32) e
 
 -- "and" in the order in which code asks: the user and the group first, then the name
 pub group-passes : (user name group : Bool) → (user && group) ≡ true → name ≡ ((user && name) && group)

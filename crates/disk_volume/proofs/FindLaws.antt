@@ -8,8 +8,8 @@ use native.Mathlib.Omega.{arith}
 use lib.Dec.{ltb, eqb}
 use borrow.Author.Tests.{ltb-true, ltb-false}
 use Rattle.lists.proofs.BoolLaws.{and-left}
-use Rattle.lists.specs.Bounded.{lowFrom, fold}
-use Rattle.lists.proofs.BoundedLaws.{Low, low-le, low-hit, low-miss, low-is}
+use Rattle.lists.specs.Bounded.{lowFrom, any, fold}
+use Rattle.lists.proofs.BoundedLaws.{Low, low-le, low-hit, low-miss, low-is, any-intro, any-none}
 use Rattle.lists.proofs.FoldLaws.{Folded, fold-add}
 use Rattle.disk_geometry.specs.declared.Geometry.{Geometry}
 use Rattle.disk_volume.specs.declared.Wanted.{Wanted}
@@ -88,6 +88,19 @@ module _ (g : Geometry) (v : List ℕ) (u : ℕ) (name : List ℕ) where
   pub from-fits : (w : Wanted) (i : ℕ) → i ≤ slots g → findFrom g v u name w i < slots g → slotFits g v u name w (findFrom g v u name w i) ≡ true
   from-fits w i h l = low-hit (slotFits g v u name w) i (slots g - i) (findFrom g v u name w i) refl (omega arith) .passes
 
+  pub from-le : (w : Wanted) (i : ℕ) → i ≤ slots g → findFrom g v u name w i ≤ slots g
+  from-le w i h = let l = low-le (slotFits g v u name w) i (slots g - i) in omega arith
+
+  -- one of the n lowest slots has it exactly if the lowest that has it is one of them
+  pub any-below : (w : Wanted) (n : ℕ) → n ≤ slots g → any n (slotFits g v u name w) ≡ ltb (findSlot g v u name w) n
+  any-below w n h = go (ltb (findSlot g v u name w) n) refl
+    where
+      go : (t : Bool) → ltb (findSlot g v u name w) n ≡ t → any n (slotFits g v u name w) ≡ t
+      go true e =
+          let l : findSlot g v u name w < n = ltb-true _ _ e in
+          any-intro (slotFits g v u name w) 0 n (findSlot g v u name w) (omega arith) (omega arith) (found-fits w (omega arith))
+      go false e = any-none (slotFits g v u name w) 0 n (λ m low high. found-first w m (omega (arith, ltb-false (findSlot g v u name w) n e)))
+
 -- ---- steps that change nothing are passed over
 fold-over : {A : Type 0} (step : A → ℕ → A) (a : A) (i k : ℕ) → ((m : ℕ) → i ≤ m → m < i + k → step a m ≡ a) → fold step a i k ≡ a
 unfolding fold
@@ -110,4 +123,14 @@ module _ (g : Geometry) (v : List ℕ) (u : ℕ) (name : List ℕ) (w : Wanted) 
       let z : slots g - 0 ≡ slots g = omega arith in
       record {
         rest = rw z at (fold-from step a (slots g) 0 (findSlot g v u name w) (omega arith) (find-le g v u name w) (λ m low high. h m (found-first g v u name w m high)));
+      }
+
+  -- and goes on at the next that has it
+  pub folded-to-next : {A : Type 0} {step : A → ℕ → A} {a₀ a : A} {i : ℕ} → Folded step a₀ (slots g) a i → i ≤ slots g
+      → ((m : ℕ) → slotFits g v u name w m ≡ false → step a m ≡ a) → Folded step a₀ (slots g) a (findFrom g v u name w i)
+  folded-to-next {A} {step} {a₀} {a} {i} f i≤ h =
+      record {
+        rest =
+            f .rest
+            ∙ fold-from step a (slots g) i (findFrom g v u name w i) (from-low g v u name w i i≤) (from-le g v u name w i i≤) (λ m low high. h m (from-first g v u name w i m low high));
       }

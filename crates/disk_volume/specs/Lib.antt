@@ -5,3 +5,4 @@ pub mod Entry
 pub mod Directory
 pub mod Record
 pub mod CodeLent
+pub mod CodeRun

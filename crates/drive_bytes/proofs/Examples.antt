@@ -1,10 +1,11 @@
--- One drive's 64 bytes and one's 544, written out by hand from the layout, decoded and encoded; and bytes of the other length.
+-- One drive's 64 bytes, an eight-inch disk's, and one's 544, written out by hand from the layout, decoded and encoded; and bytes
+-- of the other length.
 use mathlib.Core.Path.{_≡_, refl}
 use mathlib.Core.Bool.{true}
 use mathlib.Core.List.{List, [], _∷_, _++_}
 use Prim.Native.Nat.{ℕ}
 use lib.ListN.{replicate}
-use Rattle.disk_geometry.specs.Geometry.{geometryOf}
+use Rattle.disk_geometry.specs.Geometry.{geometryOf, floppy}
 use Rattle.lists.specs.Bytes.{part, all}
 use Rattle.call_search.specs.declared.SearchKind.the-variants.{Pattern}
 use Rattle.filecalls.specs.declared.Drive.{Drive}
@@ -42,6 +43,22 @@ encodes = refl
 decodes : decoded sampleBytes ≡ sample
 unfolding decoded isDrive laidOut fields wordsAt kindStored number part all
 decodes = refl
+
+-- an eight-inch disk, and no search; blocks 2 and 242 held
+abbrev onFloppy : Drive
+onFloppy = loggedIn floppy (4 ∷ 0 ∷ 0 ∷ 1125899906842624 ∷ replicate 60 0)
+
+abbrev floppyBytes : List ℕ
+floppyBytes =
+    0 ∷ 4 ∷ 243 ∷ 0 ∷ 2 ∷ 0 ∷ replicate 18 0 ++ (1 ∷ replicate 7 0) ++ (4 ∷ replicate 29 0) ++ (4 ∷ 0 ∷ [])
+
+encodes-floppy : encoded onFloppy ≡ floppyBytes
+unfolding encoded frontBytes headBytes searchBytes heldBytes bytesOf
+encodes-floppy = refl
+
+decodes-floppy : decoded floppyBytes ≡ onFloppy
+unfolding decoded isDrive laidOut fields wordsAt kindStored number part all
+decodes-floppy = refl
 
 -- B 2,048, T 4,096, D 16, and no search; blocks 300 and 4,095 held
 abbrev wide : Drive

@@ -4,7 +4,7 @@ use mathlib.Core.Bool.{true, cond}
 use mathlib.Core.List.{List, [], _∷_, _++_, append-assoc}
 use Prim.Native.Nat.{ℕ}
 use native.Mathlib.Omega.{arith}
-use lib.ListN.{length, take, drop, replicate, length-append}
+use lib.ListN.{length, take, drop, length-append}
 use lib.Seq.{take-at, drop-at}
 use borrow.Author.Tests.{eq-eqb}
 use Rattle.disk_geometry.specs.Geometry.{blocks}
@@ -14,7 +14,7 @@ use Rattle.filecalls.specs.declared.Front.{Front}
 use Rattle.filecalls.specs.declared.KeptSearch.{KeptSearch}
 use Rattle.filecalls.specs.CodeFront.{frontOf, joined}
 use Rattle.numbers.specs.Numbers.{Bytes, bytesOf}
-use Rattle.drive_bytes.specs.Layout.{storedWords, driveBytes, headBytes, searchBytes, heldBytes, frontBytes, encoded, encodedIn, fields, isDrive}
+use Rattle.drive_bytes.specs.Layout.{storedWords, driveBytes, headBytes, searchBytes, placingBytes, heldBytes, frontBytes, encoded, encodedIn, fields, isDrive}
 use Rattle.drive_bytes.specs.CodeLaid.{withFront, withWords}
 use Rattle.drive_bytes.proofs.LoadLaws.{drive-whole}
 use Rattle.drive_bytes.proofs.LayLaws.{length-head, length-search}
@@ -29,14 +29,14 @@ abbrev stored : Drive → List ℕ → List ℕ
 stored d held = heldBytes held 0 (storedWords (blocks (d .geometry)))
 
 -- what stands behind the search
-behind-search : (d : Drive) → drop 24 (encoded d) ≡ replicate 8 0 ++ stored d (d .held)
+behind-search : (d : Drive) → drop 24 (encoded d) ≡ placingBytes (d .geometry) ++ stored d (d .held)
 unfolding encoded frontBytes
 behind-search d =
     let q = d .search in
     let head = headBytes (d .geometry) (d .user) (d .protected) in
     let front = head ++ searched q in
     let size : length front ≡ 24 = omega (arith, length-append head (searched q), length-head (d .geometry) (d .user) (d .protected), length-search (q .kind) (q .user) (q .last) (q .pattern)) in
-    ap (drop 24) (append-assoc front (replicate 8 0) (stored d (d .held))) ∙ drop-at front (replicate 8 0 ++ stored d (d .held)) 24 size
+    ap (drop 24) (append-assoc front (placingBytes (d .geometry)) (stored d (d .held))) ∙ drop-at front (placingBytes (d .geometry) ++ stored d (d .held)) 24 size
 
 front-over : (d : Drive) (f : Front) → f .geometry ≡ d .geometry → withFront (encoded d) f ≡ encoded (joined f (d .held))
 front-over d f e =
@@ -44,8 +44,8 @@ front-over d f e =
     let search = searched (f .search) in
     let words = stored d (d .held) in
     let sizes : take 6 (encoded d) ++ (f .user ∷ cond (f .protected) 1 0 ∷ []) ≡ head = unfold encoded frontBytes headBytes bytesOf in refl in
-    let laid : withFront (encoded d) f ≡ head ++ search ++ replicate 8 0 ++ words =
-    ap₂ (λ (x y : List ℕ). x ++ search ++ y) sizes (behind-search d) ∙ sym (append-assoc (head ++ search) (replicate 8 0) words) in
+    let laid : withFront (encoded d) f ≡ head ++ search ++ placingBytes (d .geometry) ++ words =
+    ap₂ (λ (x y : List ℕ). x ++ search ++ y) sizes (behind-search d) ∙ sym (append-assoc (head ++ search) (placingBytes (d .geometry)) words) in
     laid ∙ (unfold encoded frontBytes in ap (λ (g : Geometry). encoded (record { geometry = g; user = f .user; protected = f .protected; search = f .search; held = d .held })) (sym e))
 
 words-over : (d : Drive) (held : List ℕ) → take 32 (encoded d) ++ stored d held ≡ encoded (joined (frontOf d) held)

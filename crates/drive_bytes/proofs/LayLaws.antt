@@ -3,7 +3,7 @@ use mathlib.Core.Path.{_≡_, refl, sym, ap, _∙_}
 use mathlib.Core.Bool.{Bool, true, false, cond}
 use mathlib.Core.List.{List, [], _∷_, _++_}
 use mir.Val.{boolByte}
-use Prim.Native.Nat.{ℕ, _+_, _≤_}
+use Prim.Native.Nat.{ℕ, _+_, _/_, _%_, _≤_}
 use native.Mathlib.Omega.{arith}
 use lib.ListN.{length, take, drop, set, take-append-drop}
 use lib.Seq.{length-take-le, take-append-add, take-at, take-all}
@@ -13,7 +13,7 @@ use Rattle.disk_geometry.specs.declared.Geometry.{Geometry}
 use Rattle.call_search.specs.declared.SearchKind.{SearchKind}
 use Rattle.call_search.specs.declared.SearchKind.the-variants.{Nothing, Pattern, Everything}
 use Rattle.numbers.specs.Numbers.{Bytes, bytesOf, number, bytesFrom}
-use Rattle.drive_bytes.specs.Layout.{headBytes, keptBytes, searchBytes}
+use Rattle.drive_bytes.specs.Layout.{headBytes, keptBytes, searchBytes, placingBytes}
 use Rattle.numbers.proofs.NumberLaws.{bytes-number, part-bytes, bytes-from}
 
 -- four stores, four bytes and a word fill sixteen
@@ -82,6 +82,18 @@ unfolding searchBytes keptBytes bytesOf bytesFrom
 length-search Nothing user last pattern = refl
 length-search Pattern user last pattern = refl
 length-search Everything user last pattern = refl
+
+pub length-placing : (g : Geometry) → length (placingBytes g) ≡ 8
+unfolding bytesOf
+length-placing g = refl
+
+-- the placing as a word
+pub placing-word : (g : Geometry) → bytesOf 8 (g .placing % 256) ≡ placingBytes g
+unfolding bytesOf
+placing-word g =
+    let low : g .placing % 256 % 256 ≡ g .placing % 256 = omega arith in
+    let high : g .placing % 256 / 256 ≡ 0 = omega arith in
+    rw (low, high)
 
 -- a test as a byte
 pub flag-byte : (t : Bool) → boolByte t ≡ cond t 1 0

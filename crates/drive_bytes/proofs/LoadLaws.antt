@@ -3,10 +3,11 @@ use mathlib.Core.Path.{_≡_, refl, sym, ap, ap₂, _∙_}
 use mathlib.Core.Bool.{Bool, true, false, not, cond, _&&_, _||_}
 use mathlib.Core.List.{List, [], _∷_, _++_}
 use Prim.Native.Nat.{ℕ, _+_, _*_, _≤_}
+use native.Mathlib.Decide.{ℕ-discrete}
 use native.Mathlib.Omega.{arith}
 use lib.Dec.{leb, eqb}
 use lib.ListN.{length}
-use borrow.Author.Tests.{eqb-true}
+use borrow.Author.Tests.{eqb-true, eq-eqb, ne-eqb}
 use Rattle.lists.specs.Bytes.{byte, part, all}
 use Rattle.lists.proofs.BoolLaws.{and-left, and-right}
 use Rattle.numbers.specs.Numbers.{number, bytesFrom, zeros}
@@ -44,6 +45,20 @@ module _ (s : List ℕ) (size : 32 ≤ length s) where
           → (not t || (eqb (number (part s 8 8)) 0 && eqb (number (part s 16 8)) 0)) ≡ (not t || zeros (part s 9 15))
       go true e = two-words e
       go false e = refl
+
+  -- the word from byte 24 on is that byte alone where the bytes behind it are zero
+  pub spare-word : eqb (number (part s 24 8)) (byte s 24) ≡ zeros (part s 25 7)
+  unfolding number bytesFrom
+  spare-word =
+      ap (λ (l : List ℕ). eqb (number l) (byte s 24)) (part-bytes s 24 8 (omega arith))
+      ∙ alone (byte s 24) (number (bytesFrom s 25 7))
+      ∙ sym (ap zeros (part-bytes s 25 7 (omega arith)) ∙ zeros-number (bytesFrom s 25 7))
+    where
+      alone : (x n : ℕ) → eqb (x + 256 * n) x ≡ eqb n 0
+      alone x n = elim (ℕ-discrete n 0) [
+        | yes e ↦ eq-eqb (x + 256 * n) x (omega arith) ∙ sym (eq-eqb n 0 e)
+        | no d ↦ ne-eqb (x + 256 * n) x (λ e. d (omega arith)) ∙ sym (ne-eqb n 0 d)
+      ]
 
 -- a drive has as many bytes as its T asks, at least 64, and is laid out as one
 pub drive-whole : (s : List ℕ) → isDrive s ≡ true → length s ≡ driveBytes (blocksAt s)

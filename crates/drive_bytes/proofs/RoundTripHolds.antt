@@ -2,7 +2,7 @@
 use mathlib.Core.Path.{_≡_, refl, sym, ap, ap₂, _∙_}
 use mathlib.Core.Bool.{Bool, true, false, not, cond, _&&_, _||_, true≢false, false≢true}
 use mathlib.Core.List.{List, _∷_, _++_}
-use Prim.Native.Nat.{ℕ, _+_, _*_, _-_, _^_, _≤_, _<_}
+use Prim.Native.Nat.{ℕ, _+_, _*_, _-_, _%_, _^_, _≤_, _<_}
 use native.Mathlib.Decide.{ℕ-discrete}
 use native.Mathlib.Omega.{arith}
 use lib.Dec.{leb, eqb}
@@ -21,7 +21,7 @@ use Rattle.filecalls.specs.State.{isOpen, closed, noSearch}
 use Rattle.filecalls.specs.Outcome.{withSearch}
 use Rattle.filecalls.specs.Search.{isKept}
 use Rattle.numbers.specs.Numbers.{Bytes, bytesOf, number, bytesFrom, zeros}
-use Rattle.drive_bytes.specs.Layout.{storedWords, driveBytes, headBytes, keptBytes, searchBytes, heldBytes, frontBytes, encoded, encodedIn, blocksAt, kindStored, wordsAt, fields, goodFlag, laidOut, isDrive, decoded}
+use Rattle.drive_bytes.specs.Layout.{storedWords, driveBytes, headBytes, keptBytes, searchBytes, placingBytes, heldBytes, frontBytes, encoded, encodedIn, blocksAt, kindStored, wordsAt, fields, goodFlag, laidOut, isDrive, decoded}
 use Rattle.drive_bytes.specs.RoundTrip.{Carried, DecodeEncode, EncodeDecode, ReadCarried, ClosedIsZeros, ZerosAreClosed}
 use Rattle.numbers.proofs.NumberLaws.{number-bytes, number-zero, bytes-number, number-low, part-bytes, bytes-from, zeros-are}
 use Rattle.drive_bytes.proofs.LoadLaws.{drive-whole, drive-enough, drive-laid, words-bytes, words-high}
@@ -41,7 +41,7 @@ flag-is x h = elim (ℕ-discrete x 1) [
 -- ---- decoding what was encoded
 -- the bytes of a search between the rest of a drive's, and words behind them
 abbrev around : Drive → List ℕ → List ℕ → List ℕ
-around d search words = headBytes (d .geometry) (d .user) (d .protected) ++ search ++ replicate 8 0 ++ words
+around d search words = headBytes (d .geometry) (d .user) (d .protected) ++ search ++ placingBytes (d .geometry) ++ words
 
 pub front-size : (d : Drive) → length (frontBytes d) ≡ 32
 front-size d = go (d .search .kind) refl
@@ -74,17 +74,21 @@ module _ (d : Drive) (c : Carried d) where
   unfolding isDrive encoded
   drive-encoded =
       let words = heldBytes (d .held) 0 n in
-      let t : blocksAt (frontBytes d ++ words) ≡ d .geometry .blocks = blocks-front d (c .blocks-16) words in
+      let t : blocksAt (frontBytes d ++ words) ≡ d .geometry .blocks = blocks-front d (c .geometry .blocks-16) words in
       let size : length (frontBytes d ++ words) ≡ driveBytes (d .geometry .blocks) = omega (arith, length-append (frontBytes d) words, front-size d, length-held (d .held) 0 n, words-bytes (d .geometry .blocks)) in
       rw (t, eq-eqb (length (frontBytes d ++ words)) (driveBytes (d .geometry .blocks)) size) (laid-front d words)
+
+  placing-back : d .geometry .placing % 256 ≡ d .geometry .placing
+  placing-back = omega (arith, c .geometry .placing-8)
 
   idle-back : (words : List ℕ) → frontOf (fields (around d (replicate 16 0) words)) ≡ frontOf (withSearch d noSearch)
   unfolding fields kindStored number headBytes bytesOf bytesFrom part
   idle-back words =
       rw (
-        number-bytes 2 (d .geometry .«block_bytes») (c .block-bytes-16),
-        number-bytes 2 (d .geometry .blocks) (c .blocks-16),
-        number-bytes 2 (d .geometry .«directory_blocks») (c .directory-blocks-16),
+        placing-back,
+        number-bytes 2 (d .geometry .«block_bytes») (c .geometry .block-bytes-16),
+        number-bytes 2 (d .geometry .blocks) (c .geometry .blocks-16),
+        number-bytes 2 (d .geometry .«directory_blocks») (c .geometry .directory-blocks-16),
         flag-back (d .protected),
       )
 
@@ -94,9 +98,10 @@ module _ (d : Drive) (c : Carried d) where
   unfolding fields headBytes keptBytes bytesOf bytesFrom part
   kept-back kind words =
       rw (
-        number-bytes 2 (d .geometry .«block_bytes») (c .block-bytes-16),
-        number-bytes 2 (d .geometry .blocks) (c .blocks-16),
-        number-bytes 2 (d .geometry .«directory_blocks») (c .directory-blocks-16),
+        placing-back,
+        number-bytes 2 (d .geometry .«block_bytes») (c .geometry .block-bytes-16),
+        number-bytes 2 (d .geometry .blocks) (c .geometry .blocks-16),
+        number-bytes 2 (d .geometry .«directory_blocks») (c .geometry .directory-blocks-16),
         flag-back (d .protected),
         number-bytes 2 (d .search .last) (c .last),
         bytes-from (d .search .pattern) 12 (c .pattern),
@@ -123,7 +128,7 @@ module _ (d : Drive) (c : Carried d) where
   unfolding fields
   held-encoded =
       let words = heldBytes (d .held) 0 n in
-      rw (blocks-front d (c .blocks-16) words)
+      rw (blocks-front d (c .geometry .blocks-16) words)
       (ap (λ (l : List ℕ). l ++ replicate (64 - n) 0) (words-back (frontBytes d) (d .held) (front-size d) (c .words) n)
       ∙ words-filled (d .held) (c .all-words) n (words-high (d .geometry .blocks)) (c .rest))
 
@@ -175,7 +180,7 @@ module _ (s : List ℕ) (bytes : Bytes s) (drive : isDrive s ≡ true) where
   record Laid : Type 0 where
     flag : byte s 7 ≤ 1
     kind : byte s 8 ≤ 2
-    spare : zeros (part s 24 8) ≡ true
+    spare : zeros (part s 25 7) ≡ true
     idle : (not (eqb (byte s 8) 0) || zeros (part s 9 15)) ≡ true
 
   laid : Laid
@@ -183,7 +188,7 @@ module _ (s : List ℕ) (bytes : Bytes s) (drive : isDrive s ≡ true) where
   laid =
       let flag = goodFlag s in
       let kind = leb (byte s 8) 2 in
-      let p = and-parts (flag && kind && zeros (part s 24 8)) _ (drive-laid s drive) in
+      let p = and-parts (flag && kind && zeros (part s 25 7)) _ (drive-laid s drive) in
       let q = and-parts (flag && kind) _ (p .0) in
       let r = and-parts flag _ (q .0) in
       record { flag = leb-true (byte s 7) 1 (r .0); kind = leb-true (byte s 8) 2 (r .1); spare = q .1; idle = p .1 }
@@ -226,9 +231,15 @@ module _ (s : List ℕ) (bytes : Bytes s) (drive : isDrive s ≡ true) where
   unfolding fields
   search-fields = search-back
 
+  placing-fields : placingBytes (fields s .geometry) ≡ bytesFrom s 24 8
+  unfolding fields bytesOf bytesFrom
+  placing-fields =
+      let low : byte s 24 % 256 ≡ byte s 24 = omega (arith, bytes 24) in
+      ap₂ (λ (x : ℕ) (y : List ℕ). x ∷ y) low (zeros-from 25 7 (omega arith) (laid .spare))
+
   front-back : frontBytes (fields s) ≡ bytesFrom s 0 32
   unfolding frontBytes bytesFrom
-  front-back = three-parts head-back search-fields (zeros-from 24 8 (omega arith) (laid .spare))
+  front-back = three-parts head-back search-fields placing-fields
 
   held-fields : heldBytes (fields s .held) 0 words ≡ bytesFrom s 32 (8 * words)
   unfolding fields
@@ -254,9 +265,12 @@ module _ (s : List ℕ) (bytes : Bytes s) (drive : isDrive s ≡ true) where
   unfolding fields
   fields-carried =
       record {
-        block-bytes-16 = low 0 2 (omega arith);
-        blocks-16 = low 2 2 (omega arith);
-        directory-blocks-16 = low 4 2 (omega arith);
+        geometry = record {
+          block-bytes-16 = low 0 2 (omega arith);
+          blocks-16 = low 2 2 (omega arith);
+          directory-blocks-16 = low 4 2 (omega arith);
+          placing-8 = bytes 24;
+        };
         last = low 10 2 (omega arith);
         pattern = length-part s 12 12 (omega (arith, enough));
         all-words = length-all s words (words-high (blocksAt s));

@@ -4,14 +4,14 @@ use mathlib.Core.List.{List, [], _∷_, _++_}
 use Prim.Native.Nat.{ℕ}
 use lib.ListN.{take, drop}
 use Rattle.filecalls.specs.declared.Front.{Front}
-use Rattle.drive_bytes.specs.Layout.{USER-AT, SPARE-AT, HELD-AT, blocksAt, storedWords, searchBytes, heldBytes}
+use Rattle.drive_bytes.specs.Layout.{USER-AT, PLACING-AT, HELD-AT, blocksAt, storedWords, searchBytes, heldBytes}
 
 -- user, protection and search
 abbrev pub withFront : List ℕ → Front → List ℕ
 withFront s f =
     take USER-AT s ++ (f .user ∷ cond (f .protected) 1 0 ∷ [])
     ++ searchBytes (f .search .kind) (f .search .user) (f .search .last) (f .search .pattern)
-    ++ drop SPARE-AT s
+    ++ drop PLACING-AT s
 
 -- the held words
 abbrev pub withWords : List ℕ → List ℕ → List ℕ

@@ -1,13 +1,13 @@
 -- The drive in bytes: "0..5 B, T, D (16 bits each, low byte first); 6 user; 7 protected (0, 1); 8 search (0 none, 1 pattern, 2
--- dr 3FH); 9 its user; 10..11 its last slot; 12..23 pattern, 11 name bytes and ex; 24..31 zero; from 32 on the held words, low
--- byte first, four of them up to T 256, 64 above; for search 0 the bytes 9..23 are zero; closed is all zeros, of either length.
--- Any other length or byte pattern counts as closed".
+-- dr 3FH); 9 its user; 10..11 its last slot; 12..23 pattern, 11 name bytes and ex; 24 placing (0 straight, 1 eight-inch);
+-- 25..31 zero; from 32 on the held words, low byte first, four of them up to T 256, 64 above; for search 0 the bytes 9..23 are
+-- zero; closed is all zeros, of either length. Any other length or byte pattern counts as closed".
 use mathlib.Core.Bool.{Bool, not, cond, _&&_, _||_}
 use mathlib.Core.List.{List, [], _∷_, _++_}
 use Prim.Native.Nat.{ℕ, zero, suc, _+_, _-_, _*_}
 use lib.Dec.{leb, eqb}
 use lib.ListN.{length, replicate}
-use Rattle.disk_geometry.specs.Geometry.{narrowBlocks, blockBytes, blocks, directoryBlocks, geometryOf}
+use Rattle.disk_geometry.specs.Geometry.{narrowBlocks, blockBytes, blocks, directoryBlocks, placing, geometryOf, withPlacing}
 use Rattle.disk_held.specs.Held.{heldWords}
 use Rattle.lists.specs.Bytes.{byte, part}
 use Rattle.disk_geometry.specs.declared.Geometry.{Geometry}
@@ -46,8 +46,11 @@ LAST-AT = 10
 abbrev pub PATTERN-AT : ℕ
 PATTERN-AT = 12
 
+abbrev pub PLACING-AT : ℕ
+PLACING-AT = 24
+
 abbrev pub SPARE-AT : ℕ
-SPARE-AT = 24
+SPARE-AT = 25
 
 abbrev pub HELD-AT : ℕ
 HELD-AT = 32
@@ -70,9 +73,13 @@ unfoldable pub keptBytes : ℕ → ℕ → ℕ → List ℕ → List ℕ
 keptBytes kind user last pattern = (kind ∷ user ∷ []) ++ bytesOf 2 last ++ bytesFrom pattern 0 patternBytes
 
 unfoldable pub searchBytes : SearchKind → ℕ → ℕ → List ℕ → List ℕ
-searchBytes Nothing user last pattern = replicate (SPARE-AT - SEARCH-AT) 0
+searchBytes Nothing user last pattern = replicate (PLACING-AT - SEARCH-AT) 0
 searchBytes Pattern user last pattern = keptBytes 1 user last pattern
 searchBytes Everything user last pattern = keptBytes 2 user last pattern
+
+-- 24..31
+abbrev pub placingBytes : Geometry → List ℕ
+placingBytes g = bytesOf 1 (placing g) ++ replicate (HELD-AT - SPARE-AT) 0
 
 -- from 32 on: n words, from word k on
 unfoldable pub heldBytes : List ℕ → ℕ → ℕ → List ℕ
@@ -84,7 +91,7 @@ unfoldable pub frontBytes : Drive → List ℕ
 frontBytes d =
     headBytes (d .geometry) (d .user) (d .protected)
     ++ searchBytes (d .search .kind) (d .search .user) (d .search .last) (d .search .pattern)
-    ++ replicate (HELD-AT - SPARE-AT) 0
+    ++ placingBytes (d .geometry)
 
 unfoldable pub encoded : Drive → List ℕ
 encoded d = frontBytes d ++ heldBytes (d .held) 0 (storedWords (blocks (d .geometry)))
@@ -111,7 +118,8 @@ unfoldable pub fields : List ℕ → Drive
 fields s =
     record {
       geometry =
-          geometryOf (number (part s BLOCK-BYTES-AT 2)) (blocksAt s) (number (part s DIRECTORY-BLOCKS-AT 2));
+          withPlacing (geometryOf (number (part s BLOCK-BYTES-AT 2)) (blocksAt s) (number (part s DIRECTORY-BLOCKS-AT 2)))
+          (byte s PLACING-AT);
       user = byte s USER-AT;
       protected = eqb (byte s PROTECTED-AT) 1;
       search =
@@ -134,7 +142,7 @@ laidOut s =
     goodFlag s
     && leb (byte s SEARCH-AT) 2
     && zeros (part s SPARE-AT (HELD-AT - SPARE-AT))
-    && (not (eqb (byte s SEARCH-AT) 0) || zeros (part s SEARCH-USER-AT (SPARE-AT - SEARCH-USER-AT)))
+    && (not (eqb (byte s SEARCH-AT) 0) || zeros (part s SEARCH-USER-AT (PLACING-AT - SEARCH-USER-AT)))
 
 unfoldable pub isDrive : List ℕ → Bool
 isDrive s = eqb (length s) (driveBytes (blocksAt s)) && laidOut s

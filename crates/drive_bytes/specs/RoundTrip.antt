@@ -5,8 +5,9 @@ use mathlib.Core.Bool.{true, false}
 use mathlib.Core.List.{List}
 use Prim.Native.Nat.{ℕ, _≤_, _<_, _^_}
 use lib.ListN.{length, replicate}
-use Rattle.disk_geometry.specs.Geometry.{blockBytes, blocks, directoryBlocks}
+use Rattle.disk_geometry.specs.Geometry.{blockBytes, blocks, directoryBlocks, placing}
 use Rattle.lists.specs.Bytes.{byte}
+use Rattle.disk_geometry.specs.declared.Geometry.{Geometry}
 use Rattle.numbers.specs.Numbers.{Bytes}
 use Rattle.call_search.specs.declared.SearchKind.the-variants.{Nothing}
 use Rattle.filecalls.specs.declared.Drive.{Drive}
@@ -15,13 +16,18 @@ use Rattle.filecalls.specs.State.{noSearch, isOpen, closed}
 use Rattle.disk_held.specs.Held.{heldWords}
 use Rattle.drive_bytes.specs.Layout.{storedWords, encoded, encodedIn, decoded}
 
--- what a drive's bytes can carry of a state: sizes and last slot of 16 bits, twelve bytes of pattern, words of 64 bits, as many as
--- a state has and those zero that are not stored; and where no search is kept there is nothing beside it. Every state that a
--- log-in or a call leaves is so (crate `churawel`).
+-- what a drive's bytes can carry of a geometry: sizes of 16 bits, and a placing of eight
+pub record CarriedGeometry (g : Geometry) : Type 0 where
+  pub block-bytes-16 : blockBytes g < 65536
+  pub blocks-16 : blocks g < 65536
+  pub directory-blocks-16 : directoryBlocks g < 65536
+  pub placing-8 : placing g < 256
+
+-- and of a state: a last slot of 16 bits, twelve bytes of pattern, words of 64 bits, as many as a state has and those zero that
+-- are not stored; and where no search is kept there is nothing beside it. Every state that a log-in or a call leaves is so
+-- (crate `churawel`).
 pub record Carried (d : Drive) : Type 0 where
-  pub block-bytes-16 : blockBytes (d .geometry) < 65536
-  pub blocks-16 : blocks (d .geometry) < 65536
-  pub directory-blocks-16 : directoryBlocks (d .geometry) < 65536
+  pub geometry : CarriedGeometry (d .geometry)
   pub last : d .search .last < 65536
   pub pattern : length (d .search .pattern) ≡ patternBytes
   pub all-words : length (d .held) ≡ heldWords

@@ -14,10 +14,10 @@ use crate::DRIVE_BYTES;
 use crate::layout::HELD_AT;
 use crate::layout::LAST_AT;
 use crate::layout::PATTERN_AT;
+use crate::layout::PLACING_AT;
 use crate::layout::PROTECTED_AT;
 use crate::layout::SEARCH_AT;
 use crate::layout::SEARCH_USER_AT;
-use crate::layout::SPARE_AT;
 use crate::layout::USER_AT;
 use call_search::PATTERN_BYTES;
 use call_search::SearchKind;
@@ -112,7 +112,7 @@ pub(crate) fn front(out: &mut [u8], f: Front)
     let q = f.search;
     out[USER_AT] = f.user;
     out[PROTECTED_AT] = f.protected as u8;
-    put_search(&mut out[SEARCH_AT..SPARE_AT], q);
+    put_search(&mut out[SEARCH_AT..PLACING_AT], q);
 }
 
 // Lays the state into its bytes.
@@ -124,8 +124,8 @@ pub(crate) fn put_drive(out: &mut [u8], d: Drive)
     let q = d.search;
     let held = d.held;
     put_head(&mut out[0..SEARCH_AT], g, d.user, d.protected);
-    put_search(&mut out[SEARCH_AT..SPARE_AT], q);
-    put_eight(&mut out[SPARE_AT..HELD_AT], 0);
+    put_search(&mut out[SEARCH_AT..PLACING_AT], q);
+    put_eight(&mut out[PLACING_AT..HELD_AT], (g.placing % 256) as u64);
     let n = words_in(out.len());
     words(out, &held, n);
 }

@@ -17,6 +17,6 @@ pub const LAST_AT: usize = 10;
 
 pub const PATTERN_AT: usize = 12;
 
-pub const SPARE_AT: usize = 24;
+pub const PLACING_AT: usize = 24;
 
 pub const HELD_AT: usize = 32;

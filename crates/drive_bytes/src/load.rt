@@ -11,10 +11,10 @@ use crate::layout::DIRECTORY_BLOCKS_AT;
 use crate::layout::HELD_AT;
 use crate::layout::LAST_AT;
 use crate::layout::PATTERN_AT;
+use crate::layout::PLACING_AT;
 use crate::layout::PROTECTED_AT;
 use crate::layout::SEARCH_AT;
 use crate::layout::SEARCH_USER_AT;
-use crate::layout::SPARE_AT;
 use crate::layout::USER_AT;
 use call_search::PATTERN_BYTES;
 use call_search::SearchKind;
@@ -28,16 +28,18 @@ use numbers::two_at;
 // The middle of the search's sixteen bytes, which are compared as two words.
 const SEARCH_HALF: usize = SEARCH_AT + 8;
 
-// Are bytes of the right number laid out as a drive's? Where no search is kept, bytes 8 to 23 are all zero.
+// Are bytes of the right number laid out as a drive's? The word from byte 24 on is the placing alone, and where no search is kept
+// bytes 8 to 23 are all zero.
 pub(crate) fn is_laid(s: &[u8]) -> bool
     requires { ⌜ HELD-AT ≤ length (now s) ⌝ }
     ensures { λ r. ⌜ r ≡ laidOut (now (s .entry)) ⌝ }
 {
-    let spare = eight_of(&s[SPARE_AT..HELD_AT]);
+    let last = eight_of(&s[PLACING_AT..HELD_AT]);
     let a = eight_of(&s[SEARCH_AT..SEARCH_HALF]);
-    let b = eight_of(&s[SEARCH_HALF..SPARE_AT]);
+    let b = eight_of(&s[SEARCH_HALF..PLACING_AT]);
     let kind = s[SEARCH_AT];
-    (s[PROTECTED_AT] <= 1) & (kind <= 2) & (spare == 0) & ((kind != 0) | ((a == 0) & (b == 0)))
+    let placing = lists::wide(s[PLACING_AT]) as u64;
+    (s[PROTECTED_AT] <= 1) & (kind <= 2) & (last == placing) & ((kind != 0) | ((a == 0) & (b == 0)))
 }
 
 // The kind of search that byte 8 says.
@@ -53,7 +55,7 @@ fn kind_stored(b: u8) -> SearchKind
     SearchKind::Everything
 }
 
-// Bytes 0 to 5: B, T and D.
+// Bytes 0 to 5 and byte 24: B, T, D and the placing.
 fn geometry_at(s: &[u8]) -> Geometry
     requires { ⌜ HELD-AT ≤ length (now s) ⌝ }
     ensures { λ r. ⌜ r ≡ fields (now (s .entry)) .geometry ⌝ }
@@ -65,6 +67,7 @@ fn geometry_at(s: &[u8]) -> Geometry
         block_bytes,
         blocks,
         directory_blocks,
+        placing: lists::wide(s[PLACING_AT]),
     }
 }
 
@@ -76,7 +79,7 @@ fn search_at(s: &[u8]) -> KeptSearch
     let kind = kind_stored(s[SEARCH_AT]);
     let last = two_at(s, LAST_AT);
     let mut pattern = [0u8; PATTERN_BYTES];
-    lists::copy(&mut pattern, &s[PATTERN_AT..SPARE_AT]);
+    lists::copy(&mut pattern, &s[PATTERN_AT..PLACING_AT]);
     KeptSearch {
         kind,
         user: s[SEARCH_USER_AT],
@@ -98,7 +101,7 @@ pub(crate) fn words(s: &[u8], held: &mut [u64; WORDS], n: usize)
     }
 }
 
-// Bytes 0 to 23: the state but for the held words.
+// Bytes 0 to 24: the state but for the held words.
 pub(crate) fn front(s: &[u8]) -> Front
     requires { ⌜ HELD-AT ≤ length (now s) ⌝ }
     ensures { λ r. ⌜ r ≡ frontOf (fields (now (s .entry))) ⌝ }

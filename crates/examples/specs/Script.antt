@@ -8,7 +8,7 @@ use lib.ListN.{length, take, replicate}
 use Rattle.lists.specs.Bounded.{lowFrom, anyFrom, everyFrom, countFrom, fold}
 use Rattle.lists.specs.Bytes.{part, put, all}
 use Rattle.disk_geometry.specs.declared.Geometry.{Geometry}
-use Rattle.disk_geometry.specs.Geometry.{lawful, start, slots, slotStart, recordStart, groupOf, placeOf, inside, places}
+use Rattle.disk_geometry.specs.Geometry.{lawful, bytes, start, slots, slotStart, recordStart, groupOf, placeOf, inside, places}
 use Rattle.disk_volume.specs.Name.{strip, nameAt, same, like, goodName}
 use Rattle.call_typing.specs.Typing.{typeableByte, blankBefore, typeable}
 use Rattle.disk_volume.specs.Entry.{blockIn, withBlock, countOf, ofFile, ofGroup, matches}
@@ -198,7 +198,7 @@ before v = record { answer = Refused Closed; drive = closed; volume = v; fcb = [
 
 -- Both sides of a statement: what the scripts show, and what they say. To unfold `seen` is to unfold every definition.
 unfoldable pub seen : List Script → List (List (List ℕ))
-unfolding seenAfter perform lowFrom anyFrom everyFrom countFrom fold part put all lawful start slotStart recordStart groupOf placeOf inside strip nameAt same like goodName typeable typeableByte blankBefore places blockIn withBlock countOf ofFile ofGroup matches slotAt putSlot findSlot mapSlot recordSlot counted present recordAt putRecord fillRecord putFilled slotRecord digit holds hold release wordOf wordsOf lowestFree freeCount position random setTo opened made withRandom firstMet goodFields goodTopBits inPlaces namesBlock namedBelow goodPlace seenBelow goodSlot lowestBad named heldOf openSlot closeSlot patternOf hitFrom entryEnd larger sizeOf readBlock readTests readBytes renamed attributed changed deleteTests freePlace freeEntry freeSlot freeMatches makeTests freshEntry renameTests alloc likeEntry grown writeSlot baseEntry needsBlock writeBlock writtenEntry writeTests isOpen outcome unless laid fillStores recordStores entryStores mapPiece sweepStores changedState logInReply logInTests refusedLogIn openTests openAct closeTests closeAct sizeTests sizeAct keptAt newSearch hitAct firstTests searchFirstAct nextTests searchNextAct deleteLadder deleteAct makeLadder makeAct renameLadder renameAct attributesLadder attributesAct sequentialTests randomTests readDone readSequentialAct readRandomAct writeEntry writeDone writeSequentialAct writeRandomAct writeZeroFillAct protectTests protectAct userTests userAct setRandomTests setRandomAct onPiece singles severalTests several
+unfolding seenAfter perform lowFrom anyFrom everyFrom countFrom fold part put all lawful bytes start slotStart recordStart groupOf placeOf inside strip nameAt same like goodName typeable typeableByte blankBefore places blockIn withBlock countOf ofFile ofGroup matches slotAt putSlot findSlot mapSlot recordSlot counted present recordAt putRecord fillRecord putFilled slotRecord digit holds hold release wordOf wordsOf lowestFree freeCount position random setTo opened made withRandom firstMet goodFields goodTopBits inPlaces namesBlock namedBelow goodPlace seenBelow goodSlot lowestBad named heldOf openSlot closeSlot patternOf hitFrom entryEnd larger sizeOf readBlock readTests readBytes renamed attributed changed deleteTests freePlace freeEntry freeSlot freeMatches makeTests freshEntry renameTests alloc likeEntry grown writeSlot baseEntry needsBlock writeBlock writtenEntry writeTests isOpen outcome unless laid fillStores recordStores entryStores mapPiece sweepStores changedState logInReply logInTests refusedLogIn openTests openAct closeTests closeAct sizeTests sizeAct keptAt newSearch hitAct firstTests searchFirstAct nextTests searchNextAct deleteLadder deleteAct makeLadder makeAct renameLadder renameAct attributesLadder attributesAct sequentialTests randomTests readDone readSequentialAct readRandomAct writeEntry writeDone writeSequentialAct writeRandomAct writeZeroFillAct protectTests protectAct userTests userAct setRandomTests setRandomAct onPiece singles severalTests several
 seen [] = []
 seen (s ∷ ss) = seenAfter (before (s .volume)) (s .lines) ∷ seen ss
 

@@ -21,6 +21,7 @@ impl Drive {
             block_bytes: 0,
             blocks: 0,
             directory_blocks: 0,
+            placing: Geometry::STRAIGHT,
         };
         let pattern = [0u8; PATTERN_BYTES];
         let search = KeptSearch {

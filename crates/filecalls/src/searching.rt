@@ -26,7 +26,7 @@ use disk_volume::fields::NAME_END;
 use disk_volume::names::WILDCARD;
 
 // Is a search open?
-fn is_open_search(kind: SearchKind) -> bool
+pub(crate) fn is_open_search(kind: SearchKind) -> bool
     ensures { λ r. ⌜ r ≡ isKept kind ⌝ }
 {
     match kind {

@@ -10,9 +10,11 @@ ghost use Rattle.call_answers.specs.declared.Answer.the-variants.{Done, Refused
 ghost use Rattle.filecalls.specs.declared.Reply.{Reply};
 ghost use Rattle.call_search.specs.Search.{patternBytes};
 ghost use Rattle.filecalls.specs.State.{goodPattern, goodKept, isOpen};
+ghost use Rattle.filecalls.specs.Search.{isKept};
 ghost use Rattle.filecalls.specs.CodeFront.{joined, joinedReply};
 use crate::Front;
 use crate::FrontReply;
+use crate::searching::is_open_search;
 use call_answers::Answer;
 use call_answers::Refusal;
 use call_search::PATTERN_BYTES;
@@ -29,15 +31,18 @@ fn is_pattern(pattern: &[u8]) -> bool
     disk_volume::names::good_name(true, &pattern[0..NAME_BYTES]) & ((ex <= 31) | (ex == WILDCARD))
 }
 
-// Is a kept search of this kind within the rules, n being the number of slots?
+// Is a search that is kept within the rules, n being the number of slots? The pattern is looked at last.
 fn is_kept(kind: SearchKind, user: u8, last: usize, pattern: &[u8], n: usize) -> bool
-    requires { ⌜ length (now pattern) ≡ patternBytes ⌝ }
+    requires { ⌜ (isKept kind ≡ true) × (length (now pattern) ≡ patternBytes) ⌝ }
     ensures { λ r. ⌜ r ≡ goodKept kind user last (now (pattern .entry)) n ⌝ }
 {
+    if !((user <= 15) & (last < n)) {
+        return false;
+    }
     match kind {
         SearchKind::Nothing => true,
-        SearchKind::Pattern => (user <= 15) & (last < n) & is_pattern(pattern),
-        SearchKind::Everything => (user <= 15) & (last < n),
+        SearchKind::Pattern => is_pattern(pattern),
+        SearchKind::Everything => true,
     }
 }
 
@@ -47,14 +52,17 @@ impl Front {
         ensures { λ r. ⌜ ((held : List ℕ) → r ≡ isOpen (joined self held)) ⌝ }
     {
         let g = self.geometry;
-        if !g.is_lawful() {
+        if !(g.is_lawful() & (self.user <= 15)) {
             return false;
         }
         let q = self.search;
         let kind = q.kind;
+        if !is_open_search(kind) {
+            return true;
+        }
         let pattern = q.pattern;
         let n = g.slots();
-        (self.user <= 15) & is_kept(kind, q.user, q.last, &pattern, n)
+        is_kept(kind, q.user, q.last, &pattern, n)
     }
 
     // Refused: the state as given.

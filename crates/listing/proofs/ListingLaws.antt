@@ -50,7 +50,7 @@ wrote-refused {t} {u} {a} {b} e w = wrote (refused b) (w ∙ ap (λ (x : Answer)
 
 -- ---- a volume that log-in accepts has V's length
 pub whole : (v : List ℕ) (free : ℕ) → logIn geometryV v .answer ≡ Ready free → length v ≡ bytes geometryV
-unfolding logIn logInTests firstMet refusedLogIn lawful
+unfolding logIn logInTests firstMet refusedLogIn lawful bytes
 whole v free r = go (eqb (length v) (bytes geometryV)) refl
   where
     go : (t : Bool) → eqb (length v) (bytes geometryV) ≡ t → length v ≡ bytes geometryV
@@ -77,5 +77,5 @@ module _ (v : List ℕ) {g : Geometry} {r : Reply} (is-v : g ≡ geometryV) (sai
       (is, rw (← is) at (puts-within (text s 0) (listing v) (omega arith)))
 
   pub may-list : (free : ℕ) → r .answer ≡ Ready free → (lawful g ≡ true) × (length v ≡ bytes g)
-  unfolding lawful
+  unfolding lawful bytes
   may-list free e = rw is-v (refl, whole v free (answered (Ready free) e))

@@ -37,7 +37,7 @@ module _ (v : List ℕ) where
 
   answer-is : (right bad : Bool) → eqb (length v) (bytes geometryV) ≡ right → ltb (lowestBad geometryV v) (slots geometryV) ≡ bad
       → logIn geometryV v .answer ≡ says right bad
-  unfolding logIn logInTests firstMet refusedLogIn lawful
+  unfolding logIn logInTests firstMet refusedLogIn lawful bytes
   answer-is false bad e f = rw e
   answer-is true true e f = rw (e, f)
   answer-is true false e f = rw (e, f)

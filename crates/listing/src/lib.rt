@@ -24,6 +24,7 @@ fn geometry() -> Geometry
         block_bytes: 1024,
         blocks: 40,
         directory_blocks: 1,
+        placing: Geometry::STRAIGHT,
     }
 }
 

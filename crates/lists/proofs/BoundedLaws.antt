@@ -26,6 +26,13 @@ module _ {p : ℕ → Bool} {from n : ℕ} where
   unfolding lowFrom
   searched-next {i} s h e = record { rest = s .rest ∙ rw (step n i h, e, add-one) }
 
+  -- several at once
+  pub searched-over : {i : ℕ} (k : ℕ) → Searched p from n i → i + k ≤ n → ((m : ℕ) → i ≤ m → m < i + k → p m ≡ false) → Searched p from n (i + k)
+  searched-over {i} zero s h f = let z : i + 0 ≡ i = omega arith in rw z s
+  searched-over {i} (suc k) s h f =
+      let z : i + suc k ≡ (i + 1) + k = omega arith in
+      rw z (searched-over k (searched-next s (omega arith) (f i (omega arith) (omega arith))) (omega arith) (λ m low high. f m (omega arith) (omega arith)))
+
   pub searched-hit : {i : ℕ} → Searched p from n i → i < n → p i ≡ true → lowFrom p from (n - from) ≡ i
   unfolding lowFrom
   searched-hit {i} s h e = s .rest ∙ rw (step n i h, e)

@@ -10,8 +10,12 @@ bAt = 0
 abbrev pub tAt : ℕ
 tAt = 2
 
+-- D has one byte: what was its high byte is the placing (02 (i)), 0 where records lie one behind the other
 abbrev pub dAt : ℕ
 dAt = 4
+
+abbrev pub placingAt : ℕ
+placingAt = 5
 
 abbrev pub lAt : ℕ
 lAt = 6

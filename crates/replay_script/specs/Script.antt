@@ -4,7 +4,7 @@ use mathlib.Core.List.{List}
 use Prim.Native.Nat.{ℕ}
 use lib.Dec.{leb, eqb}
 use lib.ListN.{length}
-use Rattle.disk_geometry.specs.Geometry.{geometryOf}
+use Rattle.disk_geometry.specs.Geometry.{geometryOf, withPlacing}
 use Rattle.lists.specs.Bytes.{byte, part}
 use Rattle.disk_geometry.specs.declared.Geometry.{Geometry}
 use Rattle.call_served.specs.Asked.{Asked, asked}
@@ -13,14 +13,14 @@ use Rattle.replay_script.specs.declared.Header.{Header}
 use Rattle.replay_script.specs.declared.Head.{Head}
 use Rattle.replay_script.specs.declared.Next.{Next}
 use Rattle.numbers.specs.Numbers.{two, four}
-use Rattle.replay_script.specs.Layout.{bAt, tAt, dAt, lAt, headerBytes, longestVolume, functionAt, parameterAt, fAt, fcbAt, kAt, bufferAt, callBytes, touch}
+use Rattle.replay_script.specs.Layout.{bAt, tAt, dAt, placingAt, lAt, headerBytes, longestVolume, functionAt, parameterAt, fAt, fcbAt, kAt, bufferAt, callBytes, touch}
 use Rattle.replay_script.specs.Lends.{isServed}
 use Rattle.replay_script.specs.declared.Header.the-variants as header
 use Rattle.replay_script.specs.declared.Next.the-variants as next
 
 -- "13 and 37 log in with the header's geometry"
 abbrev pub geometryIn : List ℕ → Geometry
-geometryIn s = geometryOf (two s bAt) (two s tAt) (two s dAt)
+geometryIn s = withPlacing (geometryOf (two s bAt) (two s tAt) (byte s dAt)) (byte s placingAt)
 
 -- a header that is cut off, or whose volume is too long, is bad
 unfoldable pub headerOf : List ℕ → Header

@@ -1,9 +1,11 @@
-// Where the fields of a script stand. The header's: B, T, D and L; the volume stands behind it.
+// Where the fields of a script stand. The header's: B, T, D, the placing and L; the volume stands behind it.
 pub const B_AT: usize = 0;
 
 pub const T_AT: usize = 2;
 
 pub const D_AT: usize = 4;
+
+pub const PLACING_AT: usize = 5;
 
 pub const L_AT: usize = 6;
 

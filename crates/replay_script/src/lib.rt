@@ -14,6 +14,7 @@ use crate::layout::HEADER_BYTES;
 use crate::layout::L_AT;
 use crate::layout::LONGEST_VOLUME;
 use crate::layout::PARAMETER_AT;
+use crate::layout::PLACING_AT;
 use crate::layout::T_AT;
 use crate::layout::TOUCH;
 use disk_geometry::Geometry;
@@ -56,7 +57,8 @@ pub fn header_of(s: &[u8]) -> Header
     let geometry = Geometry {
         block_bytes: numbers::two_at(s, B_AT),
         blocks: numbers::two_at(s, T_AT),
-        directory_blocks: numbers::two_at(s, D_AT),
+        directory_blocks: lists::wide(numbers::byte_at(s, D_AT)),
+        placing: lists::wide(numbers::byte_at(s, PLACING_AT)),
     };
     Header::Good(geometry, length)
 }

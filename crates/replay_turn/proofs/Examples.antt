@@ -2,7 +2,7 @@
 use mathlib.Core.Path.{_≡_, refl}
 use mathlib.Core.List.{[], _∷_, _++_}
 use Rattle.lists.specs.Bytes.{part}
-use Rattle.disk_geometry.specs.Geometry.{lawful}
+use Rattle.disk_geometry.specs.Geometry.{lawful, bytes}
 use Rattle.disk_volume.specs.Name.{same}
 use Rattle.call_answers.specs.Refusal.{firstMet}
 use Rattle.filecalls.specs.State.{isOpen}
@@ -46,5 +46,5 @@ few-calls : transcript (
     ++ letters "BAD SCRIPT 5\n"
     ++ letters "RECORD 0 01020909\n"
     ++ letters "END 5\n"
-unfolding transcript headerOf runFrom ended nextOf callLength callAt played laid puts putByte step does carries callOf outcome unless firstMet logIn logInTests refusedLogIn lawful isOpen setRandomAct setRandomTests searchFirstAct firstTests searchNextAct nextTests callLine shown hex badLine endLine decimal decimalIn recordLines recordLine same part
+unfolding transcript headerOf runFrom ended nextOf callLength callAt played laid puts putByte step does carries callOf outcome unless firstMet logIn logInTests refusedLogIn lawful bytes isOpen setRandomAct setRandomTests searchFirstAct firstTests searchNextAct nextTests callLine shown hex badLine endLine decimal decimalIn recordLines recordLine same part
 few-calls = refl

@@ -1,10 +1,11 @@
 -- No slot below the first match is one; the slots passed from there on are freed, so what is still to be freed gives the whole.
-use Rattle.disk_volume.proofs.FindLaws.{folded-from-found}
+use Rattle.disk_volume.proofs.FindLaws.{folded-from-found, from-low, folded-to-next}
 use Rattle.disk_volume.specs.declared.Wanted.the-variants.{Match}
 use Rattle.lists.proofs.FoldLaws.{Folded, folded-next, folded-end}
 use denote.Ref.{now}
 use mathlib.Core.Path.{_≡_, sym, _∙_}
-use Prim.Native.Nat.{_-_, _≤_}
+use Prim.Native.Nat.{_+_, _-_, _≤_}
+use native.Mathlib.Omega.{arith}
 use lib.ListN.{length}
 use borrow.Author.Needs.{needs}
 use Rattle.disk_volume.specs.Name.{strip}
@@ -35,17 +36,27 @@ loop-holds c =
 free-slot-requires : tie.Need-free-slot-requires Inv-loop μ-loop
 free-slot-requires c κs = search needs
 
-add-i : tie.Need-add-i Inv-loop μ-loop
-add-i c = search needs
+add-match-from : tie.Need-add-match-from Inv-loop μ-loop
+add-match-from c = search needs
+
+match-from-requires : tie.Need-match-from-requires Inv-loop μ-loop
+match-from-requires c κs = search needs
 
 loop-less : tie.Need-loop-less Inv-loop μ-loop
-loop-less c = search needs
+loop-less c =
+    let a = c .before .before .before .before .before .before .before .before .before .before .before .args in
+    omega (arith, c .match-from .ensures .0, from-low (a .g) (now (a .volume)) (a .user) (strip (now (a .pattern))) Match (c .before .before .before .before .before .before .loop .i + 1) (search needs))
 
 loop-again : tie.Need-loop-again Inv-loop μ-loop
+unfolding freeSlot
 loop-again c =
-    let l = c .before .before .before .before .before .loop in
-    let r = c .before .before .free-slot in
-    (search needs, (r .kept .1 .1 .1 .1 .0 ∙ l .inv .1 .0, folded-next (l .inv .1 .1) (search needs) (r .ensures)))
+    let a = c .before .before .before .before .before .before .before .before .before .before .before .args in
+    let l = c .before .before .before .before .before .before .loop in
+    let r = c .before .before .before .free-slot in
+    let f = folded-next (l .inv .1 .1) (search needs) (r .ensures) in (
+      c .match-from .ensures .1,
+      (r .kept .1 .1 .1 .1 .0 ∙ l .inv .1 .0, rw (c .match-from .ensures .0) (folded-to-next (a .g) (now (a .volume)) (a .user) (strip (now (a .pattern))) Match f (search needs) (λ i h. rw h))),
+    )
 
 same-length : tie.Need-same-length Inv-loop μ-loop
 same-length c = search needs
@@ -63,7 +74,8 @@ free-matches-spec =
     slots-requires
     loop-holds
     free-slot-requires
-    add-i
+    add-match-from
+    match-from-requires
     loop-less
     loop-again
     same-length

@@ -21,7 +21,7 @@ why c =
     let a = c .before .before .before .before .before .before .before .before .args in
     let v = now (a .volume) in
     let n = strip (now (a .name)) in
-    rw (← ladder-two Exists NoRoom (ltb (findSlot (a .g) v (a .user) n File) (slots (a .g))) (leb (slots (a .g)) (findSlot (a .g) v (a .user) n Empty)) refl, ← c .before .before .before .before .find .ensures .0, ← c .before .before .before .find2 .ensures .0, ← c .before .before .before .before .before .slots .ensures .0, ← c .before .before .refuse .ensures, ← c .before .refuse2 .ensures) (c .first-of .ensures)
+    rw (← ladder-two Exists NoRoom (ltb (findSlot (a .g) v (a .user) n File) (slots (a .g))) (leb (slots (a .g)) (findSlot (a .g) v (a .user) n Empty)) refl, ← c .before .before .before .before .find .ensures .0, ← c .before .before .before .find-empty .ensures .0, ← c .before .before .before .before .before .slots .ensures .0, ← c .before .before .refuse .ensures, ← c .before .refuse2 .ensures) (c .first-of .ensures)
 
 slots-requires : tie.Need-slots-requires
 slots-requires c κs = search needs
@@ -29,8 +29,8 @@ slots-requires c κs = search needs
 find-requires : tie.Need-find-requires
 find-requires c κs = search needs
 
-find-requires-2 : tie.Need-find-requires-2
-find-requires-2 c κs = search needs
+find-empty-requires : tie.Need-find-empty-requires
+find-empty-requires c κs = search needs
 
 refuse-requires : tie.Need-refuse-requires
 refuse-requires c κs = search needs
@@ -48,7 +48,7 @@ returns : tie.Need-returns
 returns c =
     let a = c .before .before .before .before .before .before .before .before .before .args in
     let e = c .first-of2 .ensures ∙ ap (first (a .before)) (why (c .before)) in
-    (e, (c .before .before .before .before .find2 .ensures .0, λ q. rw (c .before .before .before .before .find2 .ensures .0) (empty-slot-below (a .g) (now (a .volume)) (a .user) (strip (now (a .name))) (later-clear (a .before) _ (ap isNone (sym e) ∙ q)))))
+    (e, (c .before .before .before .before .find-empty .ensures .0, λ q. rw (c .before .before .before .before .find-empty .ensures .0) (empty-slot-below (a .g) (now (a .volume)) (a .user) (strip (now (a .name))) (later-clear (a .before) _ (ap isNone (sym e) ∙ q)))))
 
 pub make-why-spec : {M : Type 1} → statement M
 make-why-spec =
@@ -56,7 +56,7 @@ make-why-spec =
     (tie.spec
     slots-requires
     find-requires
-    find-requires-2
+    find-empty-requires
     refuse-requires
     refuse-requires-2
     first-of-requires

@@ -1,6 +1,6 @@
 -- 32 bytes take the fault that log-in's answer tells of; any other number of bytes is refused.
 use mathlib.Core.Path.{ap}
-use Rattle.disk_geometry.specs.Geometry.{geometryOf}
+use Rattle.disk_geometry.specs.Geometry.{geometryOf, withPlacing}
 use Rattle.call_answers.specs.Answer.{valueOf}
 use Rattle.filecalls.specs.declared.Reply.{Reply}
 use Rattle.churawel.proofs.ValueLaws.{log-in-value}
@@ -16,16 +16,10 @@ seal-requires c κs = search needs
 returns : tie.Need-returns
 returns c =
     let a = c .before .before .before .before .args in
-    fault-refused (geometryOf (a .block-bytes) (a .blocks) (a .directory-blocks)) (a .volume .now) (a .fault .now) (c .before .if1 .taken) (c .seal .ensures .1 (omega arith))
+    fault-refused (withPlacing (geometryOf (a .block-bytes) (a .blocks) (a .directory-blocks)) (a .placing)) (a .volume .now) (a .fault .now) (c .before .if1 .taken) (c .seal .ensures .1 (omega arith))
 
-size-requires : tie.Need-size-requires
-size-requires c κs = search needs
-
-size-requires-2 : tie.Need-size-requires-2
-size-requires-2 c κs = search needs
-
-size-requires-3 : tie.Need-size-requires-3
-size-requires-3 c κs = search needs
+geometry-requires : tie.Need-geometry-requires
+geometry-requires c κs = search needs
 
 log-in-requires : tie.Need-log-in-requires
 log-in-requires c κs = search needs
@@ -41,9 +35,9 @@ same-length c = search needs
 
 returns-2 : tie.Need-returns-2
 returns-2 c =
-    let a = c .before .before .before .before .before .before .before .before .before .before .before .before .args in
-    rw (← c .before .before .before .before .before .before .before .before .size .ensures, ← c .before .before .before .before .before .before .before .size2 .ensures, ← c .before .before .before .before .before .before .size3 .ensures)
-    (fault-done _ (a .volume .now) (a .fault .now) (c .before .before .before .before .before .before .before .before .before .if1 .left) (c .before .before .before .before .before .log-in .ensures) (c .before .before .before .put-fault-for .ensures) (c .seal2 .ensures .1 (rw (ap (λ (r : Reply). valueOf (r .answer)) (c .before .before .before .before .before .log-in .ensures)) (log-in-value _ _))))
+    let a = c .before .before .before .before .before .before .before .before .before .before .args in
+    rw (← c .before .before .before .before .before .before .geometry .ensures)
+    (fault-done _ (a .volume .now) (a .fault .now) (c .before .before .before .before .before .before .before .if1 .left) (c .before .before .before .before .before .log-in .ensures) (c .before .before .before .put-fault-for .ensures) (c .seal2 .ensures .1 (rw (ap (λ (r : Reply). valueOf (r .answer)) (c .before .before .before .before .before .log-in .ensures)) (log-in-value _ _))))
 
 pub churawel-fault-spec : {M : Type 1} → statement M
 churawel-fault-spec =
@@ -51,9 +45,7 @@ churawel-fault-spec =
     (tie.spec
     seal-requires
     returns
-    size-requires
-    size-requires-2
-    size-requires-3
+    geometry-requires
     log-in-requires
     put-fault-for-requires
     seal-requires-2

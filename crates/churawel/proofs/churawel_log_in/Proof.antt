@@ -9,14 +9,8 @@ use borrow.Author.Needs.{needs}
 use Rattle.churawel.proofs.churawel_log_in.Statement.{statement}
 use Rattle.churawel.proofs.churawel_log_in.Tie as tie
 
-size-requires : tie.Need-size-requires
-size-requires c κs = search needs
-
-size-requires-2 : tie.Need-size-requires-2
-size-requires-2 c κs = search needs
-
-size-requires-3 : tie.Need-size-requires-3
-size-requires-3 c κs = search needs
+geometry-requires : tie.Need-geometry-requires
+geometry-requires c κs = search needs
 
 length-for-requires : tie.Need-length-for-requires
 length-for-requires c κs = search needs
@@ -26,8 +20,8 @@ seal-requires c κs = search needs
 
 returns : tie.Need-returns
 returns c =
-    let a = c .before .before .before .before .before .before .before .before .args in
-    rw (← c .before .before .before .before .before .size .ensures, ← c .before .before .before .before .size2 .ensures, ← c .before .before .before .size3 .ensures)
+    let a = c .before .before .before .before .before .before .args in
+    rw (← c .before .before .before .geometry .ensures)
     (log-in-refused _ (a .volume .now) (a .drive .now) (c .before .before .length-for .ensures) (c .before .if1 .taken) (c .seal .ensures .1 (omega arith)))
 
 log-in-requires : tie.Need-log-in-requires
@@ -44,17 +38,15 @@ same-length c = search needs
 
 returns-2 : tie.Need-returns-2
 returns-2 c =
-    let a = c .before .before .before .before .before .before .before .before .before .before .before .before .before .before .args in
-    rw (← c .before .before .before .before .before .before .before .before .before .before .before .size .ensures, ← c .before .before .before .before .before .before .before .before .before .before .size2 .ensures, ← c .before .before .before .before .before .before .before .before .before .size3 .ensures)
+    let a = c .before .before .before .before .before .before .before .before .before .before .before .before .args in
+    rw (← c .before .before .before .before .before .before .before .before .before .geometry .ensures)
     (log-in-done _ (a .volume .now) (a .drive .now) (c .before .before .before .before .before .before .before .before .length-for .ensures) (c .before .before .before .before .before .before .before .if1 .left) (c .before .before .before .before .before .before .log-in .ensures) (c .before .before .before .encode .ensures) (c .seal2 .ensures .1 (rw (ap (λ (r : Reply). valueOf (r .answer)) (c .before .before .before .before .before .before .log-in .ensures)) (log-in-value _ _))))
 
 pub churawel-log-in-spec : {M : Type 1} → statement M
 churawel-log-in-spec =
     tie.close
     (tie.spec
-    size-requires
-    size-requires-2
-    size-requires-3
+    geometry-requires
     length-for-requires
     seal-requires
     returns

@@ -24,14 +24,23 @@ two-at-requires c κs = search needs
 two-at-requires-2 : tie.Need-two-at-requires-2
 two-at-requires-2 c κs = search needs
 
-two-at-requires-3 : tie.Need-two-at-requires-3
-two-at-requires-3 c κs = search needs
+byte-at-requires : tie.Need-byte-at-requires
+byte-at-requires c κs = search needs
+
+wide-requires : tie.Need-wide-requires
+wide-requires c κs = search needs
+
+byte-at-requires-2 : tie.Need-byte-at-requires-2
+byte-at-requires-2 c κs = search needs
+
+wide-requires-2 : tie.Need-wide-requires-2
+wide-requires-2 c κs = search needs
 
 returns-2 : tie.Need-returns-2
 unfolding headerOf
 returns-2 c = (
-  rw (← c .before .before .before .before .four-at .ensures, not-false (leb 10 (length (now (c .before .before .before .before .before .before .args .s))) && leb (c .before .before .before .before .four-at .result) longestVolume) (c .before .before .before .if1 .left), ← c .before .before .two-at .ensures .0, ← c .before .two-at2 .ensures .0, ← c .two-at3 .ensures .0),
-  leb-true (c .before .before .before .before .four-at .result) longestVolume (and-right (leb 10 (length (now (c .before .before .before .before .before .before .args .s)))) (leb (c .before .before .before .before .four-at .result) longestVolume) (not-false (leb 10 (length (now (c .before .before .before .before .before .before .args .s))) && leb (c .before .before .before .before .four-at .result) longestVolume) (c .before .before .before .if1 .left))),
+  rw (← c .before .before .before .before .before .before .before .four-at .ensures, not-false (leb 10 (length (now (c .before .before .before .before .before .before .before .before .before .args .s))) && leb (c .before .before .before .before .before .before .before .four-at .result) longestVolume) (c .before .before .before .before .before .before .if1 .left), ← c .before .before .before .before .before .two-at .ensures .0, ← c .before .before .before .before .two-at2 .ensures .0, ← c .before .before .before .byte-at .ensures, ← c .before .before .wide .ensures .0, ← c .before .byte-at2 .ensures, ← c .wide2 .ensures .0),
+  leb-true (c .before .before .before .before .before .before .before .four-at .result) longestVolume (and-right (leb 10 (length (now (c .before .before .before .before .before .before .before .before .before .args .s)))) (leb (c .before .before .before .before .before .before .before .four-at .result) longestVolume) (not-false (leb 10 (length (now (c .before .before .before .before .before .before .before .before .before .args .s))) && leb (c .before .before .before .before .before .before .before .four-at .result) longestVolume) (c .before .before .before .before .before .before .if1 .left))),
 )
 
 pub header-of-spec : {M : Type 1} → statement M
@@ -42,5 +51,8 @@ header-of-spec =
     returns
     two-at-requires
     two-at-requires-2
-    two-at-requires-3
+    byte-at-requires
+    wide-requires
+    byte-at-requires-2
+    wide-requires-2
     returns-2)

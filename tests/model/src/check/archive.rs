@@ -41,12 +41,12 @@ impl Seam for Archive {
     }
 
     fn call(&self, function: u8, parameter: u8, memory: &mut Memory) -> Result<u32, String> {
-        let none = Geometry { block_bytes: 0, blocks: 0, directory_blocks: 0 };
+        let none = Geometry::new(0, 0, 0);
         self.ask([1, function, parameter, 0], none, memory)
     }
 
     fn cut(&self, most: u32, function: u8, parameter: u8, memory: &mut Memory) -> Result<u32, String> {
-        let most = Geometry { block_bytes: most, blocks: 0, directory_blocks: 0 };
+        let most = Geometry::new(most, 0, 0);
         self.ask([4, function, parameter, 0], most, memory)
     }
 
@@ -55,7 +55,7 @@ impl Seam for Archive {
     }
 
     fn file(&self, from: u32, memory: &mut Memory) -> Result<u32, String> {
-        self.ask([3, 0, 0, 0], Geometry { block_bytes: from, blocks: 0, directory_blocks: 0 }, memory)
+        self.ask([3, 0, 0, 0], Geometry::new(from, 0, 0), memory)
     }
 }
 
@@ -79,7 +79,7 @@ impl Run {
     fn ask(&mut self, head: [u8; 4], geometry: Geometry, memory: &mut Memory) -> io::Result<(u32, u32)> {
         let mut lent = [&mut memory.drive, &mut memory.volume, &mut memory.control, &mut memory.buffer];
         let mut request = head.to_vec();
-        for number in [geometry.block_bytes, geometry.blocks, geometry.directory_blocks] {
+        for number in [geometry.block_bytes, geometry.blocks, geometry.directory_blocks, geometry.placing] {
             request.extend(number.to_le_bytes());
         }
         lent.iter().for_each(|bytes| request.extend((bytes.len() as u32).to_le_bytes()));

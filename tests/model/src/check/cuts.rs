@@ -13,6 +13,7 @@ use crate::doors::seam::Memory;
 use crate::paper::calls::*;
 use crate::paper::control;
 use crate::paper::directory::entry_at;
+use crate::paper::floppy::logical;
 use crate::paper::geometry::{extent_of_record, Geometry, RECORD};
 use crate::paper::held::{held_by_entries, Holding};
 use crate::paper::inspection::lowest_bad_slot;
@@ -20,7 +21,7 @@ use crate::paper::names::{matches, without_top_bits, Name};
 use crate::paper::stores::Asked;
 
 /// User, name and number of the present records, each with its bytes. The volume
-/// passes inspection.
+/// is in logical record order and passes inspection.
 type Present<'a> = BTreeMap<(u8, Name, u32), &'a [u8]>;
 
 fn present<'a>(geometry: &Geometry, volume: &'a [u8]) -> Present<'a> {
@@ -68,7 +69,8 @@ pub fn first_fault(most: u32, call: &Call, before: &Memory, after: &Memory, answ
     if (made as u32) < most && left_by(&whole) != after.volume {
         return Some("with enough stores the volume is not the call's".to_string());
     }
-    let (old, new) = (present(&geometry, volume), present(&geometry, &after.volume));
+    let (before, after) = (logical(&geometry, volume), logical(&geometry, &after.volume));
+    let (old, new) = (present(&geometry, &before), present(&geometry, &after));
     if answer % 65536 == 0 && is_write(call.function) {
         written_otherwise(&whole, user, made, &old, &new)
     } else {

@@ -97,8 +97,8 @@ fn details(step: &Step, other: &Memory, model: &Memory) -> Vec<String> {
             format!("parameter {}, control block {}, buffer {}", call.parameter, control, buffer)
         }
         Step::LogIn(geometry) | Step::Fault(geometry, _) => {
-            let Geometry { block_bytes, blocks, directory_blocks } = geometry;
-            format!("B {}, T {}, D {}", block_bytes, blocks, directory_blocks)
+            let Geometry { block_bytes, blocks, directory_blocks, placing } = geometry;
+            format!("B {}, T {}, D {}, placing {}", block_bytes, blocks, directory_blocks, placing)
         }
         Step::Cut(most, call) => {
             let (control, buffer) = (hex(&call.control), hex(&call.buffer));

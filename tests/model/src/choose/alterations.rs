@@ -4,7 +4,8 @@
 use super::aims::present_places;
 use super::random::Random;
 use crate::paper::directory::{entry_at, number_bytes, Entry, EMPTY};
-use crate::paper::geometry::{Geometry, MAP, SLOT};
+use crate::paper::floppy::{logical, start, start_of, IMAGE_BYTES};
+use crate::paper::geometry::{Geometry, MAP, RECORD, SLOT};
 use crate::paper::names::ANY;
 
 /// Where, and the bytes to lay there (at most 200).
@@ -70,9 +71,29 @@ const KINDS: &[(usize, Kind)] = &[
     (1, bytes_anywhere),
 ];
 
+/// One alteration of what is lent. On an image it lies within one record.
+pub fn alteration(r: &mut Random, geometry: &Geometry, lent: &[u8], user: Option<u8>) -> Alteration {
+    let volume = logical(geometry, lent);
+    let (offset, mut bytes) = alteration_of_volume(r, &geometry.straight(), &volume, user);
+    if !geometry.is_floppy() || lent.len() != IMAGE_BYTES || offset / RECORD >= geometry.records() {
+        return (offset, bytes);
+    }
+    bytes.truncate(RECORD - offset % RECORD);
+    (start(offset / RECORD) + offset % RECORD, bytes)
+}
+
+/// The slot in which a byte of what is lent stands, if it is one of the directory's
+/// or lies behind it.
+pub fn slot_at(geometry: &Geometry, offset: usize) -> usize {
+    let is_here = |q: &usize| (start_of(geometry, *q)..start_of(geometry, *q) + RECORD).contains(&offset);
+    let records = geometry.slots() * SLOT / RECORD;
+    let record = (0..records).find(is_here);
+    record.map_or(geometry.slots(), |q| (q * RECORD + offset - start_of(geometry, q)) / SLOT)
+}
+
 /// One alteration of a volume; where a user is named, mostly of an entry that is
 /// the user's. The geometry is within the rules; the volume may have any length.
-pub fn alteration(r: &mut Random, geometry: &Geometry, volume: &[u8], user: Option<u8>) -> Alteration {
+fn alteration_of_volume(r: &mut Random, geometry: &Geometry, volume: &[u8], user: Option<u8>) -> Alteration {
     let slots = geometry.slots().min(volume.len() / SLOT);
     if slots == 0 {
         let length = r.between(0, 20);

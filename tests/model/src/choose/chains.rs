@@ -3,7 +3,7 @@
 //! that are not served.
 
 use super::aims::View;
-use super::alterations::alteration;
+use super::alterations::{alteration, slot_at};
 use super::bad_scripts::number_not_served;
 use super::cuttings::{some_most, stores_made};
 use super::drives::{drive_of_another_length, wild_drive};
@@ -18,7 +18,8 @@ use crate::doors::script::{lay, Call};
 use crate::doors::seam::{self, Memory};
 use crate::paper::calls::LOG_INS;
 use crate::paper::directory::EMPTY;
-use crate::paper::geometry::{Geometry, SLOT};
+use crate::paper::floppy::{logical, start_of};
+use crate::paper::geometry::{Geometry, RECORD, SLOT};
 use crate::paper::inspection::lowest_bad_slot;
 
 /// Volumes above this keep their length throughout a chain.
@@ -138,7 +139,7 @@ impl Making {
         let user = decode(&self.memory.drive).map(|state| state.user);
         let (offset, bytes) = alteration(&mut self.r, &geometry, &self.memory.volume, user);
         self.lay(offset, bytes);
-        self.altered_slot = Some(offset / SLOT);
+        self.altered_slot = Some(slot_at(&geometry, offset));
     }
 
     fn wants_log_in(&mut self) -> bool {
@@ -164,7 +165,7 @@ impl Making {
         }
         if self.r.percent(60) {
             if let Some(slot) = lowest_bad_slot(&self.geometry, &self.memory.volume) {
-                self.lay(slot * SLOT, vec![EMPTY]);
+                self.lay(start_of(&self.geometry, slot * SLOT / RECORD) + slot * SLOT % RECORD, vec![EMPTY]);
             }
         }
         self.log_in_with(given);
@@ -245,7 +246,8 @@ impl Making {
         let closed = state.is_none();
         let user = state.map_or(0, |state| state.user);
         let memory = &self.memory;
-        let view = View { geometry, volume: &memory.volume, user, altered: self.altered_slot };
+        let volume = logical(&geometry, &memory.volume);
+        let view = View { geometry: geometry.straight(), volume: &volume, user, altered: self.altered_slot };
         let call = if closed || wrong_length {
             self.chooser.any(&mut self.r, &view)
         } else {

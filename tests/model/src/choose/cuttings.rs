@@ -14,6 +14,7 @@ use crate::doors::drive_bytes::{closed, decode};
 use crate::doors::script::Call;
 use crate::doors::seam::{self, Memory};
 use crate::paper::calls::*;
+use crate::paper::floppy::logical;
 
 /// Where the numbers of these chains begin among those of a seed.
 const OWN: u64 = u64::MAX / 8;
@@ -66,14 +67,16 @@ impl Making {
     /// A call of this function, now and then with something out of order.
     fn chosen(&mut self, function: u8) -> Call {
         let user = decode(&self.memory.drive).map_or(0, |state| state.user);
-        let view = View { geometry: self.geometry, volume: &self.memory.volume, user, altered: None };
+        let volume = logical(&self.geometry, &self.memory.volume);
+        let view = View { geometry: self.geometry.straight(), volume: &volume, user, altered: None };
         call_with_faults(&mut self.r, &view, function, &[0, 0, 0, 0, 0, 0, 1])
     }
 
     /// Log-in, and a user that has files.
     fn begin(&mut self) {
         self.log_in();
-        let view = View { geometry: self.geometry, volume: &self.memory.volume, user: 0, altered: None };
+        let volume = logical(&self.geometry, &self.memory.volume);
+        let view = View { geometry: self.geometry.straight(), volume: &volume, user: 0, altered: None };
         let parameter = view.user_with_files(&mut self.r);
         self.call(Call { function: USER, parameter, control: Vec::new(), buffer: Vec::new() });
     }

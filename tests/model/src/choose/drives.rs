@@ -39,7 +39,7 @@ pub fn wild_drive(r: &mut Random, drive: &[u8], geometry: &Geometry, volume: &[u
         11..=15 => keep_pattern(r, &mut wild, geometry, volume),
         16..=18 => keep_every_slot(r, &mut wild, geometry),
         19..=22 => keep_none(r, &mut wild),
-        23 => wild[24 + r.below(8)] = r.pick(&[0, 1, 128]),
+        23 => wild[24 + r.below(8)] = r.pick(&[0, 1, 2, 128]),
         24..=25 => put_geometry(&mut wild, &other_geometry(r, geometry)),
         26 => wild.resize(r.pick(&NO_LENGTHS), 0),
         27 => r.fill(&mut wild),

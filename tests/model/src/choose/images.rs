@@ -6,6 +6,7 @@ use std::collections::BTreeSet;
 use super::pool::{name_of_pool, numbered_name, user};
 use super::random::Random;
 use crate::paper::directory::{entry_at, store_entry, Entry, EMPTY};
+use crate::paper::floppy::{lay_back, IMAGE_BYTES};
 use crate::paper::geometry::{Geometry, SLOT};
 use crate::paper::names::Name;
 
@@ -30,8 +31,20 @@ pub fn contents(r: &mut Random) -> Contents {
     ])
 }
 
-/// An image that log-in accepts.
+/// An image that log-in accepts. What no logical record of a floppy's volume stands
+/// in is noise.
 pub fn valid_image(r: &mut Random, geometry: Geometry, contents: Contents) -> Vec<u8> {
+    let volume = valid_volume(r, geometry.straight(), contents);
+    if !geometry.is_floppy() {
+        return volume;
+    }
+    let mut image = r.bytes(IMAGE_BYTES);
+    lay_back(&mut image, &volume);
+    image
+}
+
+/// A volume in logical record order.
+fn valid_volume(r: &mut Random, geometry: Geometry, contents: Contents) -> Vec<u8> {
     let mut making = Making::new(r, geometry);
     // Mostly some blocks are kept free while files are added.
     let mut reserve = Vec::new();

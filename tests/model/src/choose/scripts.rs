@@ -1,7 +1,7 @@
 //! Random scripts, for `replay` and for the seam.
 
 use super::aims::View;
-use super::alterations::alteration;
+use super::alterations::{alteration, slot_at};
 use super::bad_scripts::bad_script;
 use super::geometries::{geometry, wide_geometry, wrong_geometry};
 use super::images::{contents, image_of_wrong_geometry, make_length_wrong, valid_image};
@@ -12,7 +12,8 @@ use crate::doors::replay::Player;
 use crate::doors::script::{lay, Call, Script, LARGEST_VOLUME, TOUCH};
 use crate::paper::calls::LOG_INS;
 use crate::paper::directory::EMPTY;
-use crate::paper::geometry::{Geometry, SLOT};
+use crate::paper::floppy::{logical, start_of};
+use crate::paper::geometry::{Geometry, RECORD, SLOT};
 use crate::paper::held::Way;
 use crate::paper::inspection::lowest_bad_slot;
 
@@ -92,7 +93,8 @@ fn geometry_and_volume(r: &mut Random) -> (Geometry, Vec<u8>) {
 
 fn alter_one_byte(r: &mut Random, geometry: &Geometry, volume: &mut [u8]) {
     if r.percent(40) {
-        volume[r.below(geometry.slots() * SLOT)] = r.byte();
+        let at = r.below(geometry.slots() * SLOT);
+        volume[start_of(geometry, at / RECORD) + at % RECORD] = r.byte();
         return;
     }
     let (offset, mut bytes) = alteration(r, geometry, volume, None);
@@ -119,7 +121,7 @@ fn calls(r: &mut Random, number: u64, geometry: Geometry, volume: &[u8], altered
         let line = player.play(&call);
         chooser.saw(call.function, line.answer, line.control.as_deref().unwrap_or(&[]));
         if let Some((offset, _)) = call.touched() {
-            altered_slot = Some(offset / SLOT);
+            altered_slot = Some(slot_at(&seen(&geometry), offset));
         } else if r.percent(12) {
             altered_slot = None;
         }
@@ -168,8 +170,9 @@ fn next_call(
     if altered && r.percent(12) {
         return touch_call(r, player);
     }
-    let geometry = player.geometry;
-    let view = View { geometry, volume: &player.volume, user: state.user, altered: altered_slot };
+    let volume = logical(&player.geometry, &player.volume);
+    let geometry = player.geometry.straight();
+    let view = View { geometry, volume: &volume, user: state.user, altered: altered_slot };
     chooser.next(r, &view, &|call| player.clone().play(call).answer)
 }
 
@@ -182,11 +185,13 @@ fn reopening_call(r: &mut Random, player: &Player, chooser: &mut Chooser) -> Cal
         return touch_call(r, player);
     }
     if r.percent(25) || (!right && r.percent(60)) {
-        return chooser.any(r, &View { geometry: seen(geometry), volume, user: 0, altered: None });
+        let seen = seen(geometry);
+        let volume = &logical(&seen, volume);
+        return chooser.any(r, &View { geometry: seen.straight(), volume, user: 0, altered: None });
     }
     if right && r.percent(70) {
         if let Some(slot) = lowest_bad_slot(geometry, volume) {
-            return Call::touch(slot * SLOT, &[EMPTY]);
+            return Call::touch(start_of(geometry, slot * SLOT / RECORD) + slot * SLOT % RECORD, &[EMPTY]);
         }
     }
     log_in_call(r)

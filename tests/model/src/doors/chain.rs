@@ -28,9 +28,9 @@ pub enum Step {
     Drive(Vec<u8>),
     /// `A`, 32 bits of offset, run: something else lays bytes into the volume.
     Lay(usize, Vec<u8>),
-    /// `L`, B, T, D of 32 bits each: `churawel_log_in`.
+    /// `L`, B, T, D and placing of 32 bits each: `churawel_log_in`.
     LogIn(Geometry),
-    /// `F`, B, T, D of 32 bits each, run of what is lent: `churawel_fault`.
+    /// `F`, the same four, run of what is lent: `churawel_fault`.
     Fault(Geometry, Vec<u8>),
     /// `N`, 32 bits, run of what is lent: `churawel_file`.
     File(u32, Vec<u8>),
@@ -89,7 +89,7 @@ fn put_number(number: u32, bytes: &mut Vec<u8>) {
 }
 
 fn put_geometry(geometry: &Geometry, bytes: &mut Vec<u8>) {
-    for number in [geometry.block_bytes, geometry.blocks, geometry.directory_blocks] {
+    for number in [geometry.block_bytes, geometry.blocks, geometry.directory_blocks, geometry.placing] {
         put_number(number, bytes);
     }
 }
@@ -149,7 +149,8 @@ fn encode_step(step: &Step, bytes: &mut Vec<u8>) {
 }
 
 fn take_geometry(reader: &mut Reader) -> Option<Geometry> {
-    Some(Geometry::new(reader.number(4)?, reader.number(4)?, reader.number(4)?))
+    let straight = Geometry::new(reader.number(4)?, reader.number(4)?, reader.number(4)?);
+    Some(Geometry { placing: reader.number(4)?, ..straight })
 }
 
 fn take_call(reader: &mut Reader) -> Option<Call> {

@@ -26,9 +26,10 @@ pub fn cut(most: u32, function: u8, parameter: u8, memory: &mut Memory) -> u32 {
     if LOG_INS.contains(&function) {
         return inspection::log_in(open.geometry, &memory.volume, Way::Kept).0;
     }
+    let geometry = open.geometry;
     let (refusal, stores) = asked(drive, function, parameter, memory).stores();
     let made = stores.len().min(most as usize);
-    lay_down(&mut memory.volume, &stores[..made]);
+    lay_down(&geometry, &mut memory.volume, &stores[..made]);
     refusal + 65536 * made as u32
 }
 

@@ -8,7 +8,8 @@ use crate::paper::state::{Drive, KeptSearch, State};
 pub const DRIVE_BYTES: usize = 64;
 pub const WIDE_DRIVE_BYTES: usize = 544;
 
-/// Where the held words begin.
+/// Where the placing stands, and where the held words begin.
+pub const PLACING: usize = 24;
 const WORDS: usize = 32;
 
 /// The length that a drive of so many blocks must have, lawful or not.
@@ -38,8 +39,9 @@ fn put_number(bytes: &mut [u8], at: usize, number: u32) {
     bytes[at..at + 2].copy_from_slice(&(number as u16).to_le_bytes());
 }
 
-/// B, T and D into bytes 0 to 5.
+/// B, T and D into bytes 0 to 5, the placing into byte 24.
 pub fn put_geometry(bytes: &mut [u8], geometry: &Geometry) {
+    bytes[PLACING] = geometry.placing as u8;
     put_number(bytes, 0, geometry.block_bytes);
     put_number(bytes, 2, geometry.blocks);
     put_number(bytes, 4, geometry.directory_blocks);
@@ -70,7 +72,10 @@ pub fn decode(bytes: &[u8]) -> Drive {
         return None;
     }
     let state = State {
-        geometry: Geometry::new(number_at(bytes, 0), number_at(bytes, 2), number_at(bytes, 4)),
+        geometry: Geometry {
+            placing: bytes[PLACING] as u32,
+            ..Geometry::new(number_at(bytes, 0), number_at(bytes, 2), number_at(bytes, 4))
+        },
         user: bytes[6],
         protected: bytes[7] == 1,
         search: kept_search(bytes),
@@ -82,7 +87,7 @@ pub fn decode(bytes: &[u8]) -> Drive {
 /// Whether the bytes are those of some state, within the rules or not.
 fn is_well_formed(bytes: &[u8]) -> bool {
     let all_zero = |bytes: &[u8]| bytes.iter().all(|&byte| byte == 0);
-    bytes[7] <= 1 && bytes[8] <= 2 && (bytes[8] != 0 || all_zero(&bytes[9..24])) && all_zero(&bytes[24..32])
+    bytes[7] <= 1 && bytes[8] <= 2 && (bytes[8] != 0 || all_zero(&bytes[9..24])) && all_zero(&bytes[25..32])
 }
 
 fn kept_search(bytes: &[u8]) -> Option<KeptSearch> {

@@ -1,5 +1,5 @@
-//! The script that `replay` reads: B, T, D (16 bits each), L (32 bits) and L
-//! bytes of volume, then for each call: function, parameter, F and F bytes, K
+//! The script that `replay` reads: B and T (16 bits each), D and the placing (a
+//! byte each), L (32 bits) and L bytes of volume, then for each call: function, parameter, F and F bytes, K
 //! (16 bits) and K bytes. Numbers are little-endian.
 
 use super::reader::Reader;
@@ -64,10 +64,11 @@ impl Script {
 
     pub fn encode(&self) -> Vec<u8> {
         let mut bytes = Vec::new();
-        let Geometry { block_bytes, blocks, directory_blocks } = self.geometry;
-        for number in [block_bytes, blocks, directory_blocks] {
+        let Geometry { block_bytes, blocks, directory_blocks, placing } = self.geometry;
+        for number in [block_bytes, blocks] {
             bytes.extend((number as u16).to_le_bytes());
         }
+        bytes.extend([directory_blocks as u8, placing as u8]);
         bytes.extend((self.volume.len() as u32).to_le_bytes());
         bytes.extend(&self.volume);
         for call in &self.calls {
@@ -103,7 +104,8 @@ pub fn encode_call(call: &Call, bytes: &mut Vec<u8>) {
 
 /// `None` where the head is cut off or the volume is overlong.
 fn decode_head(reader: &mut Reader) -> Option<(Geometry, Vec<u8>)> {
-    let geometry = Geometry::new(reader.number(2)?, reader.number(2)?, reader.number(2)?);
+    let straight = Geometry::new(reader.number(2)?, reader.number(2)?, reader.number(1)?);
+    let geometry = Geometry { placing: reader.number(1)?, ..straight };
     let length = reader.number(4)? as usize;
     if length > LARGEST_VOLUME {
         return None;

@@ -6,6 +6,7 @@ use super::drive_bytes::decode;
 use super::seam::Memory;
 use crate::paper::bad_slots::first_fault;
 use crate::paper::directory::{entry_at, slots_of_file, Entry};
+use crate::paper::floppy::logical;
 use crate::paper::geometry::Geometry;
 use crate::paper::held::Way;
 use crate::paper::inspection;
@@ -31,7 +32,8 @@ pub fn fault(geometry: Geometry, memory: &mut Memory) -> u32 {
 }
 
 fn put_fault(geometry: &Geometry, volume: &[u8], slot: usize, bytes: &mut [u8]) {
-    let fault = first_fault(geometry, volume, slot).expect("a bad slot breaks a rule");
+    let volume = &logical(geometry, volume);
+    let fault = first_fault(&geometry.straight(), volume, slot).expect("a bad slot breaks a rule");
     bytes[0] = fault.rule;
     bytes[1] = fault.place as u8;
     put_number(bytes, 2, fault.number as usize);
@@ -53,7 +55,7 @@ pub fn file(from: u32, memory: &mut Memory) -> u32 {
     if memory.buffer.len() != LINE_BYTES {
         return 35;
     }
-    let volume = &memory.volume;
+    let volume = &logical(geometry, &memory.volume);
     for slot in from as usize..geometry.slots() {
         let entry = entry_at(volume, slot);
         if entry.is_empty() {
@@ -61,7 +63,8 @@ pub fn file(from: u32, memory: &mut Memory) -> u32 {
         }
         let slots = slots_of_file(geometry, volume, entry.user(), &entry.name());
         if slots[0] == slot {
-            memory.buffer = line(geometry, volume, &slots);
+            let line = line(geometry, volume, &slots);
+            memory.buffer = line;
             return 65536 * slot as u32;
         }
     }

@@ -2,6 +2,7 @@
 //! the order of the paper's sentence.
 
 use super::directory::{entry_at, Entry, Map};
+use super::floppy::logical;
 use super::geometry::Geometry;
 use super::names::is_name;
 
@@ -47,6 +48,7 @@ fn own_places(map: &Map, rule: u8, against: impl Fn(usize, u16) -> Option<Option
 
 /// The first rule that a slot breaks, if it breaks one.
 pub fn first_fault(geometry: &Geometry, volume: &[u8], slot: usize) -> Option<Fault> {
+    let volume = &logical(geometry, volume);
     let entry = entry_at(volume, slot);
     if entry.is_empty() {
         return None;

@@ -2,6 +2,8 @@
 //! of them but log-in (`inspection`).
 
 use super::control;
+use super::floppy::{self, IMAGE_BYTES};
+use super::geometry::{EIGHT_INCH, FLOPPY, STRAIGHT};
 use super::state::{Drive, State};
 use super::{files, records, refusals, several};
 
@@ -103,6 +105,35 @@ pub fn succeeded(function: u8, number: u32, value: u32) -> bool {
 /// One call other than log-in: its number, and the value beside it, which is 0
 /// but for several records. The function is one of `CALLS`.
 pub fn call(drive: &mut Drive, function: u8, parameter: u8, lent: &mut Lent) -> (u32, u32) {
+    match drive {
+        Some(state) if state.geometry.is_floppy() && state.within_rules() => {
+            on_floppy(drive, function, parameter, lent)
+        }
+        _ => on_volume(drive, function, parameter, lent),
+    }
+}
+
+/// "Every call answers on such an image as on the unskewed volume." Another length
+/// is 33 at its old place: no bytes stand for such an image.
+fn on_floppy(drive: &mut Drive, function: u8, parameter: u8, lent: &mut Lent) -> (u32, u32) {
+    let is_image = lent.volume.len() == IMAGE_BYTES;
+    let mut volume = if is_image { floppy::logical(&FLOPPY, lent.volume).into_owned() } else { Vec::new() };
+    let mut unskewed = Lent { volume: &mut volume, control: &mut *lent.control, buffer: &mut *lent.buffer };
+    place(drive, STRAIGHT);
+    let answer = on_volume(drive, function, parameter, &mut unskewed);
+    place(drive, EIGHT_INCH);
+    floppy::lay_back(lent.volume, &volume);
+    answer
+}
+
+fn place(drive: &mut Drive, placing: u32) {
+    if let Some(state) = drive {
+        state.geometry.placing = placing;
+    }
+}
+
+/// The call on a volume in logical record order.
+fn on_volume(drive: &mut Drive, function: u8, parameter: u8, lent: &mut Lent) -> (u32, u32) {
     if is_several(function) {
         return several::several(drive, function, parameter, lent);
     }

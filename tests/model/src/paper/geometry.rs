@@ -2,6 +2,8 @@
 //! blocks D, and what follows from them; with "The hard disk of the second
 //! machine" (02, xi), whose volumes have more than 256 blocks and are called wide.
 
+use super::floppy::IMAGE_BYTES;
+
 /// Bytes of a record.
 pub const RECORD: usize = 128;
 /// Bytes of a slot.
@@ -14,6 +16,12 @@ pub const MAP: usize = 16;
 pub const NARROW_BLOCKS: u32 = 256;
 /// "At most 8 MiB."
 pub const MOST_BYTES: u64 = 8 * 1024 * 1024;
+/// How records lie in the volume: in their order, or as on an eight-inch floppy.
+pub const STRAIGHT: u32 = 0;
+pub const EIGHT_INCH: u32 = 1;
+/// "1,024-byte blocks, T 243, D 2".
+pub const FLOPPY: Geometry =
+    Geometry { block_bytes: 1024, blocks: 243, directory_blocks: 2, placing: EIGHT_INCH };
 
 #[derive(Clone, Copy, PartialEq, Eq, Debug)]
 pub struct Geometry {
@@ -23,17 +31,31 @@ pub struct Geometry {
     pub blocks: u32,
     /// D
     pub directory_blocks: u32,
+    pub placing: u32,
 }
 
 impl Geometry {
+    /// With records in their order.
     pub fn new(block_bytes: u32, blocks: u32, directory_blocks: u32) -> Geometry {
-        Geometry { block_bytes, blocks, directory_blocks }
+        Geometry { block_bytes, blocks, directory_blocks, placing: STRAIGHT }
+    }
+
+    pub fn is_floppy(&self) -> bool {
+        self.placing == EIGHT_INCH
+    }
+
+    /// The geometry of the unskewed volume.
+    pub fn straight(&self) -> Geometry {
+        Geometry { placing: STRAIGHT, ..*self }
     }
 
     /// B is 1,024, 2,048 or 4,096 and T is 2 to 256; or, "from T 257 to 4,096",
     /// B is "2,048 or 4,096 and at most 8 MiB" are T times B. D is 1 to 16 and
-    /// below T.
+    /// below T. The eight-inch placing is lawful with the floppy's numbers alone.
     pub fn within_rules(&self) -> bool {
+        if self.placing != STRAIGHT {
+            return *self == FLOPPY;
+        }
         let narrow = [1024, 2048, 4096].contains(&self.block_bytes) && (2..=256).contains(&self.blocks);
         let wide = [2048, 4096].contains(&self.block_bytes)
             && (257..=4096).contains(&self.blocks)
@@ -61,9 +83,17 @@ impl Geometry {
         MAP / self.number_bytes()
     }
 
-    /// T times B.
+    /// T times B, but an image has also its reserved tracks and six records more.
     pub fn volume_bytes(&self) -> usize {
+        if self.is_floppy() {
+            return IMAGE_BYTES;
+        }
         self.blocks as usize * self.block_bytes as usize
+    }
+
+    /// Logical records of the volume.
+    pub fn records(&self) -> usize {
+        self.blocks as usize * self.records_a_block() as usize
     }
 
     /// R = B/128.

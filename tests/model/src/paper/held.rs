@@ -4,6 +4,7 @@
 use std::collections::BTreeSet;
 
 use super::directory::entry_at;
+use super::floppy::logical;
 use super::geometry::Geometry;
 
 /// Which way of knowing the held blocks a drive has.
@@ -18,9 +19,10 @@ pub type Held = BTreeSet<u16>;
 
 /// The numbers D..T-1 found in entries, nothing else.
 pub fn held_by_entries(geometry: &Geometry, volume: &[u8]) -> Held {
+    let volume = logical(geometry, volume);
     let mut held = Held::new();
     for slot in 0..geometry.slots() {
-        let entry = entry_at(volume, slot);
+        let entry = entry_at(&volume, slot);
         if !entry.is_empty() {
             held.extend(entry.map(geometry).iter().filter(|&&number| geometry.is_data_block(number)));
         }

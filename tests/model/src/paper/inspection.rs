@@ -3,6 +3,7 @@
 use std::collections::BTreeSet;
 
 use super::directory::{entry_at, Entry};
+use super::floppy::logical;
 use super::geometry::Geometry;
 use super::held::{free_blocks, held_by_entries, Holding, Way};
 use super::names::{is_name, Name};
@@ -51,9 +52,10 @@ impl Lower {
 /// The lowest bad slot, if any is bad. The geometry is within the rules and
 /// the volume has its length.
 pub fn lowest_bad_slot(geometry: &Geometry, volume: &[u8]) -> Option<usize> {
+    let volume = logical(geometry, volume);
     let mut lower = Lower::default();
     for slot in 0..geometry.slots() {
-        let entry = entry_at(volume, slot);
+        let entry = entry_at(&volume, slot);
         if entry.is_empty() {
             continue;
         }

@@ -10,6 +10,7 @@
 //! | Control block and position | `control` |
 //! | What each call does when it succeeds | `files`, `records` |
 //! | Numbers of refusal, in order of test | `refusals`; the rows from 255 on in `files`, `records` |
+//! | (02, i) Eight-inch floppies | `floppy` |
 //! | (02, ii) Several records a call | `several` |
 //! | (02, xi) The hard disk of the second machine | `geometry`; `Entry::map` in `directory` |
 //! | (02, xii) If the emulator is closed halfway | `stores` |
@@ -20,6 +21,7 @@ pub mod calls;
 pub mod control;
 pub mod directory;
 pub mod files;
+pub mod floppy;
 pub mod geometry;
 pub mod held;
 pub mod inspection;

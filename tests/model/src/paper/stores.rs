@@ -8,12 +8,13 @@ use std::collections::BTreeSet;
 use super::calls::*;
 use super::control;
 use super::directory::{entry_at, lowest_empty_slot, slot_of_group, slots_of_file};
-use super::geometry::{extent_of_record, Geometry, RECORD, SLOT};
+use super::floppy::{logical, start_of, IMAGE_BYTES};
+use super::geometry::{extent_of_record, Geometry, FLOPPY, RECORD, SLOT};
 use super::names::matches;
-use super::state::Drive;
+use super::state::{Drive, State};
 
-/// One store: the logical record, counted from the volume's first byte, and its
-/// 128 bytes.
+/// One store: the logical record, counted from the volume's first one, and its 128
+/// bytes.
 #[derive(Clone, PartialEq, Eq, Debug)]
 pub struct Store {
     pub record: usize,
@@ -21,9 +22,9 @@ pub struct Store {
 }
 
 /// A cut is what is left when so many stores are laid down and no more.
-pub fn lay_down(volume: &mut [u8], stores: &[Store]) {
+pub fn lay_down(geometry: &Geometry, volume: &mut [u8], stores: &[Store]) {
     for store in stores {
-        volume[store.record * RECORD..][..RECORD].copy_from_slice(&store.bytes);
+        volume[start_of(geometry, store.record)..][..RECORD].copy_from_slice(&store.bytes);
     }
 }
 
@@ -49,6 +50,9 @@ impl Asked {
     /// The number of the call's refusal, 0 where it is not refused, and what it
     /// stores, in order.
     pub fn stores(&self) -> (u32, Vec<Store>) {
+        if self.drive.as_ref().is_some_and(|state| state.geometry.is_floppy()) {
+            return self.unskewed().stores();
+        }
         let mut after = self.clone();
         let (number, value) = after.done();
         if !succeeded(self.function, number, value) {
@@ -61,6 +65,16 @@ impl Asked {
         let stores =
             self.records_set(&after).into_iter().map(|record| Store { record, bytes: bytes(record) });
         (0, stores.collect())
+    }
+
+    /// The same call on the unskewed volume of an image; of another length there is
+    /// none.
+    fn unskewed(&self) -> Asked {
+        let mut asked = self.clone();
+        let is_image = self.volume.len() == IMAGE_BYTES;
+        asked.volume = if is_image { logical(&FLOPPY, &self.volume).into_owned() } else { Vec::new() };
+        asked.drive = self.drive.clone().map(|state| State { geometry: state.geometry.straight(), ..state });
+        asked
     }
 
     /// "A call of (ii) stores as its single calls would": so many of them.

@@ -8,12 +8,13 @@ use crate::choose::chains::chain;
 use crate::choose::cuttings::cutting;
 use crate::choose::tellings;
 use crate::doors::cut;
-use crate::doors::drive_bytes::{DRIVE_BYTES, WIDE_DRIVE_BYTES};
+use crate::doors::drive_bytes::{DRIVE_BYTES, PLACING, WIDE_DRIVE_BYTES};
 use crate::doors::seam::{self, Memory, Seam};
 use crate::doors::telling;
 use crate::paper::calls::*;
 use crate::paper::control::CR;
-use crate::paper::geometry::Geometry;
+use crate::paper::floppy::{logical, start, IMAGE_BYTES};
+use crate::paper::geometry::{Geometry, FLOPPY, RECORD};
 
 /// Numbers for `churawel_cut`, `churawel_fault` and `churawel_file`.
 const CUT: u8 = 253;
@@ -277,6 +278,42 @@ fn wrong_bytes_of_wide_volumes() {
         Ok(answer)
     };
     found(fault_of_one_byte, "(churawel_fault): byte 3 of the buffer is 00, by the model ");
+}
+
+#[test]
+fn wrong_bytes_of_floppies() {
+    fn is_image(memory: &Memory) -> bool {
+        memory.volume.len() == IMAGE_BYTES && memory.drive.get(PLACING) == Some(&1)
+    }
+    let reserved: Mistake = |function, answer, memory| {
+        if function == RANDOM_WRITE && answer == 0 && is_image(memory) {
+            memory.volume[0] ^= 1;
+        }
+        Ok(answer)
+    };
+    found(reserved, "(function 34): byte 0 of the volume is ");
+    let last_six: Mistake = |function, answer, memory| {
+        if function == DELETE && answer == 0 && is_image(memory) {
+            memory.volume[start(1949)] ^= 1;
+        }
+        Ok(answer)
+    };
+    found(last_six, "(function 19): byte 255616 of the volume is ");
+    let in_order: Mistake = |function, answer, memory| {
+        if function == MAKE && answer <= 3 && is_image(memory) {
+            let volume = logical(&FLOPPY, &memory.volume).into_owned();
+            memory.volume[2 * 26 * RECORD..][..volume.len()].copy_from_slice(&volume);
+        }
+        Ok(answer)
+    };
+    found(in_order, "(function 22): byte ");
+    let placing_lost: Mistake = |function, answer, memory| {
+        if LOG_INS.contains(&function) && answer % 65536 == 0 {
+            memory.drive[PLACING] = 0;
+        }
+        Ok(answer)
+    };
+    found(placing_lost, ": byte 24 of the drive is 00, by the model 01");
 }
 
 #[test]

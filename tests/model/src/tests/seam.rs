@@ -9,7 +9,7 @@ use crate::paper::control::EX;
 use crate::paper::geometry::Geometry;
 use crate::paper::names::ANY;
 
-const GEOMETRY: Geometry = Geometry { block_bytes: 1024, blocks: 8, directory_blocks: 1 };
+const GEOMETRY: Geometry = Geometry { block_bytes: 1024, blocks: 8, directory_blocks: 1, placing: 0 };
 
 /// The bench's volume, with 64 bytes that are no state.
 fn memory() -> Memory {
@@ -126,7 +126,7 @@ fn numbers_that_are_not_served() {
 #[test]
 fn a_closed_drive_is_32_for_every_number() {
     let mut malformed = after_log_in();
-    malformed[24] = 1;
+    malformed[25] = 1;
     for drive in [closed(8), malformed.to_vec(), vec![0; 63], after_log_in()[..63].to_vec()] {
         let mut memory = Memory { drive, ..memory() };
         let before = memory.clone();
@@ -143,7 +143,7 @@ fn drive_bytes_that_count_as_closed() {
     #[rustfmt::skip]
     let wrong = [
         (0, 1), (1, 6), (2, 1), (3, 2), (4, 8), (4, 0), (5, 1), (6, 16), (7, 2), (8, 1), (8, 3),
-        (9, 1), (12, 1), (23, 1), (24, 1), (31, 128),
+        (9, 1), (12, 1), (23, 1), (24, 1), (24, 2), (25, 1), (31, 128),
     ];
     for (at, value) in wrong {
         let mut bytes = after_log_in();

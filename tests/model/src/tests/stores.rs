@@ -25,7 +25,7 @@ fn records(b: &Bench, function: u8, parameter: u8) -> Vec<usize> {
     let (refusal, stores) = whole.stores();
     assert_eq!(refusal, 0);
     let mut volume = b.volume.clone();
-    lay_down(&mut volume, &stores);
+    lay_down(&b.geometry, &mut volume, &stores);
     whole.done();
     assert!(volume == whole.volume);
     assert!(stores.iter().all(|store| store.bytes.len() == RECORD));
@@ -185,7 +185,7 @@ fn a_cut_that_is_refused_closes_the_drive_too() {
 /// What is demanded of a cut, where the stores are these.
 fn demanded(b: &Bench, function: u8, parameter: u8, stores: &[Store]) -> Option<String> {
     let mut after = memory(b);
-    lay_down(&mut after.volume, stores);
+    lay_down(&b.geometry, &mut after.volume, stores);
     let call = Call { function, parameter, control: b.control.clone(), buffer: b.buffer.clone() };
     let made = stores.len() as u32;
     first_fault(made, &call, &memory(b), &after, made << 16)

@@ -16,7 +16,7 @@ use crate::paper::stores::Asked;
 
 /// B 2,048, T 300, D 1: eight places, one extent an entry, 16 records a block, 64
 /// slots.
-const GEOMETRY: Geometry = Geometry { block_bytes: 2048, blocks: 300, directory_blocks: 1 };
+const GEOMETRY: Geometry = Geometry { block_bytes: 2048, blocks: 300, directory_blocks: 1, placing: 0 };
 
 fn disk() -> Bench {
     Bench::open(2048, 300, 1, Way::Kept)

@@ -1,84 +1,72 @@
--- No slot passed so far has what is wanted, so what is still to be searched gives the whole.
-use mathlib.Core.Path.{_≡_, sym, _∙_}
-use Prim.Native.Nat.{_≤_, _-_}
+-- On a straight volume the directory is one run of entries; else it is looked through by its records.
+use mathlib.Core.Path.{_≡_, sym, subst}
+use Prim.Native.Nat.{_≤_}
+use native.Mathlib.Omega.{arith}
 use denote.Ref.{now}
 use borrow.Author.Needs.{needs}
-use Rattle.lists.proofs.BoundedLaws.{Searched, searched-start, searched-next, searched-hit, searched-none}
-use Rattle.disk_volume.specs.Directory.{slotFits}
-use Rattle.disk_volume.specs.Name.{strip}
+use Rattle.disk_geometry.specs.declared.Geometry.{Geometry}
 use Rattle.disk_geometry.specs.Geometry.{slots}
-use Rattle.disk_volume.proofs.EntryLaws.{lent-slot}
+use Rattle.disk_volume.specs.Directory.{findFrom}
+use Rattle.disk_volume.specs.Name.{strip}
+use Rattle.disk_volume.proofs.RunLaws.{the-floppy, of-floppy, directory-inside, run-whole, found-straight}
 use Rattle.disk_volume.proofs.directory.find_from.Statement.{statement}
 use Rattle.disk_volume.proofs.directory.find_from.Tie as tie
 
-abbrev Inv-loop : tie.InvT-loop
-Inv-loop g volume from user name wanted n i₀ i = (i ≤ slots g) × Searched (slotFits g volume user (strip name) wanted) from (slots g) i
+find-by-record-requires : tie.Need-find-by-record-requires
+find-by-record-requires c κs =
+    let s = c .before .before .before .before in
+    let e = the-floppy (s .args .g) (s .pre .0 .0) (c .if1 .taken) in
+    (of-floppy (s .args .g) e (s .pre .0 .0) (now (s .args .volume)) (s .pre .0 .1), (subst (λ (x : Geometry). s .args .from ≤ slots x) e (s .pre .1 .0), s .pre .1 .1))
 
-abbrev μ-loop : tie.MeasureT-loop
-μ-loop g volume from user name wanted n i₀ i = n - i
+returns : tie.Need-returns
+returns c =
+    let s = c .before .before .before .before .before in
+    let a = s .args in
+    let e = the-floppy (a .g) (s .pre .0 .0) (c .before .if1 .taken) in
+    subst
+    (λ (x : Geometry). (c .find-by-record .result ≡ findFrom x (now (a .volume)) (a .user) (strip (now (a .name))) (a .wanted) (a .from)) × (c .find-by-record .result ≤ slots x))
+    (sym e) (c .find-by-record .ensures)
 
--- what `has` answered is the test of slot i
-seen : (c : tie.After-has Inv-loop μ-loop) → (let a = c .before .before .before .before .before .before .before .before .args in c .has .result ≡ slotFits (a .g) (now (a .volume)) (a .user) (strip (now (a .name))) (a .wanted) (c .before .before .before .before .loop .i))
-seen c =
-    let a = c .before .before .before .before .before .before .before .before .args in
-    let at = c .before .before .slot-start in
-    rw (← lent-slot (a .g) (now (a .volume)) (c .before .before .before .before .loop .i) (at .result) (at .ensures .0)) (c .has .ensures)
-
-slots-requires : tie.Need-slots-requires Inv-loop μ-loop
+slots-requires : tie.Need-slots-requires
 slots-requires c κs = search needs
 
-loop-holds : tie.Need-loop-holds Inv-loop μ-loop
-loop-holds c = (search needs, searched-start)
+mul-end : tie.Need-mul-end
+mul-end c = search needs
 
-slot-start-requires : tie.Need-slot-start-requires Inv-loop μ-loop
-slot-start-requires c κs = search needs
+sub-find-in : tie.Need-sub-find-in
+sub-find-in c = search needs
 
-add-has : tie.Need-add-has Inv-loop μ-loop
-add-has c = search needs
+part-find-in-start : tie.Need-part-find-in-start
+part-find-in-start c = search needs
 
-sub-has : tie.Need-sub-has Inv-loop μ-loop
-sub-has c = search needs
+part-find-in-end : tie.Need-part-find-in-end
+part-find-in-end c =
+    let s = c .before .before .before .before .before in
+    let a = s .args in
+    omega (arith, c .slots .ensures .0, directory-inside (a .g) (s .pre .0 .0) (now (a .volume)) (s .pre .0 .1) (a .user) (strip (now (a .name))) (a .wanted) (c .before .if1 .left))
 
-part-has-start : tie.Need-part-has-start Inv-loop μ-loop
-part-has-start c = search needs
+find-in-requires : tie.Need-find-in-requires
+find-in-requires c κs =
+    let s = c .before .before .before .before .before .before in
+    let a = s .args in
+    ((s .pre .0 .0, run-whole (a .g) (s .pre .0 .0) (now (a .volume)) (s .pre .0 .1) (a .user) (strip (now (a .name))) (a .wanted) (c .before .before .if1 .left) _ (c .before .slots .ensures .0)), (search needs, search needs))
 
-part-has-end : tie.Need-part-has-end Inv-loop μ-loop
-part-has-end c = search needs
-
-has-requires : tie.Need-has-requires Inv-loop μ-loop
-has-requires c κs = search needs
-
-returns : tie.Need-returns Inv-loop μ-loop
-returns c = (sym (searched-hit (c .before .before .before .before .before .loop .inv .1) (search needs) (sym (seen (c .before)) ∙ c .if1 .taken)), search needs)
-
-add-i : tie.Need-add-i Inv-loop μ-loop
-add-i c = search needs
-
-loop-less : tie.Need-loop-less Inv-loop μ-loop
-loop-less c = search needs
-
-loop-again : tie.Need-loop-again Inv-loop μ-loop
-loop-again c = (search needs, searched-next (c .before .before .before .before .before .loop .inv .1) (search needs) (sym (seen (c .before)) ∙ c .if1 .left))
-
-returns-2 : tie.Need-returns-2 Inv-loop μ-loop
-returns-2 c = (sym (searched-none (c .before .loop .inv .1) (search needs)), search needs)
+returns-2 : tie.Need-returns-2
+returns-2 c =
+    let s = c .before .before .before .before .before .before .before in
+    let a = s .args in
+    found-straight (a .g) (s .pre .0 .0) (now (a .volume)) (s .pre .0 .1) (a .user) (strip (now (a .name))) (a .wanted) (c .before .before .before .if1 .left) _ _ _ (c .before .before .slots .ensures .0) (c .find-in .ensures)
 
 pub find-from-spec : {M : Type 1} → statement M
 find-from-spec =
     tie.close
     (tie.spec
-    Inv-loop
-    μ-loop
-    slots-requires
-    loop-holds
-    slot-start-requires
-    add-has
-    sub-has
-    part-has-start
-    part-has-end
-    has-requires
+    find-by-record-requires
     returns
-    add-i
-    loop-less
-    loop-again
+    slots-requires
+    mul-end
+    sub-find-in
+    part-find-in-start
+    part-find-in-end
+    find-in-requires
     returns-2)

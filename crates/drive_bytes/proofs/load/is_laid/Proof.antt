@@ -1,6 +1,6 @@
--- The words that code compares with zero are the bytes that the layout asks to be zero.
-use Rattle.drive_bytes.proofs.LoadLaws.{idle-words}
-use Rattle.numbers.proofs.NumberLaws.{zeros-number}
+-- The words that code compares with zero, and the one that it compares with the placing, have the bytes that the layout asks to be
+-- zero.
+use Rattle.drive_bytes.proofs.LoadLaws.{idle-words, spare-word}
 use Rattle.drive_bytes.specs.Layout.{laidOut}
 use Rattle.lists.specs.Bytes.{part}
 use borrow.Author.Needs.{needs}
@@ -46,12 +46,21 @@ eight-of-requires-3 c κs = search needs
 shared-slice-read-kind : tie.Need-shared-slice-read-kind
 shared-slice-read-kind c = search needs
 
+shared-slice-read-wide : tie.Need-shared-slice-read-wide
+shared-slice-read-wide c = search needs
+
+wide-requires : tie.Need-wide-requires
+wide-requires c κs = search needs
+
 shared-slice-read-result : tie.Need-shared-slice-read-result
 shared-slice-read-result c = search needs
 
 returns : tie.Need-returns
 unfolding laidOut part
-returns c = let s = c .before .before .before .before .before .before .before .before .before .args .s .now in rw (← idle-words s (c .before .before .before .before .before .before .before .before .before .pre), zeros-number (part s 24 8), c .before .before .before .before .before .before .eight-of .ensures, c .before .before .before .before .eight-of2 .ensures, c .before .before .eight-of3 .ensures)
+returns c =
+    let s = c .before .before .before .before .before .before .before .before .before .before .before .args .s .now in
+    let size = c .before .before .before .before .before .before .before .before .before .before .before .pre in
+    rw (← idle-words s size, ← spare-word s size, c .before .before .before .before .before .before .before .before .eight-of .ensures, c .before .before .before .before .before .before .eight-of2 .ensures, c .before .before .before .before .eight-of3 .ensures, c .before .wide .ensures .0)
 
 pub is-laid-spec : {M : Type 1} → statement M
 is-laid-spec =
@@ -70,5 +79,7 @@ is-laid-spec =
     part-eight-of-end-3
     eight-of-requires-3
     shared-slice-read-kind
+    shared-slice-read-wide
+    wide-requires
     shared-slice-read-result
     returns)

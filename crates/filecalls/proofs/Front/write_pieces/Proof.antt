@@ -43,7 +43,7 @@ returns : tie.Need-returns Inv-loop μ-loop
 returns c =
     let l = c .before .before .before .before .before .before .before .before .before .before .before .before .before .before .before .loop in
     let a = c .before .before .before .before .before .before .before .before .before .before .before .before .before .before .before .before .before .before .before .args in
-    let inside : l .i < a .k = search needs in
+    let inside : l .i < a .k = c .before .before .before .before .before .before .before .before .before .before .before .before .before .before .loop-test .taken in
     let fits : 128 * l .i + 128 ≤ length (a .buffer .now) = omega (arith, inside, c .before .before .before .before .before .before .before .before .before .before .before .before .before .before .before .before .before .before .before .pre) in
     cut-stop (joined (l .d) (l .held)) (l .volume) (l .fcb) (a .buffer .now) (l .left) (l .i) fits (c .before .before .before .before .before .before .before .before .before .write-piece .ensures) (l .inv .1 .1 .1) inside
     (sym (c .before .before .before .succeeded .ensures) ∙ not-true (c .before .before .before .succeeded .result) (c .before .before .if1 .taken)) (c .ended .ensures _ ∙ rw (c .before .why-of .ensures))

@@ -1,0 +1,5 @@
+-- What is read on the unskewed volume, and what is stored.
+pub mod Logical
+pub mod Seen
+pub mod Asked
+pub mod Stored

@@ -1,0 +1,2 @@
+-- The unskewed volume.
+pub mod Unskewed
