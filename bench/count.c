@@ -1,11 +1,13 @@
 // The same pieces of work as in bench.c, each done once on either side between two marks of the plugin instructions.c. A line
-// for each piece on standard output, `label work blocks slots side`, names what the label's count means.
+// for each piece on standard output, `label work blocks slots side`, names what the label's count means. What a shelf costs stands
+// beside the proved log-in.
 #define _GNU_SOURCE
 #include "churawel.h"
 #include "jobs.h"
 #include "plain.h"
 
 #include <stdio.h>
+#include <stdlib.h>
 #include <sys/syscall.h>
 #include <unistd.h>
 
@@ -81,6 +83,33 @@ static void count_floppy(void)
     }
 }
 
+// What a volume put on a shelf costs beside its own log-in: a full directory, an empty one, and one full of long files.
+static const struct {
+    const char *work;
+    void (*lay)(struct shelf *);
+} shelved[] = {{"shelf-full", fill_directory}, {"shelf-empty", empty_directory}, {"shelf-long-files", fill_long_files}};
+
+static void count_shelf(void)
+{
+    uint8_t shelf[CHURAWEL_SHELF_BYTES] = {0};
+    for (size_t i = 0; i < sizeof shelved / sizeof *shelved; i++) {
+        copy_shelf(&work, &full);
+        shelved[i].lay(&work);
+        mark(0);
+        log_in_job(&sides[0].side, 1);
+        mark(++label);
+        printf("%ld %s %u %u log-in\n", label, shelved[i].work, full.total, full.slots);
+        mark(0);
+        uint32_t answer = churawel_shelf(shelf, sizeof shelf, work.block, work.total, work.directory, work.placing, work.volume, work.bytes);
+        mark(++label);
+        printf("%ld %s %u %u shelf\n", label, shelved[i].work, full.total, full.slots);
+        if (answer != 0) {
+            fprintf(stderr, "%s: the volume of %u slots is refused\n", shelved[i].work, full.slots);
+            exit(1);
+        }
+    }
+}
+
 int main(void)
 {
     for (size_t k = 0; k < sizeof shapes / sizeof *shapes; k++) {
@@ -88,7 +117,10 @@ int main(void)
         for (size_t i = 0; i < sizeof pieces / sizeof *pieces; i++)
             for (size_t s = 0; s < sizeof sides / sizeof *sides; s++)
                 count(&pieces[i], &sides[s].side, sides[s].name);
+        count_shelf();
     }
     count_floppy();
+    // The volume is a floppy still.
+    count_shelf();
     return 0;
 }

@@ -148,3 +148,22 @@ void fill_directory(struct shelf *s)
         if (entry_in(s, slot)[0] == 0xE5)
             other_entry(entry_in(s, slot), slot);
 }
+
+void empty_directory(struct shelf *s)
+{
+    for (uint32_t slot = 0; slot < s->slots; slot++)
+        memset(entry_in(s, slot), 0xE5, ENTRY);
+}
+
+void fill_long_files(struct shelf *s)
+{
+    for (uint32_t slot = 0; slot < s->slots; slot++) {
+        uint8_t *e = entry_in(s, slot);
+        uint32_t extent = slot / 16 * extents_of(s);
+        memset(e, 0, ENTRY);
+        e[0] = slot % 16;
+        band_name(e + 1, 1);
+        e[12] = extent % 32;
+        e[14] = (uint8_t)(extent / 32);
+    }
+}

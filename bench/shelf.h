@@ -42,6 +42,10 @@ void lay_number(const struct shelf *s, uint8_t *entry, uint32_t place, uint32_t 
 // No empty slot is left.
 void fill_directory(struct shelf *s);
 
+// No slot has an entry; and every slot has one of sixteen files, one for each user, their groups one after another. Neither has blocks.
+void empty_directory(struct shelf *s);
+void fill_long_files(struct shelf *s);
+
 // The eleven bytes of a worked file's name.
 void band_name(uint8_t *name, unsigned file);
 

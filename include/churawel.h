@@ -20,7 +20,7 @@ extern "C" {
 
 /*
  * The lengths that calls want: of a drive up to 256 blocks, of a drive above, of a control block, of the transfer buffer (k times
- * as long for k records, at most so many), of a fault, and of a file's line.
+ * as long for k records, at most so many), of a fault, of a file's line, and of a shelf.
  */
 #define CHURAWEL_DRIVE_BYTES 64
 #define CHURAWEL_WIDE_DRIVE_BYTES 544
@@ -29,6 +29,7 @@ extern "C" {
 #define CHURAWEL_RECORDS_MOST 16
 #define CHURAWEL_FAULT_BYTES 32
 #define CHURAWEL_FILE_BYTES 24
+#define CHURAWEL_SHELF_BYTES 64
 
 /*
  * The two halves of an answer: its number, and a log-in's count of free blocks or its lowest bad slot, or of several records
@@ -178,6 +179,24 @@ uint32_t churawel_file(
     const uint8_t *volume, size_t volume_bytes,
     uint32_t from,
     uint8_t *file, size_t file_bytes);
+
+/* The numbers of a shelf's answer; where the volume was counted, the value is what log-in answered, 0 or 32, 33, 36. */
+enum {
+    CHURAWEL_SHELF_COUNTED = 0,
+    CHURAWEL_SHELF_FULL = 47,               /* the 65,536th volume */
+    CHURAWEL_SHELF_OUTSIDE = 32             /* a shelf that is not 64 bytes, or that has a figure of 2^48 or more; asked before 47 */
+};
+
+/*
+ * Puts a volume on a shelf: what up to 65,535 volumes hold together. The shelf's 64 bytes are eight numbers of eight bytes, low byte
+ * first: volumes refused at log-in; over the others files, entries, records present, blocks held, blocks free, and waste (blocks held
+ * times records a block, less records present); volumes seen. 64 zero bytes are an empty shelf. A volume that log-in refuses is
+ * counted as refused. Geometries may differ from volume to volume. Where the answer is not 0 nothing changes.
+ */
+uint32_t churawel_shelf(
+    uint8_t *shelf, size_t shelf_bytes,
+    uint32_t block_bytes, uint32_t blocks, uint32_t directory_blocks, uint32_t placing,
+    const uint8_t *volume, size_t volume_bytes);
 
 /* Did the call of this function succeed? A number alone does not say so: 2 is a directory code of 15 and a refusal of 34. */
 static inline int churawel_succeeded(uint8_t function, uint32_t answer)

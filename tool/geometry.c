@@ -70,18 +70,28 @@ static bool is_said(const struct options *options, struct geometry *geometry)
     return true;
 }
 
+// By -g and -f, by the environment or by the length; false, and V's, where none of them says it.
+static bool is_known(const struct options *options, uint64_t image_bytes, struct geometry *geometry)
+{
+    *geometry = image_bytes == bytes_of(&FLOPPY) ? FLOPPY : V;
+    return is_said(options, geometry) || image_bytes == bytes_of(geometry);
+}
+
+struct geometry geometry_or_v(const struct options *options, uint64_t image_bytes)
+{
+    struct geometry geometry;
+    is_known(options, image_bytes, &geometry);
+    return geometry;
+}
+
 struct geometry geometry_of_image(const struct options *options, const char *image, uint64_t image_bytes)
 {
     struct geometry geometry;
-    if (is_said(options, &geometry))
-        return geometry;
-    if (image_bytes == bytes_of(&FLOPPY))
-        return FLOPPY;
-    if (image_bytes != bytes_of(&V))
+    if (!is_known(options, image_bytes, &geometry))
         wrong_use("%s has %" PRIu64 " bytes: say its geometry by -g B,T,D; known without it are images of 40960 bytes, "
                   "1024,40,1, and of 256256 bytes, eight-inch floppies",
                   image, image_bytes);
-    return V;
+    return geometry;
 }
 
 struct geometry geometry_of_new(const struct options *options)

@@ -16,6 +16,13 @@ static _Noreturn void refuse_file(const char *path, const char *what)
     refuse("%s %s: %s", path, what, strerror(errno));
 }
 
+static const char *not_read(void)
+{
+    static char why[128];
+    snprintf(why, sizeof why, "can't be read: %s", strerror(errno));
+    return why;
+}
+
 void *room_for(size_t count)
 {
     void *room = calloc(count + 1, 1);
@@ -24,18 +31,26 @@ void *room_for(size_t count)
     return room;
 }
 
-struct bytes read_all(int from, const char *path, size_t most)
+// Reads to the end, or as far as there is room; false where that fails.
+static bool was_read(int from, struct bytes *bytes, size_t most)
 {
-    struct bytes bytes = {room_for(most), 0};
-    while (bytes.count < most) {
-        ssize_t n = read(from, bytes.at + bytes.count, most - bytes.count);
+    for (bytes->count = 0; bytes->count < most;) {
+        ssize_t n = read(from, bytes->at + bytes->count, most - bytes->count);
         if (n == 0)
             break;
         if (n < 0 && errno != EINTR)
-            refuse_file(path, "can't be read");
+            return false;
         if (n > 0)
-            bytes.count += (size_t)n;
+            bytes->count += (size_t)n;
     }
+    return true;
+}
+
+struct bytes read_all(int from, const char *path, size_t most)
+{
+    struct bytes bytes = {room_for(most), 0};
+    if (!was_read(from, &bytes, most))
+        refuse("%s %s", path, not_read());
     return bytes;
 }
 
@@ -95,13 +110,31 @@ static bool locked(struct original *image, const char *path)
     return named.st_dev == image->state.st_dev && named.st_ino == image->state.st_ino;
 }
 
+// Opens a plain file and looks at its state; nothing, or why that can't be.
+static const char *why_not_opened(const char *path, int *file, struct stat *state)
+{
+    *file = open(path, O_RDONLY | O_NONBLOCK | O_CLOEXEC);
+    if (*file < 0 || fstat(*file, state) != 0)
+        return not_read();
+    return S_ISREG(state->st_mode) ? NULL : "can't be an image: it is not a plain file";
+}
+
 static void open_file(struct original *image, const char *path)
 {
-    image->file = open(image->path, O_RDONLY | O_NONBLOCK | O_CLOEXEC);
-    if (image->file < 0 || fstat(image->file, &image->state) != 0)
-        refuse_file(path, "can't be read");
-    if (!S_ISREG(image->state.st_mode))
-        refuse("%s can't be an image: it is not a plain file", path);
+    const char *why = why_not_opened(image->path, &image->file, &image->state);
+    if (why != NULL)
+        refuse("%s %s", path, why);
+}
+
+const char *read_into(const char *path, struct bytes *bytes, size_t most, struct stat *state)
+{
+    int file;
+    const char *why = why_not_opened(path, &file, state);
+    if (why == NULL && !was_read(file, bytes, most))
+        why = not_read();
+    if (file >= 0)
+        close(file);
+    return why;
 }
 
 struct original open_image(const char *path, bool to_change)

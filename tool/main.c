@@ -3,6 +3,7 @@
 
 #include <fcntl.h>
 #include <getopt.h>
+#include <limits.h>
 #include <stdio.h>
 #include <stdlib.h>
 #include <string.h>
@@ -18,6 +19,11 @@ const struct command COMMANDS[] = {
      list},
     {"check", "IMAGE", "gfh", 1, 1, false,
      "Says whether the disk is sound; if not, the first bad slot of its directory, its file, and what is wrong with it.", check},
+    {"shelf", "IMAGE ..", "gfh", 1, INT_MAX, false,
+     "Says what many disks hold together: refused disks; of the others files, entries, records, blocks held and free, waste.\n"
+     "Waste is how many more records their blocks have room for. Then for each refused disk why it is refused.\n"
+     "An image that can't be read is not counted, and the exit status is then 1.",
+     shelf},
     {"get", "IMAGE FILE [OUT]", "gftRGh", 2, 3, false,
      "Copies a file of the disk to a file of this machine.\n"
      "Without OUT that has the file's own name; - is standard output. One that is there is replaced only with --replace.\n"

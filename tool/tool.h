@@ -71,6 +71,8 @@ struct geometry {
 struct options;
 // By -g and -f, else by the environment, else by the image's length.
 struct geometry geometry_of_image(const struct options *options, const char *image, uint64_t image_bytes);
+// The same, and V's for an image of another length, which log-in then refuses.
+struct geometry geometry_or_v(const struct options *options, uint64_t image_bytes);
 // By -g and -f, else by the environment, else V's.
 struct geometry geometry_of_new(const struct options *options);
 // The length of an image.
@@ -85,6 +87,8 @@ void *room_for(size_t count);
 // All bytes of a file, but at most so many; of one that is open, or of the one that has this path.
 struct bytes read_all(int from, const char *path, size_t most);
 struct bytes read_file(const char *path, size_t most);
+// The same of a plain file, into room that is there, with the file's state; nothing, or why it can't be read.
+const char *read_into(const char *path, struct bytes *bytes, size_t most, struct stat *state);
 // A file that was read to be replaced; `path` is free of symbolic links.
 struct original {
     char *path;
@@ -187,6 +191,7 @@ enum { GEOMETRY = 'g', FORMAT = 'f', USER = 'u', TEXT = 't', REPLACE = 'R', GAPS
 
 void list(const struct options *options, char **operands, int count);
 void check(const struct options *options, char **operands, int count);
+void shelf(const struct options *options, char **operands, int count);
 void get(const struct options *options, char **operands, int count);
 void type(const struct options *options, char **operands, int count);
 void put(const struct options *options, char **operands, int count);

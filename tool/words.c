@@ -33,6 +33,7 @@ static const struct {
     {CHURAWEL_REFUSED_OUTSIDE, "the file's entry names a block that is not on the disk"},
     {CHURAWEL_REFUSED_NO_SLOT, "the directory is full"},
     {CHURAWEL_REFUSED_NO_BLOCK, "the disk is full"},
+    {CHURAWEL_SHELF_FULL, "no more than 65535 disks are counted together"},
 };
 
 #define LAWFUL_WORDS \

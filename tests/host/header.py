@@ -1,5 +1,5 @@
 # Holds include/churawel.h, which is kept by hand, to the source: the exported functions with their parameters and types,
-# the lengths, the numbers of the functions, the numbers of refusal, and the two halves of an answer. Then copies of the
+# the lengths, the numbers of the functions, of refusal and of a shelf's answer, and the two halves of an answer. Then copies of the
 # header that are wrong in one place, each of which must be found. A line for each case; the last line is 'N passed, M
 # failed', and the exit status is 0 only where M is 0.
 import re
@@ -21,6 +21,7 @@ LENGTHS = {
     "RECORDS_MOST": r"Refusal::BadCount, .* <= (\d+)\)",
     "FAULT_BYTES": r"\bconst FAULT_BYTES: usize = (\d+);",
     "FILE_BYTES": r"\bconst FILE_BYTES: usize = (\d+);",
+    "SHELF_BYTES": r"\bconst SHELF_BYTES: usize = (\d+);",
 }
 
 # Names that the header has and the source has not: a name for each number of a call, and a name for a refusal.
@@ -109,6 +110,11 @@ def placings_in(source):
     return [f"{name} = {number}" for name, number in re.findall(r"const (STRAIGHT|EIGHT_INCH): usize = (\d+);", source)]
 
 
+def shelved_in(source):
+    """the numbers of a shelf's answer"""
+    return [f"{spelled(re.match(r'Shelved::([A-Za-z]+)', case)[1])} = {number}" for case, number in arms(source, "shelved_number")]
+
+
 def halves_in(source):
     """the mask of the number and the shift of the value, by what the value is multiplied with"""
     (step,) = map(int, re.findall(r"number \+ (\d+) \* value", source))
@@ -150,7 +156,7 @@ def lengths_of(header):
 def constants_of(header):
     """the enumerations, each as a list of NAME = NUMBER"""
     lists = re.findall(r"enum { (.*?) }", "\n".join(statements(header)))
-    return [re.sub(r"CHURAWEL_((FN|REFUSED)_)?", "", body).split(" , ") for body in lists]
+    return [re.sub(r"CHURAWEL_((FN|REFUSED|SHELF)_)?", "", body).split(" , ") for body in lists]
 
 
 def halves_of(header):
@@ -165,6 +171,7 @@ LENGTHS_AGREE = "the header's lengths are the source's"
 CALLS_AGREE = "the header's functions have the numbers of call_of"
 REFUSALS_AGREE = "the header's refusals have their numbers and the source's order"
 PLACINGS_AGREE = "the header's placings are the source's"
+SHELVED_AGREE = "the header's answers of a shelf have the numbers of shelved_number"
 HALVES_AGREE = "the header takes an answer apart as the source puts it together"
 
 
@@ -176,7 +183,7 @@ def cases(header, source):
     """what is compared, what the header has, and what the source has"""
     header = bare(header)
     have, want = declared(header), exported(source)
-    calls, refusals, placings = constants_of(header)
+    calls, refusals, placings, shelved = constants_of(header)
     yield FUNCTIONS, list(have), list(want)
     for name in want:
         yield signature(name), have.get(name, []), want[name]
@@ -184,6 +191,7 @@ def cases(header, source):
     yield CALLS_AGREE, calls, calls_in(source)
     yield REFUSALS_AGREE, refusals, refusals_in(source)
     yield PLACINGS_AGREE, placings, placings_in(source)
+    yield SHELVED_AGREE, shelved, shelved_in(source)
     yield HALVES_AGREE, halves_of(header), halves_in(source)
 
 
@@ -195,7 +203,9 @@ def difference(has, wants):
     return ""
 
 
-LOG_IN, CALL, CUT, FAULT, FILE = (signature(f"churawel_{name}") for name in ("log_in", "call", "cut", "fault", "file"))
+LOG_IN, CALL, CUT, FAULT, FILE, SHELF = (
+    signature(f"churawel_{name}") for name in ("log_in", "call", "cut", "fault", "file", "shelf")
+)
 
 # What is wrong, the text to alter (there once), what it becomes, and the case that must find it.
 WRONG = [
@@ -245,6 +255,10 @@ WRONG = [
     ("the placing before the directory", r"(?s)(_log_in\([^;]*?)(uint32_t directory_blocks), (uint32_t placing)", r"\1\3, \2", LOG_IN),
     ("another number of a placing", r"EIGHT_INCH = 1", "EIGHT_INCH = 2", PLACINGS_AGREE),
     ("a placing that is missing", r"CHURAWEL_STRAIGHT = 0,", "", PLACINGS_AGREE),
+    ("another number for a full shelf", r"SHELF_FULL = 47", "SHELF_FULL = 46", SHELVED_AGREE),
+    ("a shelf of 56 bytes", r"SHELF_BYTES 64", "SHELF_BYTES 56", LENGTHS_AGREE),
+    ("a shelf that is const", r"uint8_t \*shelf", "const uint8_t *shelf", SHELF),
+    ("a shelf without the volume's placing", r"(?s)(_shelf\([^;]*?), uint32_t placing", r"\1", SHELF),
     ("a mask of eight bits", r"& 0xFFFFu", "& 0xFFu", HALVES_AGREE),
     ("a shift by eight bits", r">> 16", ">> 8", HALVES_AGREE),
 ]

@@ -8,18 +8,32 @@
 #include <string.h>
 #include <ucontext.h>
 
-enum { STACK_BYTES = 1 << 20, PROMISED = 16 * 1024, PAINT = 0xA5, B = 4096, D = 16, SLOTS = D * B / ENTRY, T_MOST = 2048 };
+enum {
+    STACK_BYTES = 1 << 20,
+    PROMISED = 16 * 1024,
+    SHELF_PROMISED = 32 * 1024,
+    PAINT = 0xA5,
+    B = 4096,
+    D = 16,
+    SLOTS = D * B / ENTRY,
+    T_MOST = 2048
+};
 
 // The largest volume of the narrow kind, and then the largest at all.
 static uint32_t total;
 static size_t volume_bytes, drive_bytes;
 static uint8_t stack[STACK_BYTES], volume[T_MOST * B], drive[CHURAWEL_WIDE_DRIVE_BYTES], fcb[36], buffer[PIECES * RECORD];
 static ucontext_t caller, callee;
-static uint8_t asked, parameter;
+static uint8_t asked, parameter, shelf[CHURAWEL_SHELF_BYTES];
 
 static void log_in_there(void)
 {
     churawel_log_in(B, total, D, CHURAWEL_STRAIGHT, volume, volume_bytes, drive, drive_bytes);
+}
+
+static void shelf_there(void)
+{
+    churawel_shelf(shelf, sizeof shelf, B, total, D, CHURAWEL_STRAIGHT, volume, volume_bytes);
 }
 
 static void call_there(void)
@@ -112,6 +126,10 @@ static void used_on(uint32_t blocks)
     size_t most = used_by(log_in_there);
     snprintf(what, sizeof what, "log-in of %u blocks uses less stack than is promised: %zu bytes of %d", total, most, PROMISED);
     verdict(what, most < PROMISED);
+    memset(shelf, 0, sizeof shelf);
+    size_t counting = used_by(shelf_there);
+    snprintf(what, sizeof what, "a volume put on a shelf uses less than is promised for it: %zu bytes of %d", counting, SHELF_PROMISED);
+    verdict(what, counting < SHELF_PROMISED && shelf[56] == 1);
     size_t least = most;
     most = most_of_each(call_there, &least);
     snprintf(what, sizeof what, "and so does each function: %zu bytes at most", most);

@@ -7,7 +7,7 @@ from disk import entry, volume
 
 PAGE = ROOT / "docs/churawel.1"
 HEADER = ROOT / "include/churawel.h"
-COMMANDS = ["list", "check", "get", "type", "put", "rename", "erase", "attributes", "new"]
+COMMANDS = ["list", "check", "shelf", "get", "type", "put", "rename", "erase", "attributes", "new"]
 
 
 def plain(roff):
@@ -91,8 +91,8 @@ def help_of_all(desk, page, options):
 
 def refusals(desk, page):
     """the header's numbers, in its order, have a sentence in the one table, and the page has the same"""
-    numbers = dict(re.findall(r"(CHURAWEL_REFUSED_\w+) = (\d+)", HEADER.read_text()))
-    table = re.findall(r'\{(CHURAWEL_REFUSED_\w+), "(.*)"\}', (ROOT / "tool/words.c").read_text())
+    numbers = dict(re.findall(r"(CHURAWEL_REFUSED_\w+|CHURAWEL_SHELF_FULL) = (\d+)", HEADER.read_text()))
+    table = re.findall(r'\{(CHURAWEL_\w+), "(.*)"\}', (ROOT / "tool/words.c").read_text())
     desk.same("each number of the header has a sentence", [name for name, _ in table], list(numbers))
     desk.same("each sentence is another", len({sentence for _, sentence in table}), len(table))
     desk.same("the page has the same sentences", tagged(page, "REFUSALS"), {numbers[name]: sentence for name, sentence in table})

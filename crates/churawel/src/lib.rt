@@ -1,11 +1,12 @@
-// The seam to an emulator: log-in, every other call, a call that is cut off, why a volume is refused and which files it has,
-// exported for C, over lent bytes alone.
+// The seam to an emulator: log-in, every other call, a call that is cut off, why a volume is refused, which files it has and
+// what volumes hold together, exported for C, over lent bytes alone.
 ghost use mathlib.Core.Path.{_≡_};
 ghost use mathlib.Core.List.{[]};
 ghost use Rattle.disk_geometry.specs.Geometry.{geometryOf, withPlacing};
 ghost use Rattle.seam_calls.specs.Seam.{sealed, atSeam, logInAtSeam, cutAtSeam};
 ghost use Rattle.seam_looks.specs.Fault.{explained, faultAtSeam};
 ghost use Rattle.seam_looks.specs.File.{shown, fileAtSeam};
+ghost use Rattle.seam_shelf.specs.Shelf.{shelfSealed, shelfAtSeam};
 
 // Logs the volume in: the drive becomes the state that calls take, or zero bytes where the log-in is refused.
 #[no_mangle]
@@ -106,4 +107,30 @@ pub extern "C" fn churawel_file(drive: &[u8], volume: &[u8], from: u32, file: &m
         ⌝ }
 {
     seam_looks::file(drive, volume, from, file)
+}
+
+// Puts a volume on the shelf; where that is refused by 47 or 32 the shelf's bytes stay.
+#[no_mangle]
+pub extern "C" fn churawel_shelf(
+    shelf: &mut [u8],
+    block_bytes: u32,
+    blocks: u32,
+    directory_blocks: u32,
+    placing: u32,
+    volume: &[u8],
+) -> u32
+    ensures { λ r. ⌜
+        shelfSealed r (now (shelf .exit)) (now (volume .entry))
+        ≡ shelfAtSeam (withPlacing (geometryOf «block_bytes» blocks «directory_blocks») placing) (now (volume .entry))
+        (now (shelf .entry))
+        ⌝ }
+{
+    seam_shelf::put_volume(
+        shelf,
+        block_bytes,
+        blocks,
+        directory_blocks,
+        placing,
+        volume,
+    )
 }

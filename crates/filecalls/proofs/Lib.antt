@@ -14,3 +14,4 @@ pub mod PieceLaws
 pub mod SinglesLaws
 pub mod SeveralLaws
 pub mod SeveralCutLaws
+pub mod ReadyLaws

@@ -17,7 +17,7 @@ pub const VOLUME_BYTES: usize = 40960;
 pub const ROOM: usize = 1024;
 
 // V's geometry: B 1,024, T 40, D 1.
-fn geometry() -> Geometry
+pub fn geometry() -> Geometry
     ensures { λ r. ⌜ r ≡ geometryV ⌝ }
 {
     Geometry {

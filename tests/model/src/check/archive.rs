@@ -1,4 +1,4 @@
-//! The archive behind the seam's five entries: `seam.c` links it and
+//! The archive behind the seam's entries: `seam.c` links it and
 //! answers over a pipe, so that the archive may be for another processor.
 
 use std::io::{self, Read, Write};
@@ -31,6 +31,20 @@ impl Archive {
         match changed {
             0 => Ok(answer),
             which => Err(format!("a byte before or behind the {} was changed", NAMES[which as usize - 1])),
+        }
+    }
+}
+
+impl Archive {
+    /// `churawel_shelf`: the shelf's bytes go where a drive's do.
+    pub fn shelf(&self, geometry: Geometry, volume: &[u8], shelf: &mut Vec<u8>) -> Result<u32, String> {
+        let mut memory = Memory { drive: shelf.clone(), volume: volume.to_vec(), ..Memory::default() };
+        let answer = self.ask([5, 0, 0, 0], geometry, &mut memory)?;
+        *shelf = memory.drive;
+        if memory.volume == volume {
+            Ok(answer)
+        } else {
+            Err("the volume was changed".to_string())
         }
     }
 }

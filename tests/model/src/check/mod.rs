@@ -8,6 +8,7 @@
 //! | `ways` | comparing the model's two ways |
 //! | `cuts` | what is demanded of a call that is cut off |
 //! | `pairs`, `table` | the pairs of call and answer that the paper makes possible, and their count |
+//! | `shelves` | shelves at the seam |
 //! | `run`, `again`, `kept` | many scripts and chains; one that is kept in a file |
 
 pub mod again;
@@ -18,6 +19,7 @@ pub mod kept;
 pub mod pairs;
 pub mod program;
 pub mod run;
+pub mod shelves;
 pub mod side_by_side;
 pub mod table;
 pub mod transcripts;

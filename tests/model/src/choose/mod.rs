@@ -14,6 +14,7 @@
 //! | `making` | a chain in the making, for the two below |
 //! | `cuttings` | chains that cut calls off |
 //! | `tellings` | chains that ask why a volume is refused, and for its files |
+//! | `shelves` | shelves, and volumes to be put on them |
 
 pub mod aims;
 pub mod alterations;
@@ -31,4 +32,5 @@ pub mod pool;
 pub mod random;
 pub mod runs;
 pub mod scripts;
+pub mod shelves;
 pub mod tellings;

@@ -1,7 +1,8 @@
 //! Hand-worked cases: the paper's examples, each refusal of the table and its
 //! order against the next ones, what succeeds, which block a write takes,
-//! several records a call, the stores of a call, volumes of more than 256 blocks, floppies, the script's text,
-//! the seam's bytes, and mistakes that the comparison must find.
+//! several records a call, what the shelf holds, the stores of a call, volumes of
+//! more than 256 blocks, floppies, the script's text, the seam's bytes, and
+//! mistakes that the comparison must find.
 
 mod bench;
 mod chosen;
@@ -19,6 +20,7 @@ mod refused_by_state_and_lengths;
 mod replay;
 mod seam;
 mod several;
+mod shelf;
 mod stores;
 mod together;
 mod typing;

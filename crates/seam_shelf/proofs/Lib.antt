@@ -1,0 +1,2 @@
+-- A shelf at the seam, as code learns it, and from volume to volume.
+pub mod ShelfLaws

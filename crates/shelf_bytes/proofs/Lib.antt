@@ -1,0 +1,3 @@
+-- Numbers laid one behind the other.
+pub mod LayoutLaws
+pub mod Examples

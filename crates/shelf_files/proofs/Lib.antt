@@ -1,0 +1,2 @@
+-- Laws of the chains.
+pub mod ChainLaws

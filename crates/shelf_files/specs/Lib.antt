@@ -1,0 +1,2 @@
+-- The chains of the slots passed so far.
+pub mod CodeChains

@@ -1,0 +1,4 @@
+-- What a volume holds: files, entries, records present, blocks held and free, waste.
+pub mod Holdings
+pub mod Sums
+pub mod CodeEntries

@@ -1,0 +1,3 @@
+-- Every report fits into its room.
+pub mod RoomLaws
+pub mod Examples

@@ -1,0 +1,2 @@
+-- Laws of sums.
+pub mod SumLaws

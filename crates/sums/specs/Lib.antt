@@ -1,0 +1,2 @@
+-- Sums over a run of numbers.
+pub mod Sum
