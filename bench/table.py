@@ -4,9 +4,10 @@ straight volume of the same numbers. The exit status is 1 where an aim is missed
 has them."""
 import sys
 
-# The pass up to 256 blocks has an aim of its own.
+# The pass up to 256 blocks has an aim of its own, and so has a fresh disk.
 PASS_AIM = 1.0
 AIM = 1.3
+FRESH_AIM = 20
 FLOPPY_AIM = 1.5
 NARROW = 256
 
@@ -28,6 +29,8 @@ def counts(named, marked):
 
 
 def aim_of(work, blocks):
+    if work.startswith("fresh"):
+        return FRESH_AIM
     return PASS_AIM if work == "pass" and blocks <= NARROW else AIM
 
 

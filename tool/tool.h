@@ -194,5 +194,6 @@ void rename_file(const struct options *options, char **operands, int count);
 void erase(const struct options *options, char **operands, int count);
 void attributes(const struct options *options, char **operands, int count);
 void new_image(const struct options *options, char **operands, int count);
+void fresh_image(const struct options *options, char **operands, int count);
 
 #endif

@@ -32,8 +32,8 @@ REFUSALS = {"BadCount": "COUNT", "NoRoom": "NO_MATCH"}
 
 
 def all_sources():
-    """every source file under crates in one text, without comments"""
-    files = sorted((ROOT / "crates").glob("*/src/**/*.rt"))
+    """every source file under crates in one text, without comments; of a crate its root first"""
+    files = sorted((ROOT / "crates").glob("*/src/**/*.rt"), key=lambda file: (file.parent, file.name != "lib.rt", file.name))
     return "\n".join(re.sub(r"//.*", "", file.read_text()) for file in files)
 
 
@@ -195,7 +195,9 @@ def difference(has, wants):
     return ""
 
 
-LOG_IN, CALL, CUT, FAULT, FILE = (signature(f"churawel_{name}") for name in ("log_in", "call", "cut", "fault", "file"))
+LOG_IN, CALL, CUT, FAULT, FILE, FRESH = (
+    signature(f"churawel_{name}") for name in ("log_in", "call", "cut", "fault", "file", "fresh_copy")
+)
 
 # What is wrong, the text to alter (there once), what it becomes, and the case that must find it.
 WRONG = [
@@ -245,6 +247,10 @@ WRONG = [
     ("the placing before the directory", r"(?s)(_log_in\([^;]*?)(uint32_t directory_blocks), (uint32_t placing)", r"\1\3, \2", LOG_IN),
     ("another number of a placing", r"EIGHT_INCH = 1", "EIGHT_INCH = 2", PLACINGS_AGREE),
     ("a placing that is missing", r"CHURAWEL_STRAIGHT = 0,", "", PLACINGS_AGREE),
+    ("a first volume that is changed", r"const (uint8_t \*first)", r"\1", FRESH),
+    ("a second volume that is not", r"(uint8_t \*second)", r"const \1", FRESH),
+    ("both volumes in the other order", r"(const uint8_t \*first, \w+ \w+),(\s*)(uint8_t \*second, \w+ \w+)", r"\3,\2\1", FRESH),
+    ("a copy without its placing", r"(?s)(_fresh_copy\([^;]*?), uint32_t placing", r"\1", FRESH),
     ("a mask of eight bits", r"& 0xFFFFu", "& 0xFFu", HALVES_AGREE),
     ("a shift by eight bits", r">> 16", ">> 8", HALVES_AGREE),
 ]

@@ -13,3 +13,4 @@ pub mod FaultLaws
 pub mod FileLaws
 pub mod ExplainsHolds
 pub mod Examples
+pub mod FreshLaws

@@ -24,6 +24,7 @@ const USAGE: &str = "usage:
   model run SEED SCRIPTS FOLDER   scripts, chains, tellings and cuttings on replay and at the seam; failing ones go to FOLDER
   model some SEED SCRIPTS FOLDER  the same, where pairs of call and answer may be missing
   model long SEED CALLS FOLDER    one run of so many calls at the seam
+  model copies SEED COPIES FOLDER fresh disks at the seam
   model again FILE                a kept script, chain, telling or cutting once more
   model keep SEED NUMBER FOLDER   writes the script and the three chains of this number to FOLDER
   model expected                  a script on standard input: what replay must print
@@ -63,6 +64,13 @@ fn run_long(seed: u64, calls: usize, folder: &Path) -> Result<bool, String> {
     Ok(failed == 0)
 }
 
+fn run_copies(seed: u64, copies: u64) -> Result<bool, String> {
+    let (_, seam) = under_test()?;
+    let (passed, failed) = check::copies::run(seed, copies, &seam);
+    println!("compared: {} passed, {} failed", passed, failed);
+    Ok(failed == 0)
+}
+
 fn again(file: &str) -> Result<bool, String> {
     let (replay, seam) = under_test()?;
     let bytes = std::fs::read(file).map_err(|error| format!("{}: {}", file, error))?;
@@ -96,6 +104,7 @@ fn obey(words: &[&str]) -> Option<Result<bool, String>> {
             run_all(seed.parse().ok()?, scripts.parse().ok()?, Path::new(folder), false)
         }
         ["long", seed, calls, folder] => run_long(seed.parse().ok()?, calls.parse().ok()?, Path::new(folder)),
+        ["copies", seed, copies, _] => run_copies(seed.parse().ok()?, copies.parse().ok()?),
         ["again", file] => again(file),
         ["keep", seed, number, folder] => keep(seed.parse().ok()?, number.parse().ok()?, Path::new(folder)),
         ["expected"] => answer(|bytes| expected(&Script::decode(bytes)).0),

@@ -1,4 +1,4 @@
-//! The archive behind the seam's five entries: `seam.c` links it and
+//! The archive behind the seam's entries: `seam.c` links it and
 //! answers over a pipe, so that the archive may be for another processor.
 
 use std::io::{self, Read, Write};
@@ -31,6 +31,20 @@ impl Archive {
         match changed {
             0 => Ok(answer),
             which => Err(format!("a byte before or behind the {} was changed", NAMES[which as usize - 1])),
+        }
+    }
+}
+
+impl Archive {
+    /// `churawel_fresh_copy`: the second volume goes where a buffer does.
+    pub fn fresh_copy(&self, geometry: Geometry, first: &[u8], second: &mut Vec<u8>) -> Result<u32, String> {
+        let mut memory = Memory { volume: first.to_vec(), buffer: second.clone(), ..Memory::default() };
+        let answer = self.ask([6, 0, 0, 0], geometry, &mut memory)?;
+        *second = memory.buffer;
+        if memory.volume == first {
+            Ok(answer)
+        } else {
+            Err("the first volume was changed".to_string())
         }
     }
 }

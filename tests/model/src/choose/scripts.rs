@@ -52,7 +52,7 @@ pub fn script_bytes(seed: u64, number: u64) -> Vec<u8> {
     }
 }
 
-fn geometry_and_volume(r: &mut Random) -> (Geometry, Vec<u8>) {
+pub fn geometry_and_volume(r: &mut Random) -> (Geometry, Vec<u8>) {
     let mut geometry = geometry(r);
     // Few volumes are too long for a script.
     while geometry.volume_bytes() > LARGEST_VOLUME && r.percent(90) {

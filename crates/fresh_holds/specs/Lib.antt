@@ -1,0 +1,2 @@
+-- What holds of a fresh disk.
+pub mod Holds
