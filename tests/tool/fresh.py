@@ -83,8 +83,8 @@ def by_hand(desk):
 
 
 def refusals(desk):
-    desk.refused("onto a file that is there", "fresh", "A.IMG", "B.IMG", said="B.IMG is there already")
-    desk.refused("onto the image itself", "fresh", "A.IMG", "A.IMG", said="A.IMG is there already")
+    desk.refused("onto a file that is there", "fresh", "A.IMG", "B.IMG", said="B.IMG can't be made: File exists")
+    desk.refused("onto the image itself", "fresh", "A.IMG", "A.IMG", said="A.IMG can't be made: File exists")
     desk.refused("of what is not there", "fresh", "X.IMG", "D.IMG", said="X.IMG")
     desk.wrong_use("without a second name", "fresh", "A.IMG", said="")
     bad = bytearray(desk.read("A.IMG"))
