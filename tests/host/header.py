@@ -32,8 +32,8 @@ REFUSALS = {"BadCount": "COUNT", "NoRoom": "NO_MATCH"}
 
 
 def all_sources():
-    """every source file under crates in one text, without comments; of a crate its root first"""
-    files = sorted((ROOT / "crates").glob("*/src/**/*.rt"), key=lambda file: (file.parent, file.name != "lib.rt", file.name))
+    """every source file under crates in one text, without comments"""
+    files = sorted((ROOT / "crates").glob("*/src/**/*.rt"))
     return "\n".join(re.sub(r"//.*", "", file.read_text()) for file in files)
 
 
