@@ -8,6 +8,7 @@
 
 #include <stdio.h>
 #include <stdlib.h>
+#include <string.h>
 #include <sys/syscall.h>
 #include <unistd.h>
 
@@ -110,6 +111,44 @@ static void count_shelf(void)
     }
 }
 
+// A directory full of sixteen files' entries without blocks in the worst order for a fresh disk: each file's highest extent first, and
+// then the files from the last to the first, each by falling extents.
+static void disorder(struct shelf *s)
+{
+    uint32_t groups = s->slots / 16;
+    for (uint32_t slot = 0; slot < s->slots; slot++) {
+        uint8_t *e = entry_in(s, slot);
+        uint32_t user = slot < 16 ? slot : 15 - (slot - 16) / (groups - 1);
+        uint32_t group = slot < 16 ? groups - 1 : groups - 2 - (slot - 16) % (groups - 1);
+        memset(e, 0, ENTRY);
+        e[0] = (uint8_t)user;
+        band_name(e + 1, 1);
+        e[12] = group * extents_of(s) % 32;
+        e[14] = (uint8_t)(group * extents_of(s) / 32);
+    }
+}
+
+// A fresh disk from one with a full directory, on either side; both must leave the same bytes.
+static void count_fresh(const char *name, void (*lay)(struct shelf *))
+{
+    typedef uint32_t fresh_copy(uint32_t, uint32_t, uint32_t, uint32_t, const uint8_t *, size_t, uint8_t *, size_t);
+    static fresh_copy *const copies[] = {churawel_fresh_copy, plain_fresh_copy};
+    static uint8_t second[2][VOLUME_MOST];
+    uint32_t answers[2];
+    copy_shelf(&work, &full);
+    lay(&work);
+    for (size_t s = 0; s < 2; s++) {
+        mark(0);
+        answers[s] = copies[s](work.block, work.total, work.directory, work.placing, work.volume, work.bytes, second[s], work.bytes);
+        mark(++label);
+        printf("%ld %s %u %u %s\n", label, name, full.total, full.slots, sides[s].name);
+    }
+    if (answers[0] % 65536 != 0 || answers[0] != answers[1] || memcmp(second[0], second[1], work.bytes) != 0) {
+        fprintf(stderr, "%s: the two sides differ at %u slots\n", name, full.slots);
+        exit(1);
+    }
+}
+
 int main(void)
 {
     for (size_t k = 0; k < sizeof shapes / sizeof *shapes; k++) {
@@ -118,6 +157,8 @@ int main(void)
             for (size_t s = 0; s < sizeof sides / sizeof *sides; s++)
                 count(&pieces[i], &sides[s].side, sides[s].name);
         count_shelf();
+        count_fresh("fresh", fill_directory);
+        count_fresh("fresh-disorder", disorder);
     }
     count_floppy();
     // The volume is a floppy still.

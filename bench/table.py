@@ -4,9 +4,10 @@ straight volume of the same numbers, and one of a volume put on a shelf beside i
 missed. With `markdown` they are printed as docs/SPEED.md has them."""
 import sys
 
-# The pass up to 256 blocks has an aim of its own.
+# The pass up to 256 blocks has an aim of its own, and so has a fresh disk.
 PASS_AIM = 1.0
 AIM = 1.3
+FRESH_AIM = 20
 FLOPPY_AIM = 1.5
 SHELF_AIM = 2.0
 NARROW = 256
@@ -29,6 +30,8 @@ def counts(named, marked):
 
 
 def aim_of(work, blocks):
+    if work.startswith("fresh"):
+        return FRESH_AIM
     return PASS_AIM if work == "pass" and blocks <= NARROW else AIM
 
 

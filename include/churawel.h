@@ -1,9 +1,9 @@
 /*
  * Churawel: the file calls of SCP 1700 (a CP/M-86) over a disk image, for an emulator. C11 and C++.
  *
- * Everything is lent: the caller owns all memory, and nothing is kept between calls. No heap is used, and of the C
- * library only memset. A slice is a pointer and the number of bytes; the pointer is never null, also where the number
- * is 0, and the slices of one call do not overlap. docs/EMULATOR.md says how a handler of INT 224 uses this.
+ * Everything is lent: the caller owns all memory, and nothing is kept between calls. No heap is used, and of the C library only memset
+ * and memcpy. A slice is a pointer and the number of bytes; the pointer is never null, also where the number is 0, and the slices of
+ * one call do not overlap. docs/EMULATOR.md says how a handler of INT 224 uses this.
  *
  * This file is kept by hand beside crates/churawel/src/lib.rt, which says exactly what each call leaves; tests/host compares
  * its functions, lengths and numbers with the source.
@@ -197,6 +197,18 @@ uint32_t churawel_shelf(
     uint8_t *shelf, size_t shelf_bytes,
     uint32_t block_bytes, uint32_t blocks, uint32_t directory_blocks, uint32_t placing,
     const uint8_t *volume, size_t volume_bytes);
+
+/*
+ * Copies the first volume to the second in good order: files by their lowest slot, a file's entries by rising extent, slots from 0 on,
+ * blocks numbered upward from D as they come; every slot and block that holds nothing is all E5H. Both volumes have this geometry. Done:
+ * 0, with the number of free blocks as the value. Refused as churawel_log_in refuses the first (32, 33, 36 with the lowest bad slot as
+ * the value), then by 33 where the second has another length: nothing changes. The first is only read. Of an eight-inch image's second
+ * the reserved tracks and the last six logical records stay as they are.
+ */
+uint32_t churawel_fresh_copy(
+    uint32_t block_bytes, uint32_t blocks, uint32_t directory_blocks, uint32_t placing,
+    const uint8_t *first, size_t first_bytes,
+    uint8_t *second, size_t second_bytes);
 
 /* Did the call of this function succeed? A number alone does not say so: 2 is a directory code of 15 and a refusal of 34. */
 static inline int churawel_succeeded(uint8_t function, uint32_t answer)

@@ -36,11 +36,16 @@ struct disk *open_disk(const struct options *options, const char *path, bool to_
     return disk;
 }
 
-void store_disk(struct disk *disk)
+void inspect_written(struct disk *disk, const char *path)
 {
     const char *why = inspect(disk);
     if (why != NULL)
-        refuse("%s: what was to be written: %s", disk->path, why);
+        refuse("%s: what was to be written: %s", path, why);
+}
+
+void store_disk(struct disk *disk)
+{
+    inspect_written(disk, disk->path);
     replace_file(disk->original.path, &disk->original.state, disk->volume);
     if (disk->original.state.st_nlink > 1)
         note("%s had another name on this machine (a hard link), and under that the old disk stays", disk->path);

@@ -51,6 +51,10 @@ const struct command COMMANDS[] = {
      "Makes an empty disk; IMAGE must not be there yet.\n"
      "Without a geometry that of 40960 bytes is taken.",
      new_image},
+    {"fresh", "IMAGE NEW", "gfh", 2, 2, true,
+     "Makes NEW, a copy of the disk in good order without what was erased; NEW must not be there yet.\n"
+     "Files go by their first slot, and a file's entries and blocks stand one behind the other. IMAGE stays as it is.",
+     fresh_image},
 };
 const int COMMANDS_COUNT = sizeof COMMANDS / sizeof *COMMANDS;
 

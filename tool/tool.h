@@ -133,6 +133,8 @@ uint32_t log_in(const struct geometry *geometry, struct bytes volume, uint8_t *d
 struct disk *read_disk(const struct options *options, const char *path, bool to_change);
 // Reads an image and logs it in; a disk that is not sound is refused in words.
 struct disk *open_disk(const struct options *options, const char *path, bool to_change);
+// Inspects a volume once more before it is written to this path; one that is not sound is refused.
+void inspect_written(struct disk *disk, const char *path);
 // Writes the changed volume back to its image.
 void store_disk(struct disk *disk);
 // A number as the seam lays it, low byte first.
@@ -199,5 +201,6 @@ void rename_file(const struct options *options, char **operands, int count);
 void erase(const struct options *options, char **operands, int count);
 void attributes(const struct options *options, char **operands, int count);
 void new_image(const struct options *options, char **operands, int count);
+void fresh_image(const struct options *options, char **operands, int count);
 
 #endif

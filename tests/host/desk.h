@@ -142,6 +142,7 @@ void cut_calls(void);
 void hard_disk(void);
 void floppies(void);
 void on_the_shelf(void);
+void fresh_disks(void);
 void stack_used(void);
 
 #endif

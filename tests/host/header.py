@@ -203,8 +203,8 @@ def difference(has, wants):
     return ""
 
 
-LOG_IN, CALL, CUT, FAULT, FILE, SHELF = (
-    signature(f"churawel_{name}") for name in ("log_in", "call", "cut", "fault", "file", "shelf")
+LOG_IN, CALL, CUT, FAULT, FILE, SHELF, FRESH = (
+    signature(f"churawel_{name}") for name in ("log_in", "call", "cut", "fault", "file", "shelf", "fresh_copy")
 )
 
 # What is wrong, the text to alter (there once), what it becomes, and the case that must find it.
@@ -259,6 +259,10 @@ WRONG = [
     ("a shelf of 56 bytes", r"SHELF_BYTES 64", "SHELF_BYTES 56", LENGTHS_AGREE),
     ("a shelf that is const", r"uint8_t \*shelf", "const uint8_t *shelf", SHELF),
     ("a shelf without the volume's placing", r"(?s)(_shelf\([^;]*?), uint32_t placing", r"\1", SHELF),
+    ("a first volume that is changed", r"const (uint8_t \*first)", r"\1", FRESH),
+    ("a second volume that is not", r"(uint8_t \*second)", r"const \1", FRESH),
+    ("both volumes in the other order", r"(const uint8_t \*first, \w+ \w+),(\s*)(uint8_t \*second, \w+ \w+)", r"\3,\2\1", FRESH),
+    ("a copy without its placing", r"(?s)(_fresh_copy\([^;]*?), uint32_t placing", r"\1", FRESH),
     ("a mask of eight bits", r"& 0xFFFFu", "& 0xFFu", HALVES_AGREE),
     ("a shift by eight bits", r">> 16", ">> 8", HALVES_AGREE),
 ]

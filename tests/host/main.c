@@ -20,6 +20,7 @@ int main(void)
     hard_disk();
     floppies();
     on_the_shelf();
+    fresh_disks();
     stack_used();
     return summary() == 0 ? 0 : 1;
 }

@@ -12,6 +12,7 @@ enum {
     STACK_BYTES = 1 << 20,
     PROMISED = 16 * 1024,
     SHELF_PROMISED = 32 * 1024,
+    COPY_PROMISED = 32 * 1024,
     PAINT = 0xA5,
     B = 4096,
     D = 16,
@@ -23,6 +24,7 @@ enum {
 static uint32_t total;
 static size_t volume_bytes, drive_bytes;
 static uint8_t stack[STACK_BYTES], volume[T_MOST * B], drive[CHURAWEL_WIDE_DRIVE_BYTES], fcb[36], buffer[PIECES * RECORD];
+static uint8_t second[sizeof volume];
 static ucontext_t caller, callee;
 static uint8_t asked, parameter, shelf[CHURAWEL_SHELF_BYTES];
 
@@ -56,6 +58,11 @@ static void fault_there(void)
 static void file_there(void)
 {
     churawel_file(drive, drive_bytes, volume, volume_bytes, SLOTS - 1, buffer, CHURAWEL_FILE_BYTES);
+}
+
+static void copy_there(void)
+{
+    churawel_fresh_copy(B, total, D, CHURAWEL_STRAIGHT, volume, volume_bytes, second, volume_bytes);
 }
 
 // How many bytes of a painted stack the work uses.
@@ -143,6 +150,9 @@ static void used_on(uint32_t blocks)
     size_t line = used_by(file_there);
     snprintf(what, sizeof what, "and so do a fault, %zu bytes, and a file's line, %zu", told, line);
     verdict(what, told < PROMISED && line < PROMISED);
+    size_t copied = used_by(copy_there);
+    snprintf(what, sizeof what, "and a fresh copy less than is promised for it: %zu bytes of %d", copied, COPY_PROMISED);
+    verdict(what, most < copied && copied < COPY_PROMISED);
     verdict("and what is measured is a call's own stack", least > 0 && least < most);
 }
 

@@ -1,10 +1,11 @@
 /* The seam's archive behind a pipe: the model writes what a call is lent, and reads what it left. So the model itself is
    built for the machine that it runs on, and the archive, which is for x86-64, may run under an emulator.
 
-   A request: 0 for churawel_log_in, 1 for churawel_call, 2 for churawel_fault, 3 for churawel_file, 4 for churawel_cut or 5 for
-   churawel_shelf, function, parameter, one byte unused; then B, T, D and placing (in B's place churawel_file has the slot and
-   churawel_cut the most stores; what churawel_file and churawel_fault lay is the buffer; the shelf stands in the drive's place) and the
-   lengths of drive, volume, control block and buffer, 32 bits each, low byte first; then their bytes. The reply: the answer, and which of
+   A request: 0 for churawel_log_in, 1 for churawel_call, 2 for churawel_fault, 3 for churawel_file, 4 for churawel_cut, 5 for
+   churawel_shelf or 6 for churawel_fresh_copy, function, parameter, one byte unused; then B, T, D and placing (in B's place churawel_file
+   has the slot and churawel_cut the most stores; what churawel_file and churawel_fault lay is the buffer, and so is the second volume of
+   a copy; the shelf stands in the drive's place) and the lengths of drive, volume, control block and buffer, 32 bits each, low byte
+   first; then their bytes. The reply: the answer, and which of
    the four (1 to 4, 0 for none) has a byte before or behind it that was changed, 32 bits each; then the four again. */
 #include <stdint.h>
 #include <stdio.h>
@@ -76,6 +77,9 @@ static uint32_t ask(const uint8_t *head, struct lent *x)
     if (head[0] == 5)
         return churawel_shelf(drive, x[DRIVE].length, number(head + 4), number(head + 8), number(head + 12), number(head + 16), volume,
                               x[VOLUME].length);
+    if (head[0] == 6)
+        return churawel_fresh_copy(number(head + 4), number(head + 8), number(head + 12), number(head + 16), volume, x[VOLUME].length,
+                                   buffer, x[BUFFER].length);
     return churawel_call(head[1], head[2], drive, x[DRIVE].length, volume, x[VOLUME].length, control, x[CONTROL].length, buffer,
                          x[BUFFER].length);
 }

@@ -20,6 +20,7 @@ RUNS = [
     (["rename", "V.IMG", "a.txt", "c.txt"], "V.IMG"),
     (["attributes", "V.IMG", "a.txt", "+r"], "V.IMG"),
     (["new", "N.IMG"], "N.IMG"),
+    (["fresh", "V.IMG", "N.IMG"], "N.IMG"),
     (["get", "--replace", "V.IMG", "a.txt", "out"], "out"),
 ]
 

@@ -13,6 +13,7 @@ V = (1024, 40, 1)
 RIGHT = {
     "list": ["V.IMG"], "check": ["V.IMG"], "get": ["V.IMG", "a.txt", "-"], "type": ["V.IMG", "a.txt"], "put": ["V.IMG", "in"],
     "rename": ["V.IMG", "a.txt", "b.txt"], "erase": ["V.IMG", "a.txt"], "attributes": ["V.IMG", "a.txt", "+r"], "new": ["N.IMG"],
+    "fresh": ["V.IMG", "N.IMG"],
 }
 
 

@@ -1,5 +1,5 @@
-// The seam to an emulator: log-in, every other call, a call that is cut off, why a volume is refused, which files it has and
-// what volumes hold together, exported for C, over lent bytes alone.
+// The seam to an emulator: log-in, every other call, a call that is cut off, why a volume is refused, which files it has, what
+// volumes hold together, and a fresh disk, exported for C, over lent bytes alone.
 ghost use mathlib.Core.Path.{_≡_};
 ghost use mathlib.Core.List.{[]};
 ghost use Rattle.disk_geometry.specs.Geometry.{geometryOf, withPlacing};
@@ -7,6 +7,7 @@ ghost use Rattle.seam_calls.specs.Seam.{sealed, atSeam, logInAtSeam, cutAtSeam}
 ghost use Rattle.seam_looks.specs.Fault.{explained, faultAtSeam};
 ghost use Rattle.seam_looks.specs.File.{shown, fileAtSeam};
 ghost use Rattle.seam_shelf.specs.Shelf.{shelfSealed, shelfAtSeam};
+ghost use Rattle.seam_fresh.specs.SeamFresh.{freshSealed, freshAtSeam};
 
 // Logs the volume in: the drive becomes the state that calls take, or zero bytes where the log-in is refused.
 #[no_mangle]
@@ -132,5 +133,31 @@ pub extern "C" fn churawel_shelf(
         directory_blocks,
         placing,
         volume,
+    )
+}
+
+// Copies the first volume to the second in good order; refused, both stay as they are.
+#[no_mangle]
+pub extern "C" fn churawel_fresh_copy(
+    block_bytes: u32,
+    blocks: u32,
+    directory_blocks: u32,
+    placing: u32,
+    first: &[u8],
+    second: &mut [u8],
+) -> u32
+    ensures { λ r. ⌜
+        freshSealed r (now (first .entry)) (now (second .exit))
+        ≡ freshAtSeam (withPlacing (geometryOf «block_bytes» blocks «directory_blocks») placing) (now (first .entry))
+        (now (second .entry))
+        ⌝ }
+{
+    seam_fresh::copy(
+        block_bytes,
+        blocks,
+        directory_blocks,
+        placing,
+        first,
+        second,
     )
 }

@@ -25,6 +25,7 @@ const USAGE: &str = "usage:
   model some SEED SCRIPTS FOLDER  the same, where pairs of call and answer may be missing
   model long SEED CALLS FOLDER    one run of so many calls at the seam
   model shelves SEED SHELVES FOLDER  shelves of volumes at the seam; nothing goes to FOLDER
+  model copies SEED COPIES FOLDER fresh disks at the seam
   model again FILE                a kept script, chain, telling or cutting once more
   model keep SEED NUMBER FOLDER   writes the script and the three chains of this number to FOLDER
   model expected                  a script on standard input: what replay must print
@@ -71,6 +72,13 @@ fn run_shelves(seed: u64, shelves: u64) -> Result<bool, String> {
     Ok(failed == 0)
 }
 
+fn run_copies(seed: u64, copies: u64) -> Result<bool, String> {
+    let (_, seam) = under_test()?;
+    let (passed, failed) = check::copies::run(seed, copies, &seam);
+    println!("compared: {} passed, {} failed", passed, failed);
+    Ok(failed == 0)
+}
+
 fn again(file: &str) -> Result<bool, String> {
     let (replay, seam) = under_test()?;
     let bytes = std::fs::read(file).map_err(|error| format!("{}: {}", file, error))?;
@@ -105,6 +113,7 @@ fn obey(words: &[&str]) -> Option<Result<bool, String>> {
         }
         ["long", seed, calls, folder] => run_long(seed.parse().ok()?, calls.parse().ok()?, Path::new(folder)),
         ["shelves", seed, shelves, _] => run_shelves(seed.parse().ok()?, shelves.parse().ok()?),
+        ["copies", seed, copies, _] => run_copies(seed.parse().ok()?, copies.parse().ok()?),
         ["again", file] => again(file),
         ["keep", seed, number, folder] => keep(seed.parse().ok()?, number.parse().ok()?, Path::new(folder)),
         ["expected"] => answer(|bytes| expected(&Script::decode(bytes)).0),

@@ -49,6 +49,20 @@ impl Archive {
     }
 }
 
+impl Archive {
+    /// `churawel_fresh_copy`: the second volume goes where a buffer does.
+    pub fn fresh_copy(&self, geometry: Geometry, first: &[u8], second: &mut Vec<u8>) -> Result<u32, String> {
+        let mut memory = Memory { volume: first.to_vec(), buffer: second.clone(), ..Memory::default() };
+        let answer = self.ask([6, 0, 0, 0], geometry, &mut memory)?;
+        *second = memory.buffer;
+        if memory.volume == first {
+            Ok(answer)
+        } else {
+            Err("the first volume was changed".to_string())
+        }
+    }
+}
+
 impl Seam for Archive {
     fn log_in(&self, geometry: Geometry, memory: &mut Memory) -> Result<u32, String> {
         self.ask([0, 0, 0, 0], geometry, memory)

@@ -22,9 +22,9 @@ use crate::paper::stores::Asked;
 
 /// User, name and number of the present records, each with its bytes. The volume
 /// is in logical record order and passes inspection.
-type Present<'a> = BTreeMap<(u8, Name, u32), &'a [u8]>;
+pub type Present<'a> = BTreeMap<(u8, Name, u32), &'a [u8]>;
 
-fn present<'a>(geometry: &Geometry, volume: &'a [u8]) -> Present<'a> {
+pub fn present<'a>(geometry: &Geometry, volume: &'a [u8]) -> Present<'a> {
     let mut found = Present::new();
     for slot in 0..geometry.slots() {
         let entry = entry_at(volume, slot);

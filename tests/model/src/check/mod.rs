@@ -7,12 +7,14 @@
 //! | `differences` | differences in words |
 //! | `ways` | comparing the model's two ways |
 //! | `cuts` | what is demanded of a call that is cut off |
+//! | `copies` | fresh disks at the seam, and what is demanded of them |
 //! | `pairs`, `table` | the pairs of call and answer that the paper makes possible, and their count |
 //! | `shelves` | shelves at the seam |
 //! | `run`, `again`, `kept` | many scripts and chains; one that is kept in a file |
 
 pub mod again;
 pub mod archive;
+pub mod copies;
 pub mod cuts;
 pub mod differences;
 pub mod kept;

@@ -15,12 +15,14 @@
 //! | `cuttings` | chains that cut calls off |
 //! | `tellings` | chains that ask why a volume is refused, and for its files |
 //! | `shelves` | shelves, and volumes to be put on them |
+//! | `copies` | two volumes for a fresh disk |
 
 pub mod aims;
 pub mod alterations;
 pub mod bad_scripts;
 pub mod chains;
 pub mod control_blocks;
+pub mod copies;
 pub mod cuttings;
 pub mod drives;
 pub mod faults;

@@ -17,7 +17,7 @@ pub struct Memory {
     pub buffer: Vec<u8>,
 }
 
-/// Something that stands behind the five entries. An error is a fault that no
+/// Something that stands behind the seam's entries. An error is a fault that no
 /// lent byte shows.
 pub trait Seam: Sync {
     fn log_in(&self, geometry: Geometry, memory: &mut Memory) -> Result<u32, String>;

@@ -15,6 +15,7 @@
 //! | (02, vii) What the shelf holds | `shelf` |
 //! | (02, xi) The hard disk of the second machine | `geometry`; `Entry::map` in `directory` |
 //! | (02, xii) If the emulator is closed halfway | `stores` |
+//! | (02, xiv) A fresh disk from a worn one | `fresh` |
 //! | Examples to hold it to | `lister`, and `tests/examples.rs` |
 
 pub mod bad_slots;
@@ -23,6 +24,7 @@ pub mod control;
 pub mod directory;
 pub mod files;
 pub mod floppy;
+pub mod fresh;
 pub mod geometry;
 pub mod held;
 pub mod inspection;

@@ -1,14 +1,15 @@
 //! Hand-worked cases: the paper's examples, each refusal of the table and its
 //! order against the next ones, what succeeds, which block a write takes,
 //! several records a call, what the shelf holds, the stores of a call, volumes of
-//! more than 256 blocks, floppies, the script's text, the seam's bytes, and
-//! mistakes that the comparison must find.
+//! more than 256 blocks, floppies, fresh disks, the script's text, the seam's
+//! bytes, and mistakes that the comparison must find.
 
 mod bench;
 mod chosen;
 mod examples;
 mod files;
 mod floppy;
+mod fresh;
 mod mistakes;
 mod pairs;
 mod records;

@@ -1,0 +1,2 @@
+-- The copy with its refusals.
+pub mod FreshCopy

@@ -1,0 +1,3 @@
+-- What holds of a fresh disk.
+pub mod Holds
+pub mod CallHolds

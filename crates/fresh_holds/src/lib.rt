@@ -1,0 +1,1 @@
+// What holds of a fresh disk: statements and laws only, no code.

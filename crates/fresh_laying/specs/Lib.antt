@@ -1,0 +1,2 @@
+-- The fresh disk as code lays it out.
+pub mod CodeLaying

@@ -1,0 +1,2 @@
+-- One slot more among those that are in order.
+pub mod SortedLaws

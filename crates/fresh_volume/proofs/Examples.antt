@@ -1,0 +1,122 @@
+-- A worn disk and the fresh one from it, evaluated: B 1,024, T 8, D 1, so 32 slots and blocks 1 to 7. Every byte of block b is b.
+-- And wrong copies, each with what it breaks.
+use mathlib.Core.Path.{_≡_, refl}
+use mathlib.Core.Bool.{true, false}
+use mathlib.Core.List.{List, [], _∷_, _++_}
+use Prim.Native.Nat.{ℕ, _*_, _-_}
+use lib.Dec.{eqb}
+use lib.ListN.{replicate, length, take, set}
+use Rattle.lists.specs.Bounded.{lowFrom, anyFrom, everyFrom, countFrom, fold}
+use Rattle.lists.specs.Bytes.{byte, part, put, all}
+use Rattle.disk_geometry.specs.declared.Geometry.{Geometry}
+use Rattle.disk_geometry.specs.Geometry.{start, slotStart, recordStart, groupOf, inside, places, placeOf, geometryOf}
+use Rattle.disk_volume.specs.Name.{strip, nameAt, same, goodName}
+use Rattle.disk_volume.specs.Entry.{Entry, blockIn, withBlock, countOf, ofFile, ofGroup}
+use Rattle.disk_volume.specs.Directory.{slotAt, findSlot, putSlot}
+use Rattle.disk_volume.specs.Record.{recordSlot, counted, present, recordAt, putRecord}
+use Rattle.disk_rules.specs.GoodSlot.{goodFields, goodTopBits, inPlaces, namesBlock, namedBelow, goodPlace, seenBelow, goodSlot, lowestBad}
+use Rattle.fresh_order.specs.Order.{fileSlot, goesBefore, putBefore, enter, order}
+use Rattle.fresh_volume.specs.Copy.{blocksBelow, numberPlace, numbered, blocksBefore, copiedEntry, copiedRecord, putBlock, laidOut, fresh}
+
+abbrev pub G : Geometry
+G = geometryOf 1024 8 1
+
+-- an entry of user 0: the file's first letter, extent, rc, and the blocks in places 0 and 2
+abbrev pub SIGLA : ℕ
+SIGLA = 83
+
+abbrev pub COLLA : ℕ
+COLLA = 67
+
+abbrev pub entry : ℕ → ℕ → ℕ → ℕ → ℕ → Entry
+entry first ex rc b c =
+    0 ∷ first ∷ 73 ∷ 71 ∷ 76 ∷ 65 ∷ 32 ∷ 32 ∷ 32 ∷ 84 ∷ 88 ∷ 84 ∷ ex ∷ 0 ∷ 0 ∷ rc
+    ∷ b ∷ 0 ∷ c ∷ 0 ∷ 0 ∷ 0 ∷ 0 ∷ 0 ∷ 0 ∷ 0 ∷ 0 ∷ 0 ∷ 0 ∷ 0 ∷ 0 ∷ 0 ∷ []
+
+abbrev pub name : ℕ → List ℕ
+name first = first ∷ 73 ∷ 71 ∷ 76 ∷ 65 ∷ 32 ∷ 32 ∷ 32 ∷ 84 ∷ 88 ∷ 84 ∷ []
+
+-- an empty slot that still has an old entry's bytes
+abbrev pub gone : Entry
+gone = set (entry SIGLA 5 9 1 6) 0 229
+
+-- a directory with these entries in its first slots, and a block of one byte
+abbrev pub directory : List ℕ → List ℕ
+directory entries = entries ++ replicate (1024 - length entries) 229
+
+abbrev pub block : ℕ → List ℕ
+block x = replicate 1024 x
+
+abbrev pub seven : ℕ → ℕ → ℕ → ℕ → ℕ → ℕ → ℕ → List ℕ
+seven a b c d e f h = block a ++ block b ++ block c ++ block d ++ block e ++ block f ++ block h
+
+-- the second extent of SIGLA.TXT stands in slot 0, its first in slot 3, COLLA.TXT between them; block 1 and block 6 are free
+abbrev pub worn : List ℕ
+worn = directory (entry SIGLA 1 4 5 0 ++ gone ++ entry COLLA 0 21 3 2 ++ entry SIGLA 0 128 7 4) ++ seven 1 2 3 4 5 6 7
+
+-- the fresh disk: SIGLA.TXT has the lowest slot, so it is first, by rising extent
+abbrev pub good : List ℕ
+good = directory (entry SIGLA 0 128 1 2 ++ entry SIGLA 1 4 3 0 ++ entry COLLA 0 21 4 5) ++ seven 7 4 5 3 2 229 229
+
+-- the same onto a second disk that has other bytes
+abbrev pub second : List ℕ
+second = replicate 8192 170
+
+-- ---- wrong copies
+-- COLLA.TXT is left out
+abbrev pub drops : List ℕ
+drops = directory (entry SIGLA 0 128 1 2 ++ entry SIGLA 1 4 3 0) ++ seven 7 4 5 229 229 229 229
+
+-- the entries keep their block numbers, the blocks are moved
+abbrev pub keeps : List ℕ
+keeps = directory (entry SIGLA 0 128 7 4 ++ entry SIGLA 1 4 5 0 ++ entry COLLA 0 21 3 2) ++ seven 7 4 5 3 2 229 229
+
+-- ordered by slot alone
+abbrev pub by-slot : List ℕ
+by-slot = directory (entry SIGLA 1 4 1 0 ++ entry COLLA 0 21 2 3 ++ entry SIGLA 0 128 4 5) ++ seven 5 3 2 7 4 229 229
+
+-- old bytes in the free blocks
+abbrev pub leaves : List ℕ
+leaves = directory (entry SIGLA 0 128 1 2 ++ entry SIGLA 1 4 3 0 ++ entry COLLA 0 21 4 5) ++ seven 7 4 5 3 2 6 7
+
+-- (xi): with T 512 a block number takes two bytes: blocks 300 and 511 in places 0 and 2
+abbrev wide : Geometry
+wide = geometryOf 2048 512 1
+
+abbrev long : List ℕ → Entry
+long map = take 16 (entry SIGLA 0 128 0 0) ++ map ++ replicate 10 0
+
+pub record Examples : Type 0 where
+  pub in-order : order G worn ≡ 3 ∷ 0 ∷ 2 ∷ []
+  pub fresh-disk : fresh G worn second ≡ good
+  pub passes : lowestBad G good ≡ 32
+  pub again : fresh G good second ≡ good
+  pub two-bytes : numbered wide 255 (long (44 ∷ 1 ∷ 0 ∷ 0 ∷ 255 ∷ 1 ∷ [])) ≡ long (255 ∷ 0 ∷ 0 ∷ 0 ∷ 0 ∷ 1 ∷ [])
+  -- a record of COLLA.TXT is there, with its bytes: block 2 in place 2; and in the copy
+  pub there : present G worn 0 (name COLLA) 16 ≡ true
+  pub there-fresh : present G good 0 (name COLLA) 16 ≡ true
+  pub its-bytes : recordAt G worn 2 16 ≡ recordAt G good 5 16
+  -- a copy that drops a file has not the same records present
+  pub drops-a-file : present G drops 0 (name COLLA) 16 ≡ false
+  -- one that keeps block numbers does not have their bytes
+  pub keeps-numbers : eqb (byte (recordAt G keeps 2 16) 0) (byte (recordAt G worn 2 16) 0) ≡ false
+  -- one by slot alone, and one that leaves old bytes in free blocks, are not the same when they are copied
+  pub by-slot-alone : eqb (byte (fresh G by-slot second) 12) (byte by-slot 12) ≡ false
+  pub leaves-old-bytes : eqb (byte (fresh G leaves second) (6 * 1024)) (byte leaves (6 * 1024)) ≡ false
+
+pub examples : Examples
+unfolding order enter putBefore goesBefore fileSlot fresh laidOut putBlock copiedRecord copiedEntry blocksBefore numbered numberPlace blocksBelow findSlot slotAt putSlot recordAt putRecord recordSlot counted present lowestBad goodSlot goodFields goodTopBits inPlaces namesBlock namedBelow goodPlace seenBelow lowFrom anyFrom everyFrom countFrom fold part put all start slotStart recordStart groupOf inside places placeOf strip nameAt same goodName blockIn withBlock countOf ofFile ofGroup
+examples = record {
+  in-order = refl;
+  fresh-disk = refl;
+  passes = refl;
+  again = refl;
+  two-bytes = refl;
+  there = refl;
+  there-fresh = refl;
+  its-bytes = refl;
+  drops-a-file = refl;
+  keeps-numbers = refl;
+  by-slot-alone = refl;
+  leaves-old-bytes = refl;
+}

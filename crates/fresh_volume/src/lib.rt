@@ -1,0 +1,1 @@
+// The fresh disk: slots and blocks laid anew.

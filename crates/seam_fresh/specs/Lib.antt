@@ -1,0 +1,2 @@
+-- What the copy at the seam leaves.
+pub mod SeamFresh
