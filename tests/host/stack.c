@@ -8,7 +8,7 @@
 #include <string.h>
 #include <ucontext.h>
 
-enum { STACK_BYTES = 1 << 20, PROMISED = 16 * 1024, PAINT = 0xA5, B = 4096, D = 16, SLOTS = D * B / ENTRY, T_MOST = 2048 };
+enum { STACK_BYTES = 1 << 20, PROMISED = 16 * 1024, PROMISED_DESK = 80 * 1024, PAINT = 0xA5, B = 4096, D = 16, SLOTS = D * B / ENTRY, T_MOST = 2048 };
 
 // The largest volume of the narrow kind, and then the largest at all.
 static uint32_t total;
@@ -42,6 +42,16 @@ static void fault_there(void)
 static void file_there(void)
 {
     churawel_file(drive, drive_bytes, volume, volume_bytes, SLOTS - 1, buffer, CHURAWEL_FILE_BYTES);
+}
+
+static void replace_there(void)
+{
+    churawel_replace_siglum(drive, drive_bytes, volume, volume_bytes, fcb, sizeof fcb, 1, 0, 1);
+}
+
+static void manuscript_there(void)
+{
+    churawel_manuscript(1, buffer, sizeof buffer, buffer, sizeof buffer);
 }
 
 // How many bytes of a painted stack the work uses.
@@ -86,6 +96,14 @@ static void start(void)
     memcpy(fcb + 17, "NEUBANDXTXT", 11);
 }
 
+// The last file is a collation file: its contents, and one reading.
+static void start_at_desk(void)
+{
+    start();
+    volume[(SLOTS - 1) * ENTRY + 15] = 2;
+    memcpy(volume + D * B, (const uint8_t[]){1, 0, 1, 0, 1}, 5);
+}
+
 // The most that any function uses that is called in this way; the least goes to `least`, if it is less.
 static size_t most_of_each(void (*way)(void), size_t *least)
 {
@@ -125,6 +143,11 @@ static void used_on(uint32_t blocks)
     size_t line = used_by(file_there);
     snprintf(what, sizeof what, "and so do a fault, %zu bytes, and a file's line, %zu", told, line);
     verdict(what, told < PROMISED && line < PROMISED);
+    start_at_desk();
+    size_t replacement = used_by(replace_there), manuscript = used_by(manuscript_there);
+    snprintf(what, sizeof what, "a replacement, which marks records, uses %zu bytes of %d; a manuscript's name %zu", replacement,
+             PROMISED_DESK, manuscript);
+    verdict(what, replacement > PROMISED && replacement < PROMISED_DESK && manuscript < PROMISED);
     verdict("and what is measured is a call's own stack", least > 0 && least < most);
 }
 

@@ -12,4 +12,5 @@ pub mod FaithfulHolds
 pub mod FaultLaws
 pub mod FileLaws
 pub mod ExplainsHolds
+pub mod SiglaLaws
 pub mod Examples

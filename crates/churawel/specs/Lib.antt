@@ -1,4 +1,5 @@
--- The seam to an emulator: what an exported call leaves, why a slot is bad, a file's line, and that the drive's bytes carry the state from call to call.
+-- The seam to an emulator: what an exported call leaves, why a slot is bad, a file's line, the edition
+-- desk, and that the drive's bytes carry the state from call to call.
 pub mod Seam
 pub mod Faithful
 pub mod CodeSeam
@@ -6,3 +7,4 @@ pub mod CodeLent
 pub mod Fault
 pub mod File
 pub mod Explains
+pub mod Sigla

@@ -12,6 +12,7 @@
 //! | Numbers of refusal, in order of test | `refusals`; the rows from 255 on in `files`, `records` |
 //! | (02, i) Eight-inch floppies | `floppy` |
 //! | (02, ii) Several records a call | `several` |
+//! | (02, x) Sigla by column | `sigla` |
 //! | (02, xi) The hard disk of the second machine | `geometry`; `Entry::map` in `directory` |
 //! | (02, xii) If the emulator is closed halfway | `stores` |
 //! | Examples to hold it to | `lister`, and `tests/examples.rs` |
@@ -30,5 +31,6 @@ pub mod names;
 pub mod records;
 pub mod refusals;
 pub mod several;
+pub mod sigla;
 pub mod state;
 pub mod stores;

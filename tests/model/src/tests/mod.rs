@@ -19,6 +19,7 @@ mod refused_by_state_and_lengths;
 mod replay;
 mod seam;
 mod several;
+mod sigla;
 mod stores;
 mod together;
 mod typing;

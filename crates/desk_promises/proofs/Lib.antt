@@ -1,0 +1,3 @@
+-- Sigla by column over runs.
+pub mod ColumnsHold
+pub mod MixedHolds
