@@ -25,7 +25,7 @@ use Rattle.call_answers.specs.Refusal.{isNone, firstMet}
 use Rattle.call_read.specs.Read.{readBytes}
 use Rattle.filecalls.specs.declared.Drive.{Drive}
 use Rattle.filecalls.specs.Change.{changeTests}
-use Rattle.desk_contents.specs.Contents.{total}
+use Rattle.desk_contents.specs.Contents.{firstAt, total, chapterPlace}
 use Rattle.desk.specs.declared.Why.{Why}
 use Rattle.desk.specs.declared.Plan.{Plan}
 use Rattle.desk.specs.declared.Plan.the-variants.{No, Go}
@@ -163,7 +163,8 @@ module _ (d : Drive) (v f : List ℕ) (chapter a b : ℕ) (small : Bytes v) (a16
       (λ m x y. let can = every-true (readable d v f) 1 (total s 16) (in-all .all-read) m x y in can-after m (omega (arith, y, few)) can ∙ sym can)
       ∙ in-all .all-read in
       let here = goes d w f s chapter (in-all .good) few (in-all .there) reads in
-      sym (told d w f chapter clear refl (can-after 0 (omega arith) (g .has-contents)) (sym contents-same) (rw (g .first-is, g .count-is) here))
+      let go = ap (λ (i : ℕ). Go i k) (g .first-is) ∙ ap (λ (j : ℕ). Go (firstAt s (chapterPlace s chapter)) j) (g .count-is) ∙ here in
+      sym (told d w f chapter clear refl (can-after 0 (omega arith) (g .has-contents)) (sym contents-same) go)
 
   -- the second
   abbrev z : List ℕ

@@ -76,14 +76,14 @@ abbrev before : List ℕ
 before = 65 ∷ 66 ∷ 1 ∷ 0 ∷ 65 ∷ 67 ∷ 2 ∷ 0 ∷ 65 ∷ 66 ∷ 3 ∷ 0 ∷ 70 ∷ 71 ∷ 4 ∷ 0 ∷ []
 
 -- number, value and readings
-unfoldable seen : Drive → List ℕ → ℕ → ℕ → ℕ → List ℕ
+unfoldable pub seen : Drive → List ℕ → ℕ → ℕ → ℕ → List ℕ
 unfolding lowFrom anyFrom everyFrom countFrom fold part put all lawful bytes start slotStart recordStart groupOf placeOf inside places strip nameAt same goodName blockIn withBlock countOf ofFile ofGroup slotAt findSlot recordSlot counted present recordAt laid recordStores entryStores random setTo withRandom firstMet readBlock readTests readBytes grown writtenEntry writeSlot baseEntry needsBlock writeBlock writeTests isOpen outcome unless changedState randomTests readDone readRandomAct writeEntry writeDone writeRandomAct changeTests total others usedPlace placeFits goodContents chapterPlace shown written rewritten allowed planIn plan rewriteIf carriedOut replacement
 seen d v chapter old new =
     let r = replacement d v fcb chapter old new in
     numberOf (r .answer) ∷ valueOf (r .answer) ∷ readings (r .volume)
 
 -- the readings where the call is cut after k stores
-unfoldable cutAfter : ℕ → List ℕ
+unfoldable pub cutAfter : ℕ → List ℕ
 unfolding lowFrom anyFrom everyFrom countFrom fold part put all lawful bytes start slotStart recordStart groupOf placeOf inside places strip nameAt same goodName blockIn withBlock countOf ofFile ofGroup slotAt findSlot recordSlot counted present recordAt laid recordStores entryStores random setTo withRandom firstMet readBlock readTests readBytes grown writtenEntry writeSlot baseEntry needsBlock writeBlock writeTests isOpen outcome unless changedState randomTests readDone readRandomAct writeEntry writeDone writeRandomAct changeTests total others usedPlace placeFits goodContents chapterPlace shown written rewritten allowed planIn plan rewriteIf writtenStores rewrittenStores allStores planStores replacementStores
 cutAfter k = readings (cut geometry volume k (replacementStores drive volume fcb 3 AB PQ))
 

@@ -54,10 +54,10 @@ altered-by to from a = record {
 
 -- none of them
 altered-none : (d : Drive) (v f : List ℕ) (these : ℕ → Type 0) (siglum : ℕ) → ((n : ℕ) → these n → ⊥) → Altered d v f these siglum v
-altered-none d v f these siglum no = record {
+altered-none d v f these siglum none = record {
   length-stays = refl;
   directory-stays = λ i h. refl;
-  siglum-laid = λ n h. absurd (no n h);
+  siglum-laid = λ n h. absurd (none n h);
   others-stay = λ x o. refl;
   presence-stays = λ u name m. refl;
   inspected = λ ok. ok;
@@ -91,6 +91,11 @@ module _ (p : ℕ → Bool) (d : Drive) (f : List ℕ) (siglum : ℕ) (s16 : sig
     done : ℕ
     within : done ≤ k
     is : w ≡ rewriteAll p d f siglum v i done
+
+  first-is : (v : List ℕ) (i j : ℕ) {t : Bool} → p i ≡ t
+      → rewriteAll p d f siglum v i (suc j) ≡ rewriteAll p d f siglum (cond t (rewritten d f siglum v i) v) (suc i) j
+  unfolding fold rewriteIf
+  first-is v i j e = ap (λ (t : Bool). rewriteAll p d f siglum (cond t (rewritten d f siglum v i) v) (suc i) j) e
 
   reaches : (k i : ℕ) (v : List ℕ) → File d v f → i + k ≤ 65536 → ((n : ℕ) → i ≤ n → n < i + k → readable d v f n ≡ true)
       → (most : ℕ) → Reached v i k (cut (d .geometry) v most (allStores p d f siglum v i k))
@@ -133,7 +138,7 @@ module _ (p : ℕ → Bool) (d : Drive) (f : List ℕ) (siglum : ℕ) (s16 : sig
                 done = suc (r .done);
                 within = omega (arith, r .within);
                 is = rw e (cut-second (d .geometry) v (rewrittenStores d f siglum v i) (allStores p d f siglum w (suc i) k) most h
-                    ∙ ap (λ (x : List ℕ). cut (d .geometry) x (most - length (rewrittenStores d f siglum v i)) (allStores p d f siglum w (suc i) k)) stored ∙ r .is);
+                    ∙ ap (λ (x : List ℕ). cut (d .geometry) x (most - length (rewrittenStores d f siglum v i)) (allStores p d f siglum w (suc i) k)) stored ∙ r .is ∙ sym (first-is v i (r .done) e));
               }
           either (no h) = half (rewritten-cut d v f file i i< now siglum most)
             where

@@ -1,6 +1,6 @@
 -- A record of the file rewritten by the desk, where the file's tests pass and the record can be read: the write succeeds,
 -- leaves the state as it is, and lays the siglum into the record where it stands.
-use mathlib.Core.Path.{_≡_, refl, sym, ap, _∙_}
+use mathlib.Core.Path.{_≡_, refl, sym, ap, _∙_, subst}
 use mathlib.Core.Bool.{Bool, true, false, not, false≢true}
 use mathlib.Core.Logic.{_⊎_}
 use mathlib.Core.List.{List, _++_}
@@ -202,4 +202,7 @@ module _ (d : Drive) (v f : List ℕ) (file : File d v f) (n : ℕ) (n< : n < 65
   pub rewritten-cut : (siglum k : ℕ)
       → (cut (d .geometry) v k (rewrittenStores d f siglum v n) ≡ v) ⊎ (cut (d .geometry) v k (rewrittenStores d f siglum v n) ≡ rewritten d f siglum v n)
   unfolding rewritten rewrittenStores
-  rewritten-cut siglum k = rw record-is (written-cut (withSiglum siglum (recordAt (d .geometry) v home n)) (siglum-length siglum) k)
+  rewritten-cut siglum k =
+      subst (λ (r : List ℕ). (cut (d .geometry) v k (writtenStores d v f n (withSiglum siglum r)) ≡ v)
+      ⊎ (cut (d .geometry) v k (writtenStores d v f n (withSiglum siglum r)) ≡ written d v f n (withSiglum siglum r) .volume)) (sym record-is)
+      (written-cut (withSiglum siglum (recordAt (d .geometry) v home n)) (siglum-length siglum) k)
