@@ -26,6 +26,9 @@ use Rattle.call_served.specs.Asked.{Asked}
 use Rattle.call_served.specs.Calls.{callOf}
 use Rattle.filecalls.specs.declared.Drive.{Drive}
 use Rattle.filecalls.specs.State.{loggedIn}
+use Rattle.filecalls.specs.Outcome.{Outcome}
+use Rattle.call_answers.specs.Answer.{succeeded}
+use Rattle.demands.specs.Demand3.{touches}
 use Rattle.bdos.specs.Step.{step}
 use Rattle.desk.specs.declared.Answer.{Answer}
 use Rattle.desk.specs.declared.Answer.the-variants.{Matching, Refused}
@@ -34,9 +37,10 @@ use Rattle.demands.proofs.Inspected.{accepted-sound, sound-accepted}
 use Rattle.demands.proofs.Orderly.{Directory, Changed, held-changed}
 use Rattle.demands.proofs.Acts.{Consistent, Leaves, leaves-all}
 use Rattle.demands.proofs.CallsKeep.{logged-in}
-use Rattle.demands.proofs.Demand3Holds.{step-keeps, starts}
+use Rattle.demands.proofs.Demand3Holds.{step-keeps, ready, starts}
 use Rattle.desk_keeps.specs.Sigla.{Matches, Altered, Replaces}
-use Rattle.desk_promises.specs.Mixed.{Deed, calls, replaces, driveAfter, volumeAfter, isDone, wasDone, names, ending, namedIn, LentTo, AllLent, MixedKept, MixedRuns}
+use Rattle.desk_promises.specs.Mixed.{Deed, calls, replaces, driveAfter, volumeAfter, isDone, wasDone, names, ending, endingState, namedIn, LentTo, AllLent, MixedKept, MixedRuns, ColumnsInMixed}
+use Rattle.desk_promises.proofs.ColumnsHold.{by-column}
 use Rattle.desk_keeps.proofs.OfFiles.{bytes-length}
 use Rattle.desk_keeps.proofs.ReplacesHolds as sigla
 
@@ -136,18 +140,42 @@ runs g (x ∷ xs) d v is-g c small =
           rest .others-bytes u name u15 (later u name h) n (here u name u15 h .presence n ∙ there) ∙ here u name u15 h .contents n there;
     }
 
+-- at its end it is consistent again
+stays : (g : Geometry) (xs : List Deed) (d : Drive) (v : List ℕ) → d .geometry ≡ g → Consistent d v → AllLent g xs d v
+    → Consistent (endingState g xs d v) (ending g xs d v)
+unfolding ending endingState AllLent
+stays g [] d v is-g c small = c
+stays g (x ∷ xs) d v is-g c small =
+    let keeps = deed-keeps g x d v is-g c (small .0) in
+    stays g xs (driveAfter g x d v) (volumeAfter g x d v) (keeps .geometry ∙ is-g) (keeps .consistent) (small .1)
+
 -- ---- log-in first
+-- files that are named by something else too
+named-more : {g : Geometry} {v w : List ℕ} {hit : ℕ → List ℕ → Bool} (more : ℕ → List ℕ → Bool) → MixedKept g v w hit
+    → MixedKept g v w (λ u name. more u name || hit u name)
+named-more {hit = hit} more k = record {
+  length-kept = k .length-kept;
+  inspected = k .inspected;
+  others-present = λ u name u15 h. k .others-present u name u15 (or-parts (more u name) (hit u name) h .1);
+  others-bytes = λ u name u15 h. k .others-bytes u name u15 (or-parts (more u name) (hit u name) h .1);
+}
+
 pub mixed-runs : MixedRuns
 unfolding ending namedIn AllLent
 mixed-runs g law v size ok login first xs d small =
-    let a = starts g law v size ok login first d in
-    let s = logged-in g law v size (accepted-sound g v ok) in
-    let r = runs g xs (loggedIn g (heldOf g v)) v refl s (rw a at (small .1)) in
-    let rest : (u : ℕ) (name : List ℕ) → namedIn g (calls login ∷ xs) d v u name ≡ false → namedIn g xs (loggedIn g (heldOf g v)) v u name ≡ false
-    = λ u name h. rw a at (or-parts (wasDone g (calls login) d v && names (calls login) d u name) (namedIn g xs (driveAfter g (calls login) d v) (volumeAfter g (calls login) d v) u name) h .1) in
-    record {
-      length-kept = rw a (r .length-kept);
-      inspected = rw a (r .inspected);
-      others-present = λ u name u15 h n. rw a (r .others-present u name u15 (rest u name h) n);
-      others-bytes = λ u name u15 h n there. rw a (r .others-bytes u name u15 (rest u name h) n there);
-    }
+    subst (λ (o : Outcome). AllLent g xs (o .drive) (o .volume)
+    → MixedKept g v (ending g xs (o .drive) (o .volume)) (λ u name. (succeeded (o .answer) && touches login d u name) || namedIn g xs (o .drive) (o .volume) u name))
+    (sym (starts g law v size ok login first d))
+    (λ lent. named-more (λ u name. succeeded (ready g law v size ok login first .answer) && touches login d u name)
+    (runs g xs (loggedIn g (heldOf g v)) v refl (logged-in g law v size (accepted-sound g v ok)) lent))
+    (small .1)
+
+pub columns-in-mixed : ColumnsInMixed
+unfolding ending endingState AllLent
+columns-in-mixed g law v size ok login first xs d small bytes fcb chapter old new old16 new16 =
+    by-column _ _ fcb chapter old new
+    (subst (λ (o : Outcome). AllLent g xs (o .drive) (o .volume) → Consistent (endingState g xs (o .drive) (o .volume)) (ending g xs (o .drive) (o .volume)))
+    (sym (starts g law v size ok login first d))
+    (stays g xs (loggedIn g (heldOf g v)) v refl (logged-in g law v size (accepted-sound g v ok)))
+    (small .1))
+    bytes old16 new16

@@ -1,8 +1,8 @@
 -- Demand 3's last sentence of runs that mix file calls and replacements: "A run that mixes file calls and replacements keeps
 -- demand 3's last sentence with the desk's file counted as named." A run begins with log-in; each call and each replacement is
--- given the state and the volume that the last left. The volume passes
--- inspection at the end, and each file, that is user and name, that no successful call and no replacement that was not refused
--- named or matched has the same records present with the same bytes.
+-- given the state and the volume that the last left. The volume passes inspection at the end, and each file, that is user and
+-- name, that no successful call and no replacement that was not refused named or matched has the same records present with the
+-- same bytes (`MixedRuns`).
 --
 -- It is asked that what is lent is bytes, and that a new siglum has 16 bits: what code lends is so.
 use mathlib.Core.Path.{_≡_}
@@ -28,6 +28,7 @@ use Rattle.desk.specs.declared.Answer.{Answer}
 use Rattle.desk.specs.declared.Answer.the-variants.{Matching, Refused}
 use Rattle.desk.specs.Replace.{replacement}
 use Rattle.demands.specs.Demand3.{touches}
+use Rattle.desk_promises.specs.Columns.{ByColumn}
 
 -- a call at the door, or a replacement: control block, chapter, old and new siglum
 pub data Deed : Type 0 where
@@ -57,10 +58,14 @@ abbrev pub names : Deed → Drive → ℕ → List ℕ → Bool
 names (calls c) d u name = touches c d u name
 names (replaces fcb chapter old new) d u name = eqb u (d .user) && same name (nameOf fcb)
 
--- the volume at the end of a run, and the files that were named
+-- the volume and the state at the end of a run, and the files that were named
 unfoldable pub ending : Geometry → List Deed → Drive → List ℕ → List ℕ
 ending g [] d v = v
 ending g (x ∷ xs) d v = ending g xs (driveAfter g x d v) (volumeAfter g x d v)
+
+unfoldable pub endingState : Geometry → List Deed → Drive → List ℕ → Drive
+endingState g [] d v = d
+endingState g (x ∷ xs) d v = endingState g xs (driveAfter g x d v) (volumeAfter g x d v)
 
 unfoldable pub namedIn : Geometry → List Deed → Drive → List ℕ → ℕ → List ℕ → Bool
 namedIn g [] d v u name = false
@@ -76,7 +81,7 @@ unfoldable pub AllLent : Geometry → List Deed → Drive → List ℕ → Type 
 AllLent g [] d v = Unit {0}
 AllLent g (x ∷ xs) d v = LentTo x v × AllLent g xs (driveAfter g x d v) (volumeAfter g x d v)
 
--- the volume was v and is w; `hit` says which files were namedIn
+-- the volume was v and is w; `hit` says which files were named
 pub record MixedKept (g : Geometry) (v w : List ℕ) (hit : ℕ → List ℕ → Bool) : Type 0 where
   pub length-kept : length w ≡ length v
   pub inspected : lowestBad g w ≡ slots g
@@ -85,8 +90,18 @@ pub record MixedKept (g : Geometry) (v w : List ℕ) (hit : ℕ → List ℕ →
   pub others-bytes : (u : ℕ) (name : List ℕ) → u ≤ 15 → hit u name ≡ false
       → (n : ℕ) → present g v u name n ≡ true → readBytes g w u name n ≡ readBytes g v u name n
 
-abbrev pub MixedRuns : Type 0
-MixedRuns =
+-- any geometry within the rules, any volume of its length that passes inspection, log-in, and then any calls and replacements
+abbrev pub OverMixed : (Geometry → List ℕ → List Deed → Drive → Type 0) → Type 0
+OverMixed Says =
     (g : Geometry) → lawful g ≡ true → (v : List ℕ) → length v ≡ bytes g → lowestBad g v ≡ slots g
     → (login : Asked) → callOf (login .function) ≡ LogIn → (xs : List Deed) (d : Drive) → AllLent g (calls login ∷ xs) d v
-    → MixedKept g v (ending g (calls login ∷ xs) d v) (namedIn g (calls login ∷ xs) d v)
+    → Says g v (calls login ∷ xs) d
+
+abbrev pub MixedRuns : Type 0
+MixedRuns = OverMixed (λ g v xs d. MixedKept g v (ending g xs d v) (namedIn g xs d v))
+
+-- and the next replacement does what is said of one after calls alone (`Columns`)
+abbrev pub ColumnsInMixed : Type 0
+ColumnsInMixed =
+    OverMixed (λ g v xs d. Bytes (ending g xs d v) → (fcb : List ℕ) (chapter old new : ℕ) → old < 65536 → new < 65536
+    → ByColumn (endingState g xs d v) (ending g xs d v) fcb chapter old new)
