@@ -10,9 +10,9 @@ pub const LINE_BYTES: usize = 32;
 pub const NAME_AT: usize = 2;
 
 // 51: siglum in neither list; 52: a list's length no multiple of 32.
-const NEITHER: u8 = 51;
+pub const NEITHER: u8 = 51;
 
-const LISTS: u8 = 52;
+pub const LISTS: u8 = 52;
 
 // Where a siglum is explained: in a line of the edition's own list or of the house list, in neither; or a list has a wrong
 // length.
