@@ -1,10 +1,11 @@
-// The same pieces of work as in bench.c, each done once on either side between two marks of the plugin instructions.c. A line
-// for each piece on standard output, `label work blocks slots side`, names what the label's count means. What a shelf costs stands
-// beside the proved log-in.
+// The same pieces of work as in bench.c, each done once on either side between two marks of the plugin instructions.c, and a chapter
+// whose siglum is replaced. A line for each piece on standard output, `label work blocks slots side`, names what the label's count
+// means. What a shelf costs stands beside the proved log-in.
 #define _GNU_SOURCE
 #include "churawel.h"
 #include "jobs.h"
 #include "plain.h"
+#include "sigla.h"
 
 #include <stdio.h>
 #include <stdlib.h>
@@ -149,6 +150,24 @@ static void count_fresh(const char *name, void (*lay)(struct shelf *))
     }
 }
 
+// The siglum of a chapter replaced by the desk and by calls, where one record in so many has it; both leave the same bytes.
+static int chapter(const char *what, unsigned one_in)
+{
+    static struct shelf after;
+    lay_chapter(one_in);
+    mark(0);
+    replace_by_desk();
+    mark(++label);
+    printf("%ld %s %u %u desk\n", label, what, work.total, work.slots);
+    after = work;
+    lay_chapter(one_in);
+    mark(0);
+    replace_by_calls();
+    mark(++label);
+    printf("%ld %s %u %u calls\n", label, what, work.total, work.slots);
+    return memcmp(after.volume, work.volume, work.bytes) == 0;
+}
+
 int main(void)
 {
     for (size_t k = 0; k < sizeof shapes / sizeof *shapes; k++) {
@@ -163,5 +182,9 @@ int main(void)
     count_floppy();
     // The volume is a floppy still.
     count_shelf();
-    return 0;
+    fill_shelf(&full, 4096, 256, 2);
+    if (chapter("one-in-eight", 8) && chapter("every-record", 1))
+        return 0;
+    puts("desk and calls leave different bytes");
+    return 1;
 }

@@ -1,7 +1,7 @@
 """The tables of counted instructions: table.py LABELS MARKS [markdown] reads what count.c printed and the marks of the plugin, and
 holds each ratio to its aim. One table is of volumes up to 256 blocks, one of hard disks, one of the eight-inch floppy beside the
-straight volume of the same numbers, and one of a volume put on a shelf beside its own log-in. The exit status is 1 where an aim is
-missed. With `markdown` they are printed as docs/SPEED.md has them."""
+straight volume of the same numbers, one of a volume put on a shelf beside its own log-in, and one of a chapter's siglum replaced. The
+exit status is 1 where an aim is missed. With `markdown` they are printed as docs/SPEED.md has them."""
 import sys
 
 # The pass up to 256 blocks has an aim of its own, and so has a fresh disk.
@@ -11,6 +11,7 @@ FRESH_AIM = 20
 FLOPPY_AIM = 1.5
 SHELF_AIM = 2.0
 NARROW = 256
+DESK = ("desk", "calls")
 
 
 def counts(named, marked):
@@ -27,6 +28,22 @@ def counts(named, marked):
         blocks, slots = map(int, shape) if len(shape) == 2 else (NARROW, int(shape[0]))
         found.setdefault(work, {}).setdefault((blocks, slots), {})[side] = marks[label]
     return found
+
+
+def chapters(found, markdown):
+    """a chapter's siglum replaced by the desk, beside the reads and writes that it needs; which of them missed the aim"""
+    missed = []
+    print("| records that match | instructions | aim |\n|---|---|---|" if markdown else "Instructions of a replacement in a chapter of 1,000 records, "
+          "and the ratio to the reads and writes that it needs\n")
+    row = "| {} | {:,} ({:.2f}) | {} |" if markdown else "{:<30}{:>16,} {:5.2f}  {:5.1f}"
+    for work, by_shape in found.items():
+        for sides in by_shape.values():
+            ours, calls = (sides[side] for side in DESK)
+            print(row.format(work.replace("-", " "), ours, ours / calls, AIM))
+            if ours > AIM * calls:
+                missed.append(work)
+    print()
+    return missed
 
 
 def aim_of(work, blocks):
@@ -114,6 +131,7 @@ def show(found, shapes):
 
 def main():
     found = counts(sys.argv[1], sys.argv[2])
+    desk = {work: found.pop(work) for work in list(found) if DESK[0] in next(iter(found[work].values()))}
     shapes = {shape for work in found.values() for shape, sides in work.items() if "plain" in sides}
     shapes = sorted(shapes, key=lambda shape: (shape[0] > NARROW, shape[1]))
     narrow, wide = ([shape for shape in shapes if (shape[0] > NARROW) == is_wide] for is_wide in (False, True))
@@ -122,9 +140,10 @@ def main():
         show_markdown(found, wide)
         show_floppy(found, True)
         show_shelf(found, True)
+        chapters(desk, True)
         return 0
     print("Instructions of the proved calls, and the ratio to those of plain C (gcc -O2)\n")
-    missed = show(found, narrow) + show(found, wide) + show_floppy(found, False) + show_shelf(found, False)
+    missed = show(found, narrow) + show(found, wide) + show_floppy(found, False) + show_shelf(found, False) + chapters(desk, False)
     print("All aims are met." if not missed else "MISSED: " + "; ".join(missed))
     return len(missed) > 0
 

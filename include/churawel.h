@@ -38,6 +38,12 @@ extern "C" {
 #define CHURAWEL_NUMBER(answer) ((answer) & 0xFFFFu)
 #define CHURAWEL_VALUE(answer) ((answer) >> 16)
 
+/* The parts of what churawel_manuscript answers: its number, which list, and where the name begins; and a name's length. */
+#define CHURAWEL_TOLD(told) ((uint32_t)((told) & 0xFFFFu))
+#define CHURAWEL_LIST(told) ((uint32_t)((told) >> 16 & 0xFFFFu))
+#define CHURAWEL_NAME_AT(told) ((size_t)((told) >> 32))
+#define CHURAWEL_NAME_BYTES 30
+
 /* The functions that are served; any other number is refused by 31. */
 enum {
     CHURAWEL_FN_RESET = 13,                 /* log-in with the drive's own geometry */
@@ -209,6 +215,38 @@ uint32_t churawel_fresh_copy(
     uint32_t block_bytes, uint32_t blocks, uint32_t directory_blocks, uint32_t placing,
     const uint8_t *first, size_t first_bytes,
     uint8_t *second, size_t second_bytes);
+
+/* The numbers that the edition desk refuses by, beside those of the calls. */
+enum {
+    CHURAWEL_DESK_CONTENTS = 50,            /* contents against the rules, a listed record that cannot be read, no such chapter */
+    CHURAWEL_DESK_NEITHER = 51,             /* a siglum in neither list */
+    CHURAWEL_DESK_LISTS = 52                /* a list's length no multiple of 32 */
+};
+
+/*
+ * Replaces one siglum by another in one chapter of the collation file that the control block names; its bytes behind the name are not
+ * looked at. A siglum is byte 0 and 256 times byte 1 of a reading record. Record 0 of the file has its contents: sixteen places of
+ * chapter, first record, count and zero, 16 bits each, low byte first; used ones first, their bodies from record 1 on without gaps.
+ * Done: 0, with the number of matching records as the value; bytes 0 and 1 of these are the new siglum, and no other byte is
+ * changed. Refused, nothing is: 32, 33, 34, 42, 39, 37, 3, 38, then 4, 1 and 41 as of a random read of record 0, then 50. The drive stays
+ * as it is. About 66 KiB of stack are used.
+ */
+uint32_t churawel_replace_siglum(
+    const uint8_t *drive, size_t drive_bytes,
+    uint8_t *volume, size_t volume_bytes,
+    const uint8_t *fcb, size_t fcb_bytes,
+    uint16_t chapter, uint16_t old_siglum, uint16_t new_siglum);
+
+/*
+ * Says which manuscript a siglum means, by the edition's own list or, if that lacks it, by the house list; either may be empty.
+ * A list has lines of 32 bytes, two of siglum and thirty of name, and the first match counts. The number is 0, 52 (a length that is
+ * no multiple of 32, or of 4 GiB or more) or 51 (in neither list); after 0, CHURAWEL_LIST says which list has it, 0 own or 1 house,
+ * and CHURAWEL_NAME_AT the byte of that list where the thirty bytes of the name begin. After a refusal both are 0.
+ */
+uint64_t churawel_manuscript(
+    uint16_t siglum,
+    const uint8_t *own, size_t own_bytes,
+    const uint8_t *house, size_t house_bytes);
 
 /* Did the call of this function succeed? A number alone does not say so: 2 is a directory code of 15 and a refusal of 34. */
 static inline int churawel_succeeded(uint8_t function, uint32_t answer)

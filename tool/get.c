@@ -20,8 +20,7 @@ static void read_record(struct disk *disk, uint32_t record, bool zero_gaps, cons
         refuse_by(about, number, "");
 }
 
-// A file whole; as text, to its first 1AH.
-static struct bytes file_bytes(struct disk *disk, const char *about, bool text, bool zero_gaps)
+struct bytes file_bytes(struct disk *disk, const char *about, bool text, bool zero_gaps)
 {
     must(disk, CHURAWEL_FN_SIZE, about);
     uint32_t records = record_set(disk);

@@ -158,6 +158,11 @@ void set_attributes(struct disk *disk, const struct listed *file);
 void set_record(struct disk *disk, uint32_t record);
 uint32_t record_set(const struct disk *disk);
 
+// ---- get.c: a file of a disk
+
+// A file whole; as text, to its first 1AH.
+struct bytes file_bytes(struct disk *disk, const char *about, bool text, bool zero_gaps);
+
 // ---- inspect.c: is a disk sound
 
 // Inspects the volume as it is now; in words why it is refused, or nothing. The free blocks are noted in the disk.
@@ -191,6 +196,8 @@ _Noreturn void show_command_help(const struct command *command);
 // The options' letters, one for each; --replace and --gaps have no short form.
 enum { GEOMETRY = 'g', FORMAT = 'f', USER = 'u', TEXT = 't', REPLACE = 'R', GAPS = 'G', HELP = 'h', VERSION = 'V' };
 
+void who(const struct options *options, char **operands, int count);
+void replace_siglum(const struct options *options, char **operands, int count);
 void list(const struct options *options, char **operands, int count);
 void check(const struct options *options, char **operands, int count);
 void shelf(const struct options *options, char **operands, int count);

@@ -34,6 +34,9 @@ static const struct {
     {CHURAWEL_REFUSED_NO_SLOT, "the directory is full"},
     {CHURAWEL_REFUSED_NO_BLOCK, "the disk is full"},
     {CHURAWEL_SHELF_FULL, "no more than 65535 disks are counted together"},
+    {CHURAWEL_DESK_CONTENTS, "the file's contents are not in order, list a record that can't be read, or lack the chapter"},
+    {CHURAWEL_DESK_NEITHER, "no list has this siglum"},
+    {CHURAWEL_DESK_LISTS, "a list is not made of lines of 32 bytes"},
 };
 
 #define LAWFUL_WORDS \
@@ -137,7 +140,7 @@ void show_help(void)
 {
     puts("Usage: churawel [-g B,T,D] [-f FORMAT] COMMAND ..\n"
          "\n"
-         "Lists, checks, reads and changes disk images of SCP 1700 (CP/M-86).\n"
+         "Lists, checks, reads and changes disk images of SCP 1700 (CP/M-86), and the sigla of an edition on them.\n"
          "\n"
          "Commands:");
     for (int k = 0; k < COMMANDS_COUNT; k++) {

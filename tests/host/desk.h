@@ -143,6 +143,7 @@ void hard_disk(void);
 void floppies(void);
 void on_the_shelf(void);
 void fresh_disks(void);
+void sigla_by_column(void);
 void stack_used(void);
 
 #endif

@@ -24,6 +24,13 @@ LENGTHS = {
     "SHELF_BYTES": r"\bconst SHELF_BYTES: usize = (\d+);",
 }
 
+# Where the numbers of the edition desk stand.
+DESK = {
+    "CONTENTS": r"\bconst CONTENTS: u8 = (\d+);",
+    "NEITHER": r"\bconst NEITHER: u8 = (\d+);",
+    "LISTS": r"\bconst LISTS: u8 = (\d+);",
+}
+
 # Names that the header has and the source has not: a name for each number of a call, and a name for a refusal.
 CALLS = {"LogIn": ["RESET", "RESET_DRIVE"], "Protect": ["WRITE_PROTECT"]}
 REFUSALS = {"BadCount": "COUNT", "NoRoom": "NO_MATCH"}
@@ -57,12 +64,24 @@ def exported(source):
     return functions
 
 
-def lengths_in(source):
+def constants_in(source, patterns, between):
+    """each name with the number that the source has for it"""
     lines = []
-    for name, pattern in LENGTHS.items():
+    for name, pattern in patterns.items():
         numbers = sorted(set(re.findall(pattern, source)))
-        lines.append(f"{name} {' and '.join(numbers) or 'nowhere'}")
+        lines.append(f"{name}{between}{' and '.join(numbers) or 'nowhere'}")
     return lines
+
+
+def lengths_in(source):
+    """a name's length is that of a line but for its siglum"""
+    (line,) = set(re.findall(r"\bconst LINE_BYTES: usize = (\d+);", source))
+    (siglum,) = set(re.findall(r"\bconst NAME_AT: usize = (\d+);", source))
+    return [f"NAME_BYTES {int(line) - int(siglum)}"] + constants_in(source, LENGTHS, " ")
+
+
+def desk_in(source):
+    return constants_in(source, DESK, " = ")
 
 
 def arms(source, function):
@@ -117,8 +136,16 @@ def shelved_in(source):
 
 def halves_in(source):
     """the mask of the number and the shift of the value, by what the value is multiplied with"""
-    (step,) = map(int, re.findall(r"number \+ (\d+) \* value", source))
+    (step,) = set(map(int, re.findall(r"number \+ (\d+) \* value", source)))
     return [f"NUMBER: & {step - 1}", f"VALUE: >> {step.bit_length() - 1}"]
+
+
+def told_in(source):
+    """the number, which list, and where the name begins, by what these are multiplied with"""
+    (lists,) = map(int, re.findall(r"Where::House\(\w+\) => (\d+) \+ high", source))
+    (place,) = map(int, re.findall(r"(\d+) \* \(\(i \* LINE_BYTES", source))
+    width = place // lists
+    return [f"TOLD: >> 0 & {lists - 1}", f"LIST: >> {lists.bit_length() - 1} & {width - 1}", f"NAME_AT: >> {place.bit_length() - 1}"]
 
 
 # ---- the header
@@ -150,18 +177,24 @@ def declared(header):
 
 
 def lengths_of(header):
-    return re.findall(r"(?m)^#define CHURAWEL_(\w+ .*\S)", header)
+    return sorted(re.findall(r"(?m)^#define CHURAWEL_(\w+ .*\S)", header), key=lambda line: not line.startswith("NAME"))
 
 
 def constants_of(header):
     """the enumerations, each as a list of NAME = NUMBER"""
     lists = re.findall(r"enum { (.*?) }", "\n".join(statements(header)))
-    return [re.sub(r"CHURAWEL_((FN|REFUSED|SHELF)_)?", "", body).split(" , ") for body in lists]
+    return [re.sub(r"CHURAWEL_((FN|REFUSED|SHELF|DESK)_)?", "", body).split(" , ") for body in lists]
 
 
 def halves_of(header):
     macros = re.findall(r"(?m)^#define CHURAWEL_(\w+)\(answer\) \(\(answer\) (\S+) (\w+?)u?\)\s*$", header)
     return [f"{name}: {operator} {int(number, 0)}" for name, operator, number in macros]
+
+
+def told_of(header):
+    """each macro over what churawel_manuscript answers: its shift, and its mask if it has one"""
+    macros = re.findall(r"(?m)^#define CHURAWEL_(\w+)\(told\) \(\(\w+\)\(\(told\)(?: >> (\d+))?(?: & (\w+?)u?)?\)\)\s*$", header)
+    return [f"{name}: >> {shift or 0}" + (f" & {int(mask, 0)}" if mask else "") for name, shift, mask in macros]
 
 
 # ---- the cases
@@ -172,7 +205,9 @@ CALLS_AGREE = "the header's functions have the numbers of call_of"
 REFUSALS_AGREE = "the header's refusals have their numbers and the source's order"
 PLACINGS_AGREE = "the header's placings are the source's"
 SHELVED_AGREE = "the header's answers of a shelf have the numbers of shelved_number"
+DESK_AGREES = "the header's numbers of the edition desk are the source's"
 HALVES_AGREE = "the header takes an answer apart as the source puts it together"
+TOLD_AGREES = "and so it does with what a siglum means"
 
 
 def signature(name):
@@ -183,7 +218,7 @@ def cases(header, source):
     """what is compared, what the header has, and what the source has"""
     header = bare(header)
     have, want = declared(header), exported(source)
-    calls, refusals, placings, shelved = constants_of(header)
+    calls, refusals, placings, shelved, desk = constants_of(header)
     yield FUNCTIONS, list(have), list(want)
     for name in want:
         yield signature(name), have.get(name, []), want[name]
@@ -192,7 +227,9 @@ def cases(header, source):
     yield REFUSALS_AGREE, refusals, refusals_in(source)
     yield PLACINGS_AGREE, placings, placings_in(source)
     yield SHELVED_AGREE, shelved, shelved_in(source)
+    yield DESK_AGREES, desk, desk_in(source)
     yield HALVES_AGREE, halves_of(header), halves_in(source)
+    yield TOLD_AGREES, told_of(header), told_in(source)
 
 
 def difference(has, wants):
@@ -203,8 +240,9 @@ def difference(has, wants):
     return ""
 
 
-LOG_IN, CALL, CUT, FAULT, FILE, SHELF, FRESH = (
-    signature(f"churawel_{name}") for name in ("log_in", "call", "cut", "fault", "file", "shelf", "fresh_copy")
+LOG_IN, CALL, CUT, FAULT, FILE, SHELF, FRESH, REPLACE, MANUSCRIPT = (
+    signature(f"churawel_{name}")
+    for name in ("log_in", "call", "cut", "fault", "file", "shelf", "fresh_copy", "replace_siglum", "manuscript")
 )
 
 # What is wrong, the text to alter (there once), what it becomes, and the case that must find it.
@@ -222,14 +260,20 @@ WRONG = [
     ("a cut's most stores in 16 bits", r"uint32_t most", "uint16_t most", CUT),
     ("a cut without its most stores", r"uint32_t most, ", "", CUT),
     ("a cut's most stores behind the function", r"(uint32_t most), (uint8_t function)(?=, uint8_t p)", r"\2, \1", CUT),
-    ("a cut that changes the control block", r"const (uint8_t \*fcb)", r"\1", CUT),
+    ("a cut that changes the control block", r"(_cut\([^;]*)const (uint8_t \*fcb)", r"\1\2", CUT),
     ("a cut that changes the buffer", r"const (uint8_t \*buffer)", r"\1", CUT),
     ("a cut that leaves the drive", r"(_cut\([^;]*)(uint8_t \*drive)", r"\1const \2", CUT),
     ("a cut that leaves the volume", r"(_cut\([^;]*)(uint8_t \*volume)", r"\1const \2", CUT),
     ("a fault that is not changed", r"(uint8_t \*fault)", r"const \1", FAULT),
     ("a fault without its length", r", size_t fault_bytes", "", FAULT),
-    ("a drive that is not const", r"const (uint8_t \*drive)", r"\1", FILE),
+    ("a drive that is not const", r"(_file\(\s*)const (uint8_t \*drive)", r"\1\2", FILE),
     ("a slot of 16 bits", r"uint32_t from", "uint16_t from", FILE),
+    ("sigla in the other order", r"(uint16_t old_siglum), (uint16_t new_siglum)", r"\2, \1", REPLACE),
+    ("a chapter of 8 bits", r"uint16_t chapter", "uint8_t chapter", REPLACE),
+    ("a replacement that changes the drive", r"(_siglum\(\s*)const (uint8_t \*drive)", r"\1\2", REPLACE),
+    ("a replacement that leaves the volume", r"(_siglum\([^;]*)(uint8_t \*volume)", r"\1const \2", REPLACE),
+    ("a manuscript in 32 bits", r"uint64_t churawel_manuscript", "uint32_t churawel_manuscript", MANUSCRIPT),
+    ("the house list first", r"(const uint8_t \*own, size_t own_bytes),(\s*)(const uint8_t \*house, size_t house_bytes)", r"\3,\2\1", MANUSCRIPT),
     ("a function that is missing", r"(?s)uint32_t churawel_call\(.*?\);", "", FUNCTIONS),
     ("a function too many", r"(uint32_t churawel_call\()", r"void churawel_close(uint8_t *drive);\n\1", FUNCTIONS),
     ("a function of another name", r"churawel_log_in\(", "churawel_login(", FUNCTIONS),
@@ -263,8 +307,12 @@ WRONG = [
     ("a second volume that is not", r"(uint8_t \*second)", r"const \1", FRESH),
     ("both volumes in the other order", r"(const uint8_t \*first, \w+ \w+),(\s*)(uint8_t \*second, \w+ \w+)", r"\3,\2\1", FRESH),
     ("a copy without its placing", r"(?s)(_fresh_copy\([^;]*?), uint32_t placing", r"\1", FRESH),
-    ("a mask of eight bits", r"& 0xFFFFu", "& 0xFFu", HALVES_AGREE),
-    ("a shift by eight bits", r">> 16", ">> 8", HALVES_AGREE),
+    ("another number of the desk", r"CHURAWEL_DESK_NEITHER = 51", "CHURAWEL_DESK_NEITHER = 53", DESK_AGREES),
+    ("names of 32 bytes", r"NAME_BYTES 30", "NAME_BYTES 32", LENGTHS_AGREE),
+    ("a mask of eight bits", r"\(answer\) & 0xFFFFu", "(answer) & 0xFFu", HALVES_AGREE),
+    ("a shift by eight bits", r"\(answer\) >> 16", "(answer) >> 8", HALVES_AGREE),
+    ("a list in another place", r"\(told\) >> 16", "(told) >> 24", TOLD_AGREES),
+    ("a name's place without its shift", r"\(told\) >> 32", "(told) >> 16", TOLD_AGREES),
 ]
 
 

@@ -21,6 +21,7 @@ int main(void)
     floppies();
     on_the_shelf();
     fresh_disks();
+    sigla_by_column();
     stack_used();
     return summary() == 0 ? 0 : 1;
 }

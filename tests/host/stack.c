@@ -13,6 +13,7 @@ enum {
     PROMISED = 16 * 1024,
     SHELF_PROMISED = 32 * 1024,
     COPY_PROMISED = 32 * 1024,
+    PROMISED_DESK = 80 * 1024,
     PAINT = 0xA5,
     B = 4096,
     D = 16,
@@ -65,6 +66,16 @@ static void copy_there(void)
     churawel_fresh_copy(B, total, D, CHURAWEL_STRAIGHT, volume, volume_bytes, second, volume_bytes);
 }
 
+static void replace_there(void)
+{
+    churawel_replace_siglum(drive, drive_bytes, volume, volume_bytes, fcb, sizeof fcb, 1, 0, 1);
+}
+
+static void manuscript_there(void)
+{
+    churawel_manuscript(1, buffer, sizeof buffer, buffer, sizeof buffer);
+}
+
 // How many bytes of a painted stack the work uses.
 static size_t used_by(void (*work)(void))
 {
@@ -105,6 +116,14 @@ static void start(void)
     call_there();
     memcpy(fcb + 1, "BAND2047TXT", 11);
     memcpy(fcb + 17, "NEUBANDXTXT", 11);
+}
+
+// The last file is a collation file: its contents, and one reading.
+static void start_at_desk(void)
+{
+    start();
+    volume[(SLOTS - 1) * ENTRY + 15] = 2;
+    memcpy(volume + D * B, (const uint8_t[]){1, 0, 1, 0, 1}, 5);
 }
 
 // The most that any function uses that is called in this way; the least goes to `least`, if it is less.
@@ -153,6 +172,11 @@ static void used_on(uint32_t blocks)
     size_t copied = used_by(copy_there);
     snprintf(what, sizeof what, "and a fresh copy less than is promised for it: %zu bytes of %d", copied, COPY_PROMISED);
     verdict(what, most < copied && copied < COPY_PROMISED);
+    start_at_desk();
+    size_t replacement = used_by(replace_there), manuscript = used_by(manuscript_there);
+    snprintf(what, sizeof what, "a replacement, which marks records, uses %zu bytes of %d; a manuscript's name %zu", replacement,
+             PROMISED_DESK, manuscript);
+    verdict(what, replacement > PROMISED && replacement < PROMISED_DESK && manuscript < PROMISED);
     verdict("and what is measured is a call's own stack", least > 0 && least < most);
 }
 

@@ -2,10 +2,12 @@
    built for the machine that it runs on, and the archive, which is for x86-64, may run under an emulator.
 
    A request: 0 for churawel_log_in, 1 for churawel_call, 2 for churawel_fault, 3 for churawel_file, 4 for churawel_cut, 5 for
-   churawel_shelf or 6 for churawel_fresh_copy, function, parameter, one byte unused; then B, T, D and placing (in B's place churawel_file
-   has the slot and churawel_cut the most stores; what churawel_file and churawel_fault lay is the buffer, and so is the second volume of
-   a copy; the shelf stands in the drive's place) and the lengths of drive, volume, control block and buffer, 32 bits each, low byte
-   first; then their bytes. The reply: the answer, and which of
+   churawel_shelf, 6 for churawel_fresh_copy, 7 for churawel_replace_siglum or 8 for churawel_manuscript, function, parameter, one byte
+   unused; then B, T, D and placing (in B's place churawel_file has the slot and churawel_cut the most stores; what churawel_file and
+   churawel_fault lay is the buffer, and so is the second volume of a copy; the shelf stands in the drive's place; a replacement has
+   chapter, old and new siglum there; a manuscript its siglum in B's place, the lists as volume and control block, and the answer's high
+   half is laid into the buffer) and the lengths of drive, volume, control block and buffer, 32 bits each, low byte first; then their
+   bytes. The reply: the answer, and which of
    the four (1 to 4, 0 for none) has a byte before or behind it that was changed, 32 bits each; then the four again. */
 #include <stdint.h>
 #include <stdio.h>
@@ -80,6 +82,15 @@ static uint32_t ask(const uint8_t *head, struct lent *x)
     if (head[0] == 6)
         return churawel_fresh_copy(number(head + 4), number(head + 8), number(head + 12), number(head + 16), volume, x[VOLUME].length,
                                    buffer, x[BUFFER].length);
+    if (head[0] == 7)
+        return churawel_replace_siglum(drive, x[DRIVE].length, volume, x[VOLUME].length, control, x[CONTROL].length,
+                                       (uint16_t)number(head + 4), (uint16_t)number(head + 8), (uint16_t)number(head + 12));
+    if (head[0] == 8) {
+        uint64_t told = churawel_manuscript((uint16_t)number(head + 4), volume, x[VOLUME].length, control, x[CONTROL].length);
+        for (size_t i = 0; i < x[BUFFER].length; i++)
+            buffer[i] = (uint8_t)(told >> (32 + 8 * i));
+        return (uint32_t)told;
+    }
     return churawel_call(head[1], head[2], drive, x[DRIVE].length, volume, x[VOLUME].length, control, x[CONTROL].length, buffer,
                          x[BUFFER].length);
 }

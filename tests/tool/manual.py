@@ -2,12 +2,13 @@
 other. And what README.md shows is what the tool prints."""
 import re
 
+import sigla
 from desk import ROOT, Desk
 from disk import entry, volume
 
 PAGE = ROOT / "docs/churawel.1"
 HEADER = ROOT / "include/churawel.h"
-COMMANDS = ["list", "check", "shelf", "get", "type", "put", "rename", "erase", "attributes", "new", "fresh"]
+COMMANDS = ["who", "replace", "list", "check", "shelf", "get", "type", "put", "rename", "erase", "attributes", "new", "fresh"]
 
 
 def plain(roff):
@@ -91,7 +92,7 @@ def help_of_all(desk, page, options):
 
 def refusals(desk, page):
     """the header's numbers, in its order, have a sentence in the one table, and the page has the same"""
-    numbers = dict(re.findall(r"(CHURAWEL_REFUSED_\w+|CHURAWEL_SHELF_FULL) = (\d+)", HEADER.read_text()))
+    numbers = dict(re.findall(r"(CHURAWEL_(?:REFUSED_\w+|SHELF_FULL|DESK_\w+)) = (\d+)", HEADER.read_text()))
     table = re.findall(r'\{(CHURAWEL_\w+), "(.*)"\}', (ROOT / "tool/words.c").read_text())
     desk.same("each number of the header has a sentence", [name for name, _ in table], list(numbers))
     desk.same("each sentence is another", len({sentence for _, sentence in table}), len(table))
@@ -105,15 +106,18 @@ def version(desk, page):
 
 
 def readme(desk):
-    """the two disks of README.md, and each command with what it prints there"""
-    sigla = bytearray(entry(name="SIGLA.TXT", rc=1, blocks=[1]))
-    sigla[9] |= 0x80
+    """the disks and lists of README.md, and each command with what it prints there"""
+    desk.write("own.lst", sigla.OWN)
+    desk.write("house.lst", sigla.HOUSE)
+    desk.write("VITA.IMG", sigla.disk())
+    marked = bytearray(entry(name="SIGLA.TXT", rc=1, blocks=[1]))
+    marked[9] |= 0x80
     rest = entry(user=3, name="APPARAT.TXT", ex=1, rc=36, blocks=range(18, 23))
     for image, first in (("EDITION.IMG", 2), ("WORN.IMG", 1)):
         apparat = entry(user=3, name="APPARAT.TXT", rc=128, blocks=[first, *range(3, 18)])
-        desk.write(image, volume((1024, 40, 1), {0: sigla, 1: apparat, 2: rest}))
+        desk.write(image, volume((1024, 40, 1), {0: marked, 1: apparat, 2: rest}))
     shown = re.findall(r"(?m)^    \$ \./churawel (.*)\n((?:    [^$].*\n)+)", (ROOT / "README.md").read_text())
-    desk.same("README.md shows two commands", len(shown), 2)
+    desk.same("README.md shows four commands", len(shown), 4)
     for command, expected in shown:
         desk.same(f"README.md: {command}", desk.run(*command.split())[1].decode(), re.sub("(?m)^    ", "", expected))
 

@@ -5,12 +5,14 @@ import resource
 import socket
 import subprocess
 
+import sigla
 from desk import TOOL, Desk
 from disk import BAD, entry, volume
 
 V = (1024, 40, 1)
 # More than the words: a command, and operands that are right.
 RIGHT = {
+    "who": ["A", "V.IMG:a.txt"], "replace": ["V.IMG", "a.txt", "5", "A", "B"],
     "list": ["V.IMG"], "check": ["V.IMG"], "get": ["V.IMG", "a.txt", "-"], "type": ["V.IMG", "a.txt"], "put": ["V.IMG", "in"],
     "rename": ["V.IMG", "a.txt", "b.txt"], "erase": ["V.IMG", "a.txt"], "attributes": ["V.IMG", "a.txt", "+r"], "new": ["N.IMG"],
     "fresh": ["V.IMG", "N.IMG"],
@@ -166,8 +168,10 @@ def limited(desk):
     def limit():
         resource.setrlimit(resource.RLIMIT_FSIZE, (20000, 20000))
 
-    for command, operands in RIGHT.items():
-        if command not in ("list", "check", "get", "type"):
+    desk.write("C.IMG", sigla.disk())
+    changing = {**RIGHT, "replace": ["C.IMG", "collatio.txt", "3", "A", "B"]}
+    for command, operands in changing.items():
+        if command not in ("who", "list", "check", "get", "type"):
             said = "can't be written: File too large"
             desk.refused(f"{command} where files may not be so long", command, *operands, said=said, preexec_fn=limit)
 

@@ -1,5 +1,5 @@
 // The seam to an emulator: log-in, every other call, a call that is cut off, why a volume is refused, which files it has, what
-// volumes hold together, and a fresh disk, exported for C, over lent bytes alone.
+// volumes hold together, a fresh disk, and the edition desk, exported for C, over lent bytes alone.
 ghost use mathlib.Core.Path.{_≡_};
 ghost use mathlib.Core.List.{[]};
 ghost use Rattle.disk_geometry.specs.Geometry.{geometryOf, withPlacing};
@@ -8,6 +8,7 @@ ghost use Rattle.seam_looks.specs.Fault.{explained, faultAtSeam};
 ghost use Rattle.seam_looks.specs.File.{shown, fileAtSeam};
 ghost use Rattle.seam_shelf.specs.Shelf.{shelfSealed, shelfAtSeam};
 ghost use Rattle.seam_fresh.specs.SeamFresh.{freshSealed, freshAtSeam};
+ghost use Rattle.seam_desk.specs.Sigla.{replaced, replaceAtSeam, manuscriptAtSeam};
 
 // Logs the volume in: the drive becomes the state that calls take, or zero bytes where the log-in is refused.
 #[no_mangle]
@@ -160,4 +161,31 @@ pub extern "C" fn churawel_fresh_copy(
         first,
         second,
     )
+}
+
+// Replaces a siglum by another in one chapter of a collation file. A present record is rewritten in its place, so the drive stays as
+// given.
+#[no_mangle]
+pub extern "C" fn churawel_replace_siglum(
+    drive: &[u8],
+    volume: &mut [u8],
+    fcb: &[u8],
+    chapter: u16,
+    old_siglum: u16,
+    new_siglum: u16,
+) -> u32
+    ensures { λ r. ⌜
+        replaced r (now (volume .exit))
+        ≡ replaceAtSeam (now (drive .entry)) (now (volume .entry)) (now (fcb .entry)) chapter «old_siglum» «new_siglum»
+        ⌝ }
+{
+    seam_desk::replace_siglum(drive, volume, fcb, chapter, old_siglum, new_siglum)
+}
+
+// Says which manuscript a siglum means: which list has its name, and where in that list the name begins.
+#[no_mangle]
+pub extern "C" fn churawel_manuscript(siglum: u16, own: &[u8], house: &[u8]) -> u64
+    ensures { λ r. ⌜ r ≡ manuscriptAtSeam siglum (now (own .entry)) (now (house .entry)) ⌝ }
+{
+    seam_desk::manuscript(siglum, own, house)
 }

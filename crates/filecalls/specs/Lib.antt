@@ -8,6 +8,7 @@ pub mod Search
 pub mod Names
 pub mod Read
 pub mod Write
+pub mod Change
 pub mod Small
 pub mod Leaves
 pub mod Several

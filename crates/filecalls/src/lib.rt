@@ -7,6 +7,7 @@ use disk_geometry::Geometry;
 use disk_held::WORDS;
 
 mod asking;
+mod changeable;
 mod changing;
 mod joining;
 mod login;

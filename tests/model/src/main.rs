@@ -21,13 +21,13 @@ use doors::replay::expected;
 use doors::script::Script;
 
 const USAGE: &str = "usage:
-  model run SEED SCRIPTS FOLDER   scripts, chains, tellings and cuttings on replay and at the seam; failing ones go to FOLDER
+  model run SEED SCRIPTS FOLDER   scripts, chains, tellings, cuttings and columns on replay and at the seam; failing ones go to FOLDER
   model some SEED SCRIPTS FOLDER  the same, where pairs of call and answer may be missing
   model long SEED CALLS FOLDER    one run of so many calls at the seam
   model shelves SEED SHELVES FOLDER  shelves of volumes at the seam; nothing goes to FOLDER
   model copies SEED COPIES FOLDER fresh disks at the seam
-  model again FILE                a kept script, chain, telling or cutting once more
-  model keep SEED NUMBER FOLDER   writes the script and the three chains of this number to FOLDER
+  model again FILE                a kept script, chain, telling, cutting or column once more
+  model keep SEED NUMBER FOLDER   writes the script and the four chains of this number to FOLDER
   model expected                  a script on standard input: what replay must print
   model listing                   a volume on standard input: what the lister must print
 The environment's REPLAY is the command that runs replay, SEAM the one that runs seam.c.
@@ -87,7 +87,7 @@ fn again(file: &str) -> Result<bool, String> {
 
 fn keep(seed: u64, number: u64, folder: &Path) -> Result<bool, String> {
     std::fs::create_dir_all(folder).map_err(|error| error.to_string())?;
-    for ending in [kept::SCRIPT, kept::CHAIN, kept::TELLING, kept::CUTTING] {
+    for ending in [kept::SCRIPT, kept::CHAIN, kept::TELLING, kept::CUTTING, kept::COLUMN] {
         let path = kept::keep(folder, seed, number, ending).map_err(|error| error.to_string())?;
         println!("{}", path.display());
     }

@@ -6,6 +6,7 @@ use std::process::{Child, ChildStdin, ChildStdout};
 use std::sync::Mutex;
 
 use super::program::Program;
+use crate::doors::desk::Replacement;
 use crate::doors::seam::{Memory, Seam};
 use crate::paper::geometry::Geometry;
 
@@ -84,6 +85,26 @@ impl Seam for Archive {
 
     fn file(&self, from: u32, memory: &mut Memory) -> Result<u32, String> {
         self.ask([3, 0, 0, 0], Geometry::new(from, 0, 0), memory)
+    }
+
+    fn replace(&self, asked: Replacement, memory: &mut Memory) -> Result<u32, String> {
+        let [chapter, old, new] = [asked.chapter, asked.old, asked.new].map(u32::from);
+        self.ask([7, 0, 0, 0], Geometry::new(chapter, old, new), memory)
+    }
+
+    /// The lists stand where volume and control block do, and the answer's high
+    /// half comes in the buffer.
+    fn manuscript(&self, siglum: u16, own: &[u8], house: &[u8]) -> Result<u64, String> {
+        let lent =
+            Memory { drive: Vec::new(), volume: own.to_vec(), control: house.to_vec(), buffer: vec![0; 4] };
+        let mut memory = lent.clone();
+        let siglum = Geometry::new(siglum as u32, 0, 0);
+        let low = self.ask([8, 0, 0, 0], siglum, &mut memory)?;
+        if (&memory.volume, &memory.control) != (&lent.volume, &lent.control) {
+            return Err("a list was changed".to_string());
+        }
+        let high = memory.buffer.iter().rev().fold(0, |number, &byte| 256 * number + byte as u64);
+        Ok((high << 32) + low as u64)
     }
 }
 

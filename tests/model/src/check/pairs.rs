@@ -17,6 +17,10 @@ pub enum Row {
     FaultEntry,
     /// `churawel_file`.
     FileEntry,
+    /// `churawel_replace_siglum`.
+    ReplaceEntry,
+    /// `churawel_manuscript`.
+    WhoEntry,
     /// A function's number, through `replay` or `churawel_call`.
     Function(u8),
     /// Any number that is not served, through `churawel_call`.
@@ -38,6 +42,8 @@ impl Row {
             Row::CutEntry => "churawel_cut".to_string(),
             Row::FaultEntry => "churawel_fault".to_string(),
             Row::FileEntry => "churawel_file".to_string(),
+            Row::ReplaceEntry => "churawel_replace_siglum".to_string(),
+            Row::WhoEntry => "churawel_manuscript".to_string(),
             Row::Function(function) => format!("function {}", function),
             Row::NotServed => "a number that is not served".to_string(),
         }
@@ -134,6 +140,10 @@ pub fn possible(door: Door) -> BTreeSet<(Row, u32)> {
         // What is lent for the bytes may have another length.
         pairs.extend([0, 32, 33, 35, 36].map(|answer| (Row::FaultEntry, answer)));
         pairs.extend([0, 32, 33, 35, 255].map(|answer| (Row::FileEntry, answer)));
+        // "The file's own at record 0 (37 and 38 too)", then 50.
+        let replaced = [0, 32, 33, 34, 42, 39, 37, 3, 38, 4, 1, 41, 50];
+        pairs.extend(replaced.map(|answer| (Row::ReplaceEntry, answer)));
+        pairs.extend([0, 52, 51].map(|answer| (Row::WhoEntry, answer)));
     }
     pairs
 }

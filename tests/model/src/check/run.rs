@@ -1,5 +1,5 @@
-//! Many scripts on `replay` and at the seam, and as many chains, tellings and
-//! cuttings at the seam.
+//! Many scripts on `replay` and at the seam, and as many chains, tellings,
+//! cuttings and columns at the seam.
 
 use std::collections::BTreeMap;
 use std::path::Path;
@@ -13,6 +13,7 @@ use super::program::Program;
 use super::table::Tally;
 use super::{side_by_side, transcripts, ways};
 use crate::choose::chains::{chain, long_chain};
+use crate::choose::columns::column;
 use crate::choose::cuttings::cutting;
 use crate::choose::scripts::script_bytes;
 use crate::choose::tellings::telling;
@@ -33,7 +34,7 @@ pub struct Plan<'a> {
     pub scripts: u64,
     pub replay: &'a Program,
     pub seam: &'a dyn Seam,
-    /// Where failing scripts, chains, tellings and cuttings are kept.
+    /// Where failing scripts, chains, tellings, cuttings and columns are kept.
     pub folder: &'a Path,
     /// Whether a possible pair of call and answer that never occurred is a
     /// failure; of few scripts it is not.
@@ -49,15 +50,17 @@ enum Comparison {
     Chain,
     Telling,
     Cutting,
+    Column,
 }
 
-const COMPARISONS: [Comparison; 6] = [
+const COMPARISONS: [Comparison; 7] = [
     Comparison::OnReplay,
     Comparison::AtSeam,
     Comparison::PlainWay,
     Comparison::Chain,
     Comparison::Telling,
     Comparison::Cutting,
+    Comparison::Column,
 ];
 
 impl Comparison {
@@ -66,6 +69,7 @@ impl Comparison {
             Comparison::Chain => kept::CHAIN,
             Comparison::Telling => kept::TELLING,
             Comparison::Cutting => kept::CUTTING,
+            Comparison::Column => kept::COLUMN,
             _ => kept::SCRIPT,
         }
     }
@@ -74,9 +78,7 @@ impl Comparison {
         match self {
             Comparison::OnReplay => "on replay",
             Comparison::PlainWay => "in the plain way",
-            Comparison::AtSeam | Comparison::Chain | Comparison::Telling | Comparison::Cutting => {
-                "at the seam"
-            }
+            _ => "at the seam",
         }
     }
 }
@@ -179,7 +181,7 @@ impl Results {
         }
     }
 
-    /// The script, the chain, the telling and the cutting of this number.
+    /// The script, the chain, the telling, the cutting and the column of this number.
     fn compare(&mut self, plan: &Plan, number: u64) {
         let bytes = script_bytes(plan.seed, number);
         let script = Script::decode(&bytes);
@@ -198,6 +200,8 @@ impl Results {
         self.note(number, Comparison::Telling, fault);
         let fault = seam_fault(&cutting(plan.seed, number), plan.seam, &mut self.seam);
         self.note(number, Comparison::Cutting, fault);
+        let fault = seam_fault(&column(plan.seed, number), plan.seam, &mut self.seam);
+        self.note(number, Comparison::Column, fault);
     }
 
     fn count(&mut self, lines: &[Line]) {

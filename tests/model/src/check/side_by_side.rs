@@ -7,6 +7,7 @@ use super::pairs::Row;
 use super::table::Tally;
 use crate::doors::chain::{Chain, Step};
 use crate::doors::cut;
+use crate::doors::desk;
 use crate::doors::replay::hex;
 use crate::doors::script::lay;
 use crate::doors::seam::{self, Memory, Seam};
@@ -46,6 +47,16 @@ pub fn first_difference(chain: &Chain, under_test: &dyn Seam, tally: &mut Tally)
                 let answer = telling::file(*from, &mut model);
                 (Row::FileEntry, answer, under_test.file(*from, &mut other))
             }
+            Step::Replace(asked, _) => {
+                let answer = desk::replace(*asked, &mut model);
+                (Row::ReplaceEntry, answer, under_test.replace(*asked, &mut other))
+            }
+            Step::Who(siglum, own, house) => {
+                let told = desk::manuscript(*siglum, own, house);
+                let got = under_test.manuscript(*siglum, own, house);
+                fault = got.as_ref().ok().and_then(|&got| halves_differ(got, told));
+                (Row::WhoEntry, told as u32, got.map(|got| got as u32))
+            }
             _ => continue,
         };
         tally.count(row, answer % 65536);
@@ -55,6 +66,11 @@ pub fn first_difference(chain: &Chain, under_test: &dyn Seam, tally: &mut Tally)
         }
     }
     None
+}
+
+/// Where the name begins, in the high half of what a siglum means.
+fn halves_differ(got: u64, told: u64) -> Option<String> {
+    numbers_differ("name's place", (got >> 32) as u32, (told >> 32) as u32)
 }
 
 /// What a step lays ready, notes, or puts back.
@@ -68,7 +84,8 @@ fn prepare(step: &Step, memory: &mut Memory, noted: &mut Memory) {
             memory.drive = noted.drive.clone();
             memory.volume = noted.volume.clone();
         }
-        Step::LogIn(_) => {}
+        Step::LogIn(_) | Step::Who(..) => {}
+        Step::Replace(_, control) => memory.control = control.clone(),
         Step::Fault(_, lent) | Step::File(_, lent) => memory.buffer = lent.clone(),
         Step::Call(call) | Step::Cut(_, call) => {
             memory.control = call.control.clone();
@@ -108,6 +125,10 @@ fn details(step: &Step, other: &Memory, model: &Memory) -> Vec<String> {
             )
         }
         Step::File(from, _) => format!("from slot {}", from),
+        Step::Replace(asked, control) => format!("{:?}, control block {}", asked, hex(control)),
+        Step::Who(siglum, own, house) => {
+            format!("siglum {}, own list {}, house list {}", siglum, hex(own), hex(house))
+        }
         _ => String::new(),
     };
     let lines = [("asked  ", asked), ("it has ", shown(other)), ("model  ", shown(model))];

@@ -98,6 +98,8 @@ fn head(row: Row) -> String {
         Row::CutEntry => "cut".to_string(),
         Row::FaultEntry => "fault".to_string(),
         Row::FileEntry => "file".to_string(),
+        Row::ReplaceEntry => "replace".to_string(),
+        Row::WhoEntry => "who".to_string(),
         Row::Function(function) => function.to_string(),
         Row::NotServed => "other".to_string(),
     }

@@ -12,7 +12,7 @@ use crate::doors::chain::{Chain, Step};
 use crate::doors::cut::asked;
 use crate::doors::drive_bytes::{closed, decode};
 use crate::doors::script::Call;
-use crate::doors::seam::{self, Memory};
+use crate::doors::seam::Memory;
 use crate::paper::calls::*;
 use crate::paper::floppy::logical;
 
@@ -57,13 +57,6 @@ pub fn stores_made(call: &Call, memory: &Memory) -> usize {
 }
 
 impl Making {
-    fn call(&mut self, call: Call) {
-        self.memory.control = call.control.clone();
-        self.memory.buffer = call.buffer.clone();
-        seam::call(call.function, call.parameter, &mut self.memory);
-        self.steps.push(Step::Call(call));
-    }
-
     /// A call of this function, now and then with something out of order.
     fn chosen(&mut self, function: u8) -> Call {
         let user = decode(&self.memory.drive).map_or(0, |state| state.user);

@@ -137,6 +137,7 @@ fn as_goal((row, answer): (Row, u32)) -> Option<Pair> {
     match row {
         Row::Function(function) if LOG_INS.contains(&function) || [32, 33].contains(&answer) => None,
         Row::Function(function) => Some((function, answer)),
-        Row::LogInEntry | Row::CutEntry | Row::FaultEntry | Row::FileEntry | Row::NotServed => None,
+        Row::LogInEntry | Row::CutEntry | Row::FaultEntry | Row::FileEntry => None,
+        Row::ReplaceEntry | Row::WhoEntry | Row::NotServed => None,
     }
 }

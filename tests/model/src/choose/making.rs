@@ -6,6 +6,7 @@ use super::images::{contents, valid_image};
 use super::random::Random;
 use crate::doors::chain::{Chain, Step};
 use crate::doors::drive_bytes::closed;
+use crate::doors::script::Call;
 use crate::doors::seam::{self, Memory};
 use crate::paper::geometry::Geometry;
 
@@ -32,6 +33,13 @@ impl Making {
     pub fn log_in(&mut self) {
         seam::log_in(self.geometry, &mut self.memory);
         self.steps.push(Step::LogIn(self.geometry));
+    }
+
+    pub fn call(&mut self, call: Call) {
+        self.memory.control = call.control.clone();
+        self.memory.buffer = call.buffer.clone();
+        seam::call(call.function, call.parameter, &mut self.memory);
+        self.steps.push(Step::Call(call));
     }
 
     /// The chain of the steps that were chosen.

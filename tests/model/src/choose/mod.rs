@@ -13,6 +13,7 @@
 //! | `drives`, `chains` | wild drives, and chains with them for the seam alone |
 //! | `making` | a chain in the making, for the two below |
 //! | `cuttings` | chains that cut calls off |
+//! | `columns` | chains for the edition desk |
 //! | `tellings` | chains that ask why a volume is refused, and for its files |
 //! | `shelves` | shelves, and volumes to be put on them |
 //! | `copies` | two volumes for a fresh disk |
@@ -21,6 +22,7 @@ pub mod aims;
 pub mod alterations;
 pub mod bad_scripts;
 pub mod chains;
+pub mod columns;
 pub mod control_blocks;
 pub mod copies;
 pub mod cuttings;

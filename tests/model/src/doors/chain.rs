@@ -5,6 +5,7 @@
 //! steps, each a letter and what `Step` says. Numbers have their low byte first;
 //! a *run* is a length of 32 bits and so many bytes; volume and drive are runs.
 
+use super::desk::Replacement;
 use super::drive_bytes::closed;
 use super::reader::Reader;
 use super::script::{Call, Script, TOUCH};
@@ -39,6 +40,12 @@ pub enum Step {
     Call(Call),
     /// `K`, 32 bits, then as for `C`: `churawel_cut` with so many stores at most.
     Cut(u32, Call),
+    /// `R`, chapter, old and new siglum of 32 bits each, run of the control block:
+    /// `churawel_replace_siglum`.
+    Replace(Replacement, Vec<u8>),
+    /// `W`, 32 bits, run of the own list, run of the house list:
+    /// `churawel_manuscript`, which looks at neither drive nor volume.
+    Who(u16, Vec<u8>, Vec<u8>),
     /// `S`: drive and volume are noted as they stand.
     Note,
     /// `B`: drive and volume are again as they were noted.
@@ -143,6 +150,19 @@ fn encode_step(step: &Step, bytes: &mut Vec<u8>) {
             put_number(*most, bytes);
             put_call(call, bytes);
         }
+        Step::Replace(Replacement { chapter, old, new }, control) => {
+            bytes.push(b'R');
+            for number in [chapter, old, new] {
+                put_number(*number as u32, bytes);
+            }
+            put_run(control, bytes);
+        }
+        Step::Who(siglum, own, house) => {
+            bytes.push(b'W');
+            put_number(*siglum as u32, bytes);
+            put_run(own, bytes);
+            put_run(house, bytes);
+        }
         Step::Note => bytes.push(b'S'),
         Step::Back => bytes.push(b'B'),
     }
@@ -158,6 +178,11 @@ fn take_call(reader: &mut Reader) -> Option<Call> {
     Some(Call { function, parameter, control: reader.run(4)?, buffer: reader.run(4)? })
 }
 
+/// 16 bits in 32.
+fn take_short(reader: &mut Reader) -> Option<u16> {
+    u16::try_from(reader.number(4)?).ok()
+}
+
 fn decode_step(reader: &mut Reader) -> Option<Step> {
     let step = match reader.byte()? {
         b'V' => Step::Volume(reader.run(4)?),
@@ -168,6 +193,11 @@ fn decode_step(reader: &mut Reader) -> Option<Step> {
         b'N' => Step::File(reader.number(4)?, reader.run(4)?),
         b'C' => Step::Call(take_call(reader)?),
         b'K' => Step::Cut(reader.number(4)?, take_call(reader)?),
+        b'R' => {
+            let (chapter, old, new) = (take_short(reader)?, take_short(reader)?, take_short(reader)?);
+            Step::Replace(Replacement { chapter, old, new }, reader.run(4)?)
+        }
+        b'W' => Step::Who(take_short(reader)?, reader.run(4)?, reader.run(4)?),
         b'S' => Step::Note,
         b'B' => Step::Back,
         _ => return None,

@@ -1,6 +1,7 @@
 //! The emulator's seam: what `churawel_log_in` and `churawel_call` must answer
 //! and leave.
 
+use super::desk::Replacement;
 use super::drive_bytes::{decode, drive_bytes, encode};
 use crate::paper::calls::{self, is_served, Lent, LOG_INS};
 use crate::paper::geometry::Geometry;
@@ -25,6 +26,8 @@ pub trait Seam: Sync {
     fn cut(&self, most: u32, function: u8, parameter: u8, memory: &mut Memory) -> Result<u32, String>;
     fn fault(&self, geometry: Geometry, memory: &mut Memory) -> Result<u32, String>;
     fn file(&self, from: u32, memory: &mut Memory) -> Result<u32, String>;
+    fn replace(&self, asked: Replacement, memory: &mut Memory) -> Result<u32, String>;
+    fn manuscript(&self, siglum: u16, own: &[u8], house: &[u8]) -> Result<u64, String>;
 }
 
 /// A drive that is closed, malformed or of another length.

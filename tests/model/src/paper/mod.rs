@@ -13,6 +13,7 @@
 //! | (02, i) Eight-inch floppies | `floppy` |
 //! | (02, ii) Several records a call | `several` |
 //! | (02, vii) What the shelf holds | `shelf` |
+//! | (02, x) Sigla by column | `sigla` |
 //! | (02, xi) The hard disk of the second machine | `geometry`; `Entry::map` in `directory` |
 //! | (02, xii) If the emulator is closed halfway | `stores` |
 //! | (02, xiv) A fresh disk from a worn one | `fresh` |
@@ -34,5 +35,6 @@ pub mod records;
 pub mod refusals;
 pub mod several;
 pub mod shelf;
+pub mod sigla;
 pub mod state;
 pub mod stores;

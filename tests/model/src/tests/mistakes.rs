@@ -5,9 +5,11 @@ use crate::check::side_by_side;
 use crate::check::table::Tally;
 use crate::check::transcripts::first_difference;
 use crate::choose::chains::chain;
+use crate::choose::columns::column;
 use crate::choose::cuttings::cutting;
 use crate::choose::tellings;
 use crate::doors::cut;
+use crate::doors::desk::{self, Replacement};
 use crate::doors::drive_bytes::{DRIVE_BYTES, PLACING, WIDE_DRIVE_BYTES};
 use crate::doors::seam::{self, Memory, Seam};
 use crate::doors::telling;
@@ -16,7 +18,9 @@ use crate::paper::control::CR;
 use crate::paper::floppy::{logical, start, IMAGE_BYTES};
 use crate::paper::geometry::{Geometry, FLOPPY, RECORD};
 
-/// Numbers for `churawel_cut`, `churawel_fault` and `churawel_file`.
+/// Numbers for the entries beside `churawel_log_in` and `churawel_call`.
+const REPLACE: u8 = 251;
+const WHO: u8 = 252;
 const CUT: u8 = 253;
 const FAULT: u8 = 254;
 const FILE: u8 = 255;
@@ -60,18 +64,29 @@ impl Seam for Mistaken {
         let answer = telling::file(from, memory);
         (self.mistake)(FILE, answer, memory)
     }
+
+    fn replace(&self, asked: Replacement, memory: &mut Memory) -> Result<u32, String> {
+        let answer = desk::replace(asked, memory);
+        (self.mistake)(REPLACE, answer, memory)
+    }
+
+    fn manuscript(&self, siglum: u16, own: &[u8], house: &[u8]) -> Result<u64, String> {
+        let told = desk::manuscript(siglum, own, house);
+        let low = (self.mistake)(WHO, told as u32, &mut Memory::default())?;
+        Ok((told >> 32 << 32) + low as u64)
+    }
 }
 
-/// The first difference in three times so many chains, a third of them tellings
-/// and a third cuttings.
+/// The first difference in four times so many chains, a quarter of them tellings,
+/// a quarter cuttings and a quarter columns.
 fn difference(mistake: Mistake, numbers: u64) -> Option<String> {
     let mistaken = Mistaken { mistake };
-    (0..numbers)
-        .flat_map(|number| [chain(3, number), tellings::telling(3, number), cutting(3, number)])
-        .find_map(|chain| {
-            let difference = side_by_side::first_difference(&chain, &mistaken, &mut Tally::default());
-            difference.map(|difference| difference.what)
-        })
+    let chains =
+        |number| [chain(3, number), tellings::telling(3, number), cutting(3, number), column(3, number)];
+    (0..numbers).flat_map(chains).find_map(|chain| {
+        let difference = side_by_side::first_difference(&chain, &mistaken, &mut Tally::default());
+        difference.map(|difference| difference.what)
+    })
 }
 
 /// The mistake is found, and the words for it contain these.
@@ -234,6 +249,23 @@ fn a_wrong_cut() {
         Ok(answer)
     };
     found(half, "(churawel_cut): byte 100 of the volume is ");
+}
+
+#[test]
+fn a_wrong_desk() {
+    let listed: Mistake =
+        |function, answer, _| Ok(if function == REPLACE && answer > 65535 { answer + 65536 } else { answer });
+    found(listed, "(churawel_replace_siglum): the count or slot is ");
+    let fills_drive: Mistake = |function, answer, memory| {
+        if function == REPLACE && answer > 65535 {
+            memory.drive[7] ^= 1;
+        }
+        Ok(answer)
+    };
+    found(fills_drive, "(churawel_replace_siglum): byte 7 of the drive is ");
+    let house: Mistake =
+        |function, answer, _| Ok(if function == WHO && answer == 65536 { 0 } else { answer });
+    found(house, "(churawel_manuscript): the count or slot is 0, by the model 1");
 }
 
 /// Whether the drive in hand is as long as a wide volume asks for.

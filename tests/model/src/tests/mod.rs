@@ -22,6 +22,7 @@ mod replay;
 mod seam;
 mod several;
 mod shelf;
+mod sigla;
 mod stores;
 mod together;
 mod typing;

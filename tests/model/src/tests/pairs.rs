@@ -1,11 +1,12 @@
-//! That few random scripts, chains, tellings and cuttings make every possible pair of call and
-//! answer occur, and no other, on the model itself.
+//! That few random scripts, chains, tellings, cuttings and columns make every possible pair of
+//! call and answer occur, and no other, on the model itself.
 
 use super::mistakes::Mistaken;
 use crate::check::pairs::{Door, Row};
 use crate::check::side_by_side;
 use crate::check::table::Tally;
 use crate::choose::chains::chain;
+use crate::choose::columns::column;
 use crate::choose::cuttings::cutting;
 use crate::choose::scripts::script_bytes;
 use crate::choose::tellings::telling;
@@ -43,7 +44,8 @@ fn all_pairs_occur_through_replay() {
 fn all_pairs_occur_at_the_seam() {
     all_pairs_occur(Door::Seam, |tally, seed, number| {
         let script = Chain::of_script(&Script::decode(&script_bytes(seed, number)));
-        for chain in [script, chain(seed, number), telling(seed, number), cutting(seed, number)] {
+        let (cutting, column) = (cutting(seed, number), column(seed, number));
+        for chain in [script, chain(seed, number), telling(seed, number), cutting, column] {
             let difference = side_by_side::first_difference(&chain, &Mistaken::NOT_AT_ALL, tally);
             assert_eq!(difference, None);
         }

@@ -1,0 +1,3 @@
+-- Laws of the contents, and examples.
+pub mod ContentsLaws
+pub mod Examples

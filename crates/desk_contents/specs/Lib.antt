@@ -1,0 +1,2 @@
+-- The contents of a collation file.
+pub mod Contents

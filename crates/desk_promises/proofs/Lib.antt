@@ -1,0 +1,4 @@
+-- Sigla by column over runs.
+pub mod ColumnsHold
+pub mod MixedHolds
+pub mod ColumnsAtSeamHold

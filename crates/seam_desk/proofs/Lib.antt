@@ -1,0 +1,2 @@
+-- Laws of the edition desk at the seam.
+pub mod SiglaLaws

@@ -1,0 +1,2 @@
+-- The edition desk at the seam.
+pub mod Sigla
