@@ -21,6 +21,8 @@ LENGTHS = {
     "RECORDS_MOST": r"Refusal::BadCount, .* <= (\d+)\)",
     "FAULT_BYTES": r"\bconst FAULT_BYTES: usize = (\d+);",
     "FILE_BYTES": r"\bconst FILE_BYTES: usize = (\d+);",
+    "TABLE_BYTES": r"\bconst TABLE_BYTES: usize = (\d+);",
+    "MCB_BYTES": r"\bconst MCB_BYTES: usize = (\d+);",
 }
 
 # Names that the header has and the source has not: a name for each number of a call, and a name for a refusal.
@@ -109,9 +111,22 @@ def placings_in(source):
     return [f"{name} = {number}" for name, number in re.findall(r"const (STRAIGHT|EIGHT_INCH): usize = (\d+);", source)]
 
 
+def memory_calls_in(source):
+    """the numbers of the memory calls, by their names, and load, which stands behind them"""
+    named = re.findall(r"\bpub const (\w+_MEM|GET_ABS_MAX): u8 = (\d+);", source)
+    return [f"{name} = {number}" for name, number in named] + [f"PROGRAM_LOAD = {int(named[-1][1]) + 1}"]
+
+
+def memory_refusals_in(source):
+    """the numbers of load's own refusals in the source's order, and then those that the memory calls have beside them"""
+    both = arms(source, "load_refusal_number") + arms(source, "memory_refusal_number")
+    lines = [f"{spelled(variant_of(refusal))} = {number}" for refusal, number in both if number.isdigit()]
+    return [line for line in dict.fromkeys(lines) if not line.startswith("NOT_SERVED")]
+
+
 def halves_in(source):
     """the mask of the number and the shift of the value, by what the value is multiplied with"""
-    (step,) = map(int, re.findall(r"number \+ (\d+) \* value", source))
+    (step,) = set(map(int, re.findall(r"number \+ (\d+) \* value", source)))
     return [f"NUMBER: & {step - 1}", f"VALUE: >> {step.bit_length() - 1}"]
 
 
@@ -165,6 +180,8 @@ LENGTHS_AGREE = "the header's lengths are the source's"
 CALLS_AGREE = "the header's functions have the numbers of call_of"
 REFUSALS_AGREE = "the header's refusals have their numbers and the source's order"
 PLACINGS_AGREE = "the header's placings are the source's"
+MEMORY_CALLS_AGREE = "the header's memory calls have the source's numbers"
+MEMORY_REFUSALS_AGREE = "the header's refusals of memory calls and load have their numbers and the source's order"
 HALVES_AGREE = "the header takes an answer apart as the source puts it together"
 
 
@@ -176,7 +193,7 @@ def cases(header, source):
     """what is compared, what the header has, and what the source has"""
     header = bare(header)
     have, want = declared(header), exported(source)
-    calls, refusals, placings = constants_of(header)
+    calls, refusals, placings, memory_calls, memory_refusals = constants_of(header)
     yield FUNCTIONS, list(have), list(want)
     for name in want:
         yield signature(name), have.get(name, []), want[name]
@@ -184,6 +201,8 @@ def cases(header, source):
     yield CALLS_AGREE, calls, calls_in(source)
     yield REFUSALS_AGREE, refusals, refusals_in(source)
     yield PLACINGS_AGREE, placings, placings_in(source)
+    yield MEMORY_CALLS_AGREE, memory_calls, memory_calls_in(source)
+    yield MEMORY_REFUSALS_AGREE, memory_refusals, memory_refusals_in(source)
     yield HALVES_AGREE, halves_of(header), halves_in(source)
 
 
@@ -196,6 +215,7 @@ def difference(has, wants):
 
 
 LOG_IN, CALL, CUT, FAULT, FILE = (signature(f"churawel_{name}") for name in ("log_in", "call", "cut", "fault", "file"))
+MEMORY, LOAD = (signature(f"churawel_{name}") for name in ("memory", "load"))
 
 # What is wrong, the text to alter (there once), what it becomes, and the case that must find it.
 WRONG = [
@@ -212,14 +232,19 @@ WRONG = [
     ("a cut's most stores in 16 bits", r"uint32_t most", "uint16_t most", CUT),
     ("a cut without its most stores", r"uint32_t most, ", "", CUT),
     ("a cut's most stores behind the function", r"(uint32_t most), (uint8_t function)(?=, uint8_t p)", r"\2, \1", CUT),
-    ("a cut that changes the control block", r"const (uint8_t \*fcb)", r"\1", CUT),
+    ("a cut that changes the control block", r"(_cut\([^;]*)const (uint8_t \*fcb)", r"\1\2", CUT),
     ("a cut that changes the buffer", r"const (uint8_t \*buffer)", r"\1", CUT),
     ("a cut that leaves the drive", r"(_cut\([^;]*)(uint8_t \*drive)", r"\1const \2", CUT),
     ("a cut that leaves the volume", r"(_cut\([^;]*)(uint8_t \*volume)", r"\1const \2", CUT),
     ("a fault that is not changed", r"(uint8_t \*fault)", r"const \1", FAULT),
     ("a fault without its length", r", size_t fault_bytes", "", FAULT),
-    ("a drive that is not const", r"const (uint8_t \*drive)", r"\1", FILE),
+    ("a drive that is not const", r"(_file\([^;]*)const (uint8_t \*drive)", r"\1\2", FILE),
     ("a slot of 16 bits", r"uint32_t from", "uint16_t from", FILE),
+    ("a memory's bytes in 32 bits", r"size_t memory_bytes(?=\);\s*/\*\s*\* Loads)", "uint32_t memory_bytes", MEMORY),
+    ("a table that is not changed", r"(_memory\([^;]*)(uint8_t \*table)", r"\1const \2", MEMORY),
+    ("a load that changes the volume", r"(_load\([^;]*)const (uint8_t \*volume)", r"\1\2", LOAD),
+    ("a load that leaves the memory", r"(_load\([^;]*)(uint8_t \*memory)", r"\1const \2", LOAD),
+    ("a load's table behind its memory", r"(uint8_t \*table, \w+ \w+),(\s*)(uint8_t \*memory, \w+ \w+)", r"\3,\2\1", LOAD),
     ("a function that is missing", r"(?s)uint32_t churawel_call\(.*?\);", "", FUNCTIONS),
     ("a function too many", r"(uint32_t churawel_call\()", r"void churawel_close(uint8_t *drive);\n\1", FUNCTIONS),
     ("a function of another name", r"churawel_log_in\(", "churawel_login(", FUNCTIONS),
@@ -245,6 +270,11 @@ WRONG = [
     ("the placing before the directory", r"(?s)(_log_in\([^;]*?)(uint32_t directory_blocks), (uint32_t placing)", r"\1\3, \2", LOG_IN),
     ("another number of a placing", r"EIGHT_INCH = 1", "EIGHT_INCH = 2", PLACINGS_AGREE),
     ("a placing that is missing", r"CHURAWEL_STRAIGHT = 0,", "", PLACINGS_AGREE),
+    ("a table of 64 bytes", r"TABLE_BYTES 66", "TABLE_BYTES 64", LENGTHS_AGREE),
+    ("a memory call's number", r"FREE_MEM = 57", "FREE_MEM = 58", MEMORY_CALLS_AGREE),
+    ("load as a memory call", r"PROGRAM_LOAD = 59", "PROGRAM_LOAD = 58", MEMORY_CALLS_AGREE),
+    ("62 for 63", r"NO_PLACE = 63", "NO_PLACE = 62", MEMORY_REFUSALS_AGREE),
+    ("60 before 65", r"(\w+_RULES = 65,)(.*\s*)(\w+_HEADER = 60,)", r"\3\2\1", MEMORY_REFUSALS_AGREE),
     ("a mask of eight bits", r"& 0xFFFFu", "& 0xFFu", HALVES_AGREE),
     ("a shift by eight bits", r">> 16", ">> 8", HALVES_AGREE),
 ]

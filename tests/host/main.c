@@ -19,6 +19,7 @@ int main(void)
     cut_calls();
     hard_disk();
     floppies();
+    memory_and_load();
     stack_used();
     return summary() == 0 ? 0 : 1;
 }

@@ -6,3 +6,4 @@ pub mod CodeLent
 pub mod Fault
 pub mod File
 pub mod Explains
+pub mod Memory

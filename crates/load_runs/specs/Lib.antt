@@ -1,0 +1,2 @@
+-- Runs over the bytes of table and memory.
+pub mod Runs
