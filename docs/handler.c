@@ -21,8 +21,8 @@ struct disk {
 
 struct machine {
     uint8_t cl, ch, dl, al, ah;
-    uint16_t ds, dx;
-    uint16_t ax, bx, cs, es, ip; /* what 59 answers, and where a program is started */
+    uint16_t bx, dx, ds;
+    uint16_t cs, es, ip; /* where a program is started */
     uint16_t dma_base, dma_offset; /* what the program has set by 26 and 51 */
     uint8_t memory[MEMORY_BYTES];
     uint8_t table[CHURAWEL_TABLE_BYTES]; /* the pieces of memory that programs may have, and the regions that they have */
@@ -172,13 +172,21 @@ static void call_memory(struct machine *m)
     m->al = CHURAWEL_NUMBER(answer) == 0 ? 0 : 255;
 }
 
+/* What 59 answers, in AX and in BX. */
+static void answer_in_ax_and_bx(struct machine *m, uint16_t answer)
+{
+    m->al = (uint8_t)answer;
+    m->ah = (uint8_t)(answer >> 8);
+    m->bx = answer;
+}
+
 /* 59: the file that the control block at DS:DX names. AX and BX are the paragraph of its base page, or FFFFH where it is refused. */
 static void load_program(struct machine *m)
 {
     uint8_t fcb[CHURAWEL_FCB_BYTES];
     load(m, m->ds, m->dx, fcb, sizeof fcb);
     uint8_t which = drive_of(m, fcb[0]);
-    m->ax = m->bx = 0xFFFF;
+    answer_in_ax_and_bx(m, 0xFFFF);
     if (which == DRIVES || fcb[0] == WILDCARD)
         return;
     fcb[0] = 0;
@@ -186,7 +194,7 @@ static void load_program(struct machine *m)
     uint32_t answer = churawel_load(
         d->drive, d->drive_bytes, d->image, d->image_bytes, fcb, sizeof fcb, m->table, sizeof m->table, m->memory, sizeof m->memory);
     if (CHURAWEL_NUMBER(answer) == 0)
-        m->ax = m->bx = (uint16_t)CHURAWEL_VALUE(answer);
+        answer_in_ax_and_bx(m, (uint16_t)CHURAWEL_VALUE(answer));
 }
 
 /* A word of the base page that begins at this paragraph. */

@@ -175,6 +175,11 @@ static void protection(void)
     expect("a function that is not served: 255", int224(99, 0, FCB), 255);
 }
 
+static uint16_t ax(void)
+{
+    return (uint16_t)(m.al | m.ah << 8);
+}
+
 /* A word at DS:offset, of a memory control block. */
 static void word(uint16_t offset, unsigned value)
 {
@@ -215,10 +220,10 @@ static void programs(void)
     write_program("ALONE   CMD", alone, sizeof alone, 5);
     name(1, "ALONE   CMD", 0);
     int224(59, 0, FCB);
-    expect("59 answers the paragraph of the base page in AX", m.ax, 0x2100);
+    expect("59 answers the paragraph of the base page in AX", ax(), 0x2100);
     expect("and in BX", m.bx, 0x2100);
     expect("the image stands behind the base page's 30H bytes", *at(&m, 0x2100, 0x30), 0x91);
-    start_program(&m, m.ax);
+    start_program(&m, ax());
     expect("code alone starts at 100H of its region", m.cs == 0x2100 && m.ds == 0x2100 && m.es == 0x2100 && m.ip == 0x100, 1);
     expect("with the DMA address in its base page", m.dma_base == 0x2100 && m.dma_offset == 0x80, 1);
     m.ds = DS;
@@ -227,15 +232,15 @@ static void programs(void)
     write_program("THREE   CMD", three, sizeof three, 2);
     name(1, "THREE   CMD", 0);
     int224(59, 0, FCB);
-    expect("with a data group the base page is there", m.ax, 0x2120);
-    start_program(&m, m.ax);
+    expect("with a data group the base page is there", ax(), 0x2120);
+    start_program(&m, ax());
     expect("code, data and extra: each register has its group, IP is 0", m.cs == 0x2131 && m.ds == 0x2120 && m.es == 0x2130 && m.ip == 0, 1);
     m.ds = DS;
     m.dma_base = DS;
     m.dma_offset = DMA;
     name(1, "NOTHING CMD", 0);
     int224(59, 0, FCB);
-    expect("59 of no such file is FFFFH", m.ax, 0xFFFF);
+    expect("59 of no such file is FFFFH", ax(), 0xFFFF);
     expect("58 frees all", int224(58, 0, 0), 0);
     expect("so that the table has no region", m.table[1], 0);
 }

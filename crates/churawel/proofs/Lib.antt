@@ -1,5 +1,5 @@
 -- What the seam rests on: answers that fit 16 bits, closed states that every call refuses, states that a drive's bytes carry, what is
--- told of a bad slot and of a file, the bytes of a fault evaluated, and a load's answer.
+-- told of a bad slot and of a file, and the bytes of a fault evaluated.
 pub mod ValueLaws
 pub mod ClosedLaws
 pub mod WayLaws
@@ -12,5 +12,4 @@ pub mod FaithfulHolds
 pub mod FaultLaws
 pub mod FileLaws
 pub mod ExplainsHolds
-pub mod MemoryLaws
 pub mod Examples

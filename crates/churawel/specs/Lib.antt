@@ -6,4 +6,3 @@ pub mod CodeLent
 pub mod Fault
 pub mod File
 pub mod Explains
-pub mod Memory

@@ -29,7 +29,6 @@ use files::line;
 
 mod cut;
 mod fault;
-pub mod memory;
 
 // A number of 32 bits as a size.
 fn size(x: u32) -> usize

@@ -161,6 +161,9 @@ module _ (bytes : ℕ) (t : Table) (c : Lays t) (rules : withinRules bytes t ≡
   read-again : tableOf (tableLaid t) ≡ tidy t
   read-again = ap tableOf (sym laid-tidy) ∙ laid-is-read (tidy t) carried
 
+  pub regions-again : regionsOf (tableOf (tableLaid t)) ≡ regionsOf t
+  regions-again = ap (λ (x : Table). regionsOf x) read-again ∙ regions-tidy
+
   pub rules-again : withinRules bytes (tableOf (tableLaid t)) ≡ true
   rules-again =
       rw read-again

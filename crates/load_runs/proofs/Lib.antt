@@ -1,4 +1,5 @@
--- Spans that 66 bytes can carry, and the runs over them.
+-- Spans that 66 bytes can carry, the runs over them, and each promise over bytes.
 pub mod ShortLaws
 pub mod LaysLaws
 pub mod RunsHold
+pub mod AtSeamHolds

@@ -6,7 +6,7 @@ use Prim.Native.Nat.{ℕ}
 use lib.Dec.{leb, ltb}
 use lib.ListN.{length}
 use Rattle.numbers.specs.Numbers.{Bytes}
-use Rattle.filecalls.specs.declared.Drive.{Drive}
+use Rattle.drive_bytes.specs.Layout.{decoded}
 use Rattle.memory_calls.specs.declared.Table.{Table}
 use Rattle.memory_calls.specs.Table.{withinRules}
 use Rattle.memory_calls.specs.Calls.{ALLOC-MEM, memoryCall}
@@ -16,6 +16,7 @@ use Rattle.memory_bytes.specs.Over.{MCB-LENGTH, Over, over, succeeded, mcbRefus
 use Rattle.loading.specs.Load.{load}
 use Rattle.load_promises.proofs.Theorem.{load-keeps, load-keeps-length}
 use Rattle.load_bytes.specs.LoadOver.{isLoaded, loadBytes}
+use Rattle.seam_memory.specs.Load.{loadAtSeam}
 use Rattle.load_runs.specs.Runs.{Request, call, loading, Lent, next, after, BytesStayWithinRules}
 use Rattle.load_runs.proofs.ShortLaws.{two-low}
 use Rattle.load_runs.proofs.LaysLaws.{Lays, read-lays, call-lays, load-lays, rules-again, lays-again}
@@ -45,17 +46,18 @@ module _ (bytes : ℕ) (table : List ℕ) (s : Stands bytes table) where
           (call-lays bytes (tableOf table) (mcbOf mcb) (s .rules) (two-low mcb b 0) (two-low mcb b 2) (s .lays) f))
           s
 
-loaded : (table memory : List ℕ) → Stands (length memory) table → (d : Drive) (v f : List ℕ) → Stands (length memory) (loadBytes d v f table memory .table)
-unfolding loadBytes
-loaded table memory s d v f =
+loaded : (table memory : List ℕ) → Stands (length memory) table → (s v f : List ℕ) → Stands (length memory) (loadAtSeam s v f table memory .table)
+unfolding loadAtSeam loadBytes
+loaded table memory h s v f =
+    let d = decoded s in
     whichever (Stands (length memory)) (isLoaded (load d v f (tableOf table) memory .reply .answer)) _ _
-    (laid-stands (length memory) (load d v f (tableOf table) memory .reply .table) (load-keeps d v f (tableOf table) memory (s .rules)) (load-lays d v f (tableOf table) memory (s .lays)))
-    s
+    (laid-stands (length memory) (load d v f (tableOf table) memory .reply .table) (load-keeps d v f (tableOf table) memory (h .rules)) (load-lays d v f (tableOf table) memory (h .lays)))
+    h
 
 next-length : (s : Lent) (r : Request) → length (next s r .memory) ≡ length (s .memory)
-unfolding next loadBytes
+unfolding next loadAtSeam loadBytes
 next-length s (call f mcb b) = refl
-next-length s (loading d v f) = load-keeps-length d v f (tableOf (s .table)) (s .memory)
+next-length s (loading d v f) = load-keeps-length (decoded d) v f (tableOf (s .table)) (s .memory)
 
 next-stands : (s : Lent) → Stands (length (s .memory)) (s .table) → (r : Request) → Stands (length (s .memory)) (next s r .table)
 unfolding next

@@ -1,2 +1,3 @@
--- Runs over the bytes of table and memory.
+-- What holds of memory calls and loads as C makes them: of runs, and of each.
 pub mod Runs
+pub mod AtSeam

@@ -1,1 +1,1 @@
-// Runs of memory calls and loads over the bytes that are lent to them: statements and laws only, no code.
+// Memory calls and loads over the bytes that C lends: statements and laws only, no code.

@@ -9,7 +9,7 @@ use Rattle.loading.specs.declared.LoadAnswer.{LoadAnswer}
 use Rattle.loading.specs.Load.{valueOf}
 use Rattle.load_bytes.specs.LoadOver.{LoadOver, loadOver, loadBytes}
 use Rattle.load_bytes.proofs.LoadOverLaws.{value-low}
-use Rattle.churawel.specs.Memory.{loadAnswered, started, loadAtSeam}
+use Rattle.seam_memory.specs.Load.{loadAnswered, started, loadAtSeam}
 
 -- w, a, x, m: the front of the state in the drive's bytes, and what load answered and left over it
 module _ (s v f table memory : List ℕ) {w : Front} (is : w ≡ frontOf (decoded s)) {a : LoadAnswer} {x m : List ℕ}

@@ -1,7 +1,7 @@
 -- The number as C has it; all else is the call's.
 use borrow.Author.Needs.{needs}
-use Rattle.churawel.proofs.memory.churawel_memory.Statement.{statement}
-use Rattle.churawel.proofs.memory.churawel_memory.Tie as tie
+use Rattle.seam_memory.proofs.memory_call.Statement.{statement}
+use Rattle.seam_memory.proofs.memory_call.Tie as tie
 
 memory-call-requires : tie.Need-memory-call-requires
 memory-call-requires c κs = search needs
@@ -18,5 +18,5 @@ same-length-2 c = search needs
 returns : tie.Need-returns
 returns c = rw (c .wide .ensures .0) (c .before .before .before .before .before .memory-call .ensures)
 
-pub churawel-memory-spec : {M : Type 1} → statement M
-churawel-memory-spec = tie.close (tie.spec memory-call-requires wide-requires same-length same-length-2 returns)
+pub memory-call-spec : {M : Type 1} → statement M
+memory-call-spec = tie.close (tie.spec memory-call-requires wide-requires same-length same-length-2 returns)

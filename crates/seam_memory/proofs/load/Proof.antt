@@ -1,9 +1,9 @@
 -- The load over the front in the drive's bytes, sealed.
 use denote.Ref.{now}
-use Rattle.churawel.proofs.MemoryLaws.{paragraph-low, load-sealed}
+use Rattle.seam_memory.proofs.LoadLaws.{paragraph-low, load-sealed}
 use borrow.Author.Needs.{needs}
-use Rattle.churawel.proofs.memory.churawel_load.Statement.{statement}
-use Rattle.churawel.proofs.memory.churawel_load.Tie as tie
+use Rattle.seam_memory.proofs.load.Statement.{statement}
+use Rattle.seam_memory.proofs.load.Tie as tie
 
 front-requires : tie.Need-front-requires
 front-requires c κs = search needs
@@ -27,5 +27,5 @@ returns c =
     let a = c .before .before .before .before .before .before .before .before .before .args in
     load-sealed (now (a .drive)) (now (a .volume)) (now (a .fcb)) (now (a .table)) (now (a .memory)) (c .before .before .before .before .before .before .front .ensures) (c .before .before .before .before .before .load .ensures) (c .seal-load .ensures)
 
-pub churawel-load-spec : {M : Type 1} → statement M
-churawel-load-spec = tie.close (tie.spec front-requires load-requires seal-load-requires same-length same-length-2 returns)
+pub load-spec : {M : Type 1} → statement M
+load-spec = tie.close (tie.spec front-requires load-requires seal-load-requires same-length same-length-2 returns)

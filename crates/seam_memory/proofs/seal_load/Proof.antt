@@ -1,9 +1,9 @@
 -- Number and value are the definition's.
 use native.Mathlib.Omega.{arith}
-use Rattle.churawel.specs.Memory.{loadAnswered}
+use Rattle.seam_memory.specs.Load.{loadAnswered}
 use borrow.Author.Needs.{needs}
-use Rattle.churawel.proofs.memory.seal_load.Statement.{statement}
-use Rattle.churawel.proofs.memory.seal_load.Tie as tie
+use Rattle.seam_memory.proofs.seal_load.Statement.{statement}
+use Rattle.seam_memory.proofs.seal_load.Tie as tie
 
 number-requires : tie.Need-number-requires
 number-requires c κs = search needs
