@@ -1,4 +1,4 @@
--- The two round trips: span by span, and a span by its four bytes.
+-- The round trips of the table, span by span and a span by its four bytes, and of the control block.
 use mathlib.Core.Path.{_≡_, refl, sym, ap, _∙_}
 use mathlib.Core.List.{List, [], _∷_, _++_}
 use Prim.Native.Nat.{ℕ, zero, suc, _+_, _*_, _/_, _%_, _≤_, _<_}
@@ -15,9 +15,10 @@ use Rattle.memory_spans.specs.Span.{places, paragraphs, none}
 use Rattle.memory_regions.specs.Places.{padded}
 use Rattle.memory_regions.proofs.PlaceLaws.{padded-length, padded-at}
 use Rattle.memory_calls.specs.declared.Table.{Table}
+use Rattle.memory_calls.specs.declared.Mcb.{Mcb}
 use Rattle.memory_calls.specs.Table.{piecesOf, regionsOf}
-use Rattle.memory_bytes.specs.TableBytes.{tableBytes, PIECES, REGIONS, spanBytes, spanAt, spansAt, usedIn, tableOf, spanLaid, spansLaid, tableLaid}
-use Rattle.memory_bytes.specs.RoundTrip.{Short, Carried, LaidIsRead, ReadIsLaid}
+use Rattle.memory_bytes.specs.TableBytes.{tableBytes, PIECES, REGIONS, spanBytes, spanAt, spansAt, usedIn, tableOf, spanLaid, spansLaid, tableLaid, mcbLaid}
+use Rattle.memory_bytes.specs.RoundTrip.{Short, Carried, LaidIsRead, ReadIsLaid, McbIsRead}
 use Rattle.memory_bytes.proofs.BytesLaws.{spans-length, spans-place, span-length, spans-laid-length}
 
 -- ---- a span that was laid is read again, each of its two numbers
@@ -39,6 +40,13 @@ span-back b a s h e =
     let start : byte b a + 256 * byte b (a + 1) ≡ s .start = two-back (s .start) b0 b1 (h .start) in
     let length : byte b (a + 2) + 256 * byte b (a + 2 + 1) ≡ s .length = two-back (s .length) b2 b3 (h .length) in
     λ i. record { start = start i; length = length i }
+
+pub mcb-is-read : McbIsRead
+unfolding mcbLaid bytesOf
+mcb-is-read m h k =
+    let base = two-back (m .base) refl refl h in
+    let length = two-back (m .length) refl refl k in
+    λ i. record { base = base i; length = length i; ext = m .ext }
 
 module _ (l : List Span) where
   -- a byte of the eight places
