@@ -60,7 +60,7 @@ with-lays : (t : Table) → Lays t → (l : List Span) → length l ≤ places �
 with-lays t c l h a =
     record { pieces-size = c .pieces-size; regions-size = padded-length places l; pieces = c .pieces; regions = rw (padded-used places l h) a }
 
-used-le : (arr : List Span) (m : ℕ) → length (take m arr) ≤ m
+pub used-le : (arr : List Span) (m : ℕ) → length (take m arr) ≤ m
 used-le arr m = rw length-take (omega arith)
 
 -- ---- a memory call
@@ -128,7 +128,7 @@ load-lays d v f t memory c = go (outcome d v f t memory)
         (every-behind (c .regions) (grants-short (piecesOf t) (c .pieces) h (regionsOf t) 0 (groups h)))
 
 -- ---- laid and read again: behind the ends are zeros, and all else is the same
-abbrev tidy : Table → Table
+abbrev pub tidy : Table → Table
 tidy t = record { pieces = padded places (piecesOf t); used = t .used; regions = padded places (regionsOf t); granted = t .granted }
 
 again : (arr : List Span) (m : ℕ) → length arr ≡ places → m ≤ places → take m (padded places (take m arr)) ≡ take m arr
@@ -137,10 +137,10 @@ again arr m size few =
     ap (λ (k : ℕ). take k (padded places (take m arr))) (sym n) ∙ padded-used places (take m arr) (omega (arith, n))
 
 module _ (bytes : ℕ) (t : Table) (c : Lays t) (rules : withinRules bytes t ≡ true) where
-  pieces-tidy : piecesOf (tidy t) ≡ piecesOf t
+  pub pieces-tidy : piecesOf (tidy t) ≡ piecesOf t
   pieces-tidy = again (t .pieces) (t .used) (c .pieces-size) (within-facts bytes t rules .few-pieces)
 
-  regions-tidy : regionsOf (tidy t) ≡ regionsOf t
+  pub regions-tidy : regionsOf (tidy t) ≡ regionsOf t
   regions-tidy = again (t .regions) (t .granted) (c .regions-size) (within-facts bytes t rules .few-regions)
 
   carried : Carried (tidy t)
@@ -154,25 +154,27 @@ module _ (bytes : ℕ) (t : Table) (c : Lays t) (rules : withinRules bytes t ≡
         regions-end = ap (padded places) (sym regions-tidy);
       }
 
-  laid-tidy : tableLaid (tidy t) ≡ tableLaid t
+  pub laid-tidy : tableLaid (tidy t) ≡ tableLaid t
   unfolding tableLaid
   laid-tidy = rw (pieces-tidy, regions-tidy)
 
-  read-again : tableOf (tableLaid t) ≡ tidy t
+  pub read-again : tableOf (tableLaid t) ≡ tidy t
   read-again = ap tableOf (sym laid-tidy) ∙ laid-is-read (tidy t) carried
 
   pub regions-again : regionsOf (tableOf (tableLaid t)) ≡ regionsOf t
   regions-again = ap (λ (x : Table). regionsOf x) read-again ∙ regions-tidy
 
-  pub rules-again : withinRules bytes (tableOf (tableLaid t)) ≡ true
-  rules-again =
-      rw read-again
-      (within-test bytes (tidy t)
+  pub rules-tidy : withinRules bytes (tidy t) ≡ true
+  rules-tidy =
+      within-test bytes (tidy t)
       (record {
         few-pieces = within-facts bytes t rules .few-pieces;
         few-regions = within-facts bytes t rules .few-regions;
         law = rw (pieces-tidy, regions-tidy) (within-facts bytes t rules .law);
-      }))
+      })
+
+  pub rules-again : withinRules bytes (tableOf (tableLaid t)) ≡ true
+  rules-again = rw read-again rules-tidy
 
   pub lays-again : Lays (tableOf (tableLaid t))
   lays-again =
