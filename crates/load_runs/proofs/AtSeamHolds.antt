@@ -67,6 +67,7 @@ load-leaves-others s v f table memory bytes x o = go (load d v f t memory .reply
   where
     d = decoded s
     t = tableOf table
+
     go : (a : LoadAnswer) → load d v f t memory .reply .answer ≡ a
         → ((i : ℕ)
         → i < length (newRegions t (tableOf (tableAfter a (load d v f t memory .reply .table) table)))
