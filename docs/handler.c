@@ -21,9 +21,11 @@ struct disk {
 
 struct machine {
     uint8_t cl, ch, dl, al, ah;
-    uint16_t ds, dx;
+    uint16_t bx, dx, ds;
+    uint16_t cs, es, ip; /* where a program is started */
     uint16_t dma_base, dma_offset; /* what the program has set by 26 and 51 */
     uint8_t memory[MEMORY_BYTES];
+    uint8_t table[CHURAWEL_TABLE_BYTES]; /* the pieces of memory that programs may have, and the regions that they have */
     struct disk disk[DRIVES];
     uint8_t current;  /* the drive that 14 has chosen */
     uint8_t searched; /* the drive of the last 17 */
@@ -159,6 +161,65 @@ static void reset_drives(struct machine *m, uint16_t drives, uint8_t function)
     m->al = al;
 }
 
+/* 53 to 58: the memory control block is five bytes at DS:DX; 58 has none. AL is 0, or FFH where the call is refused. */
+static void call_memory(struct machine *m)
+{
+    uint8_t mcb[CHURAWEL_MCB_BYTES];
+    load(m, m->ds, m->dx, mcb, sizeof mcb);
+    uint32_t answer = churawel_memory(m->cl, mcb, sizeof mcb, m->table, sizeof m->table, sizeof m->memory);
+    if (m->cl != CHURAWEL_FN_FREE_ALL_MEM)
+        store(m, m->ds, m->dx, mcb, sizeof mcb);
+    m->al = CHURAWEL_NUMBER(answer) == 0 ? 0 : 255;
+}
+
+/* What 59 answers, in AX and in BX. */
+static void answer_in_ax_and_bx(struct machine *m, uint16_t answer)
+{
+    m->al = (uint8_t)answer;
+    m->ah = (uint8_t)(answer >> 8);
+    m->bx = answer;
+}
+
+/* 59: the file that the control block at DS:DX names. AX and BX are the paragraph of its base page, or FFFFH where it is refused. */
+static void load_program(struct machine *m)
+{
+    uint8_t fcb[CHURAWEL_FCB_BYTES];
+    load(m, m->ds, m->dx, fcb, sizeof fcb);
+    uint8_t which = drive_of(m, fcb[0]);
+    answer_in_ax_and_bx(m, 0xFFFF);
+    if (which == DRIVES || fcb[0] == WILDCARD)
+        return;
+    fcb[0] = 0;
+    const struct disk *d = &m->disk[which];
+    uint32_t answer = churawel_load(
+        d->drive, d->drive_bytes, d->image, d->image_bytes, fcb, sizeof fcb, m->table, sizeof m->table, m->memory, sizeof m->memory);
+    if (CHURAWEL_NUMBER(answer) == 0)
+        answer_in_ax_and_bx(m, (uint16_t)CHURAWEL_VALUE(answer));
+}
+
+/* A word of the base page that begins at this paragraph. */
+static uint16_t page_word(struct machine *m, uint16_t page, uint16_t offset)
+{
+    return (uint16_t)(*at(m, page, offset) | *at(m, page, (uint16_t)(offset + 1)) << 8);
+}
+
+/*
+ * Starts the program of this base page, as the command processor does (000, 3.4 to 3.6, and 59): CS is BC; DS is the base page; ES is BE
+ * where there is an extra group, else DS; IP is 100H in the 8080 model, else 0. SS and SP stay where they are, in the caller's own
+ * stack, also where there is a stack group; the program is entered by a far call. The DMA address is the base page's 80H.
+ */
+void start_program(struct machine *m, uint16_t page)
+{
+    enum { BC = 3, M80 = 5, LE = 12, BE = 15 };
+    int extra = page_word(m, page, LE) != 0 || *at(m, page, LE + 2) != 0;
+    m->cs = page_word(m, page, BC);
+    m->ds = page;
+    m->es = extra ? page_word(m, page, BE) : page;
+    m->ip = *at(m, page, M80) == 1 ? 0x100 : 0;
+    m->dma_base = page;
+    m->dma_offset = 0x80;
+}
+
 /* INT 224 for the numbers that Churawel serves; the emulator has taken its own functions (consoles, 14, 25, 26, 51 ..) before. */
 void file_call(struct machine *m)
 {
@@ -181,6 +242,17 @@ void file_call(struct machine *m)
         break;
     case CHURAWEL_FN_SEARCH_NEXT: /* goes on where the last 17 began */
         call_drives(m, (uint16_t)(1u << m->searched), m->cl, 0);
+        break;
+    case CHURAWEL_FN_GET_MAX_MEM:
+    case CHURAWEL_FN_GET_ABS_MAX:
+    case CHURAWEL_FN_ALLOC_MEM:
+    case CHURAWEL_FN_ALLOC_ABS_MEM:
+    case CHURAWEL_FN_FREE_MEM:
+    case CHURAWEL_FN_FREE_ALL_MEM:
+        call_memory(m);
+        break;
+    case CHURAWEL_FN_PROGRAM_LOAD:
+        load_program(m);
         break;
     default: /* DL is the low byte of the control block's offset in DX, so 220 and 221 have their number of records in CH */
         call_with_fcb(m, m->cl, is_several(m->cl) ? m->ch : 0);

@@ -20,7 +20,7 @@ extern "C" {
 
 /*
  * The lengths that calls want: of a drive up to 256 blocks, of a drive above, of a control block, of the transfer buffer (k times
- * as long for k records, at most so many), of a fault, of a file's line, and of a shelf.
+ * as long for k records, at most so many), of a fault, of a file's line, of a shelf, of a memory table, and of a memory control block.
  */
 #define CHURAWEL_DRIVE_BYTES 64
 #define CHURAWEL_WIDE_DRIVE_BYTES 544
@@ -30,10 +30,12 @@ extern "C" {
 #define CHURAWEL_FAULT_BYTES 32
 #define CHURAWEL_FILE_BYTES 24
 #define CHURAWEL_SHELF_BYTES 64
+#define CHURAWEL_TABLE_BYTES 66
+#define CHURAWEL_MCB_BYTES 5
 
 /*
  * The two halves of an answer: its number, and a log-in's count of free blocks or its lowest bad slot, or of several records
- * how many were done, or of a cut how many stores were made.
+ * how many were done, or of a cut how many stores were made, or of a load the paragraph of its base page.
  */
 #define CHURAWEL_NUMBER(answer) ((answer) & 0xFFFFu)
 #define CHURAWEL_VALUE(answer) ((answer) >> 16)
@@ -247,6 +249,57 @@ uint64_t churawel_manuscript(
     uint16_t siglum,
     const uint8_t *own, size_t own_bytes,
     const uint8_t *house, size_t house_bytes);
+
+/* The memory calls and load, by their names in the manual; churawel_memory serves 53 to 58, churawel_load is 59. */
+enum {
+    CHURAWEL_FN_GET_MAX_MEM = 53,
+    CHURAWEL_FN_GET_ABS_MAX = 54,
+    CHURAWEL_FN_ALLOC_MEM = 55,
+    CHURAWEL_FN_ALLOC_ABS_MEM = 56,
+    CHURAWEL_FN_FREE_MEM = 57,
+    CHURAWEL_FN_FREE_ALL_MEM = 58,
+    CHURAWEL_FN_PROGRAM_LOAD = 59
+};
+
+/* Their numbers of refusal, in the order in which the tests are made. Success is 0. */
+enum {
+    CHURAWEL_REFUSED_RULES = 65,            /* pieces that overlap or leave the memory, regions that overlap or lie in no one piece */
+    CHURAWEL_REFUSED_HEADER = 60,           /* load: a group's type not 1..9 or given twice, no code, too small for the base page */
+    CHURAWEL_REFUSED_IMAGE = 61,            /* load: the image is shorter than its groups */
+    CHURAWEL_REFUSED_NO_PLACE = 63,         /* 55, 56, load: too few of the eight region places are left */
+    CHURAWEL_REFUSED_NO_ROOM = 62,          /* 53 to 56, load: no such room exists */
+    CHURAWEL_REFUSED_BAD_FREE = 64          /* 57: 0 paragraphs, or not a region's start or end */
+};
+
+/*
+ * Does a memory call in a memory of so many bytes. The table is 66 bytes: the number of pieces of memory that are there, the number of
+ * regions that were granted, eight pieces, eight regions, each a start and a length in paragraphs of 16 bytes; numbers have 16 bits, low
+ * byte first, but for the first two. What stands behind these numbers is not looked at; 55 to 58 write the table anew when they
+ * succeed. The memory control block is five bytes: M-Base, M-Length, M-Ext. 53 to 57 write it when they succeed, and M-Ext becomes 0; 58
+ * is lent none, and looks at none. A refusal changes nothing. In this order: a function that is not one of these, 31; a control block
+ * of another length, 34; a table of another length or against the rules, 65; then the others.
+ *   53 the longest free run, lowest of equals, cut to M-Length     54 is the region M-Base, M-Length free?
+ *   55 grants M-Length paragraphs at the lowest start with room    56 grants the region M-Base, M-Length
+ *   57 frees a region, its start or its end; M-Ext FFH: all        58 frees all regions
+ */
+uint32_t churawel_memory(
+    uint8_t function,
+    uint8_t *mcb, size_t mcb_bytes,
+    uint8_t *table, size_t table_bytes,
+    size_t memory_bytes);
+
+/*
+ * Loads the CMD file that the control block names, function 59: grants its groups, and lays its image and the base page into the
+ * memory. Done: 0, with the paragraph of the base page as the value; the table has the groups' regions behind the others, and the memory
+ * has changed in these regions alone. Refused: nothing changes. In this order: what a random read of record 0 refuses, then function 35,
+ * then a random read of each record of the file; 65, 60, 61, 63, 62. Of the control block only dr and name are looked at.
+ */
+uint32_t churawel_load(
+    const uint8_t *drive, size_t drive_bytes,
+    const uint8_t *volume, size_t volume_bytes,
+    const uint8_t *fcb, size_t fcb_bytes,
+    uint8_t *table, size_t table_bytes,
+    uint8_t *memory, size_t memory_bytes);
 
 /* Did the call of this function succeed? A number alone does not say so: 2 is a directory code of 15 and a refusal of 34. */
 static inline int churawel_succeeded(uint8_t function, uint32_t answer)

@@ -175,6 +175,76 @@ static void protection(void)
     expect("a function that is not served: 255", int224(99, 0, FCB), 255);
 }
 
+static uint16_t ax(void)
+{
+    return (uint16_t)(m.al | m.ah << 8);
+}
+
+/* A word at DS:offset, of a memory control block. */
+static void word(uint16_t offset, unsigned value)
+{
+    uint8_t *place = at(&m, DS, offset);
+    place[0] = (uint8_t)value;
+    place[1] = (uint8_t)(value >> 8);
+}
+
+/* A CMD file on A: its header has these descriptors, record n of its image the bytes 90H + n. */
+static void write_program(const char *eleven, const uint8_t *descriptors, size_t count, unsigned records)
+{
+    name(1, eleven, 0);
+    int224(22, 0, FCB);
+    for (unsigned n = 0; n < records; n++) {
+        name(1, eleven, n);
+        memset(dma(), n == 0 ? 0 : 0x90 + (int)n, 128);
+        if (n == 0)
+            memcpy(dma(), descriptors, count);
+        int224(34, 0, FCB);
+    }
+}
+
+/* A program of code alone, 20H paragraphs with its base page; and one of data, an extra group and code, in this order. */
+static void programs(void)
+{
+    static const uint8_t alone[] = {1, 0x20, 0, 0, 0, 0x20, 0, 0x20, 0};
+    static const uint8_t three[] = {2, 2, 0, 0, 0, 0x10, 0, 0x10, 0, 3, 1, 0, 0, 0, 0, 0, 0, 0, 1, 1, 0, 0, 0, 0, 0, 0, 0};
+    memset(m.table, 0, sizeof m.table);
+    m.table[0] = 1;
+    m.table[3] = 0x20; /* one piece, from paragraph 2000H to 2FFFH */
+    m.table[5] = 0x10;
+    word(0x300, 0x2000);
+    word(0x302, 0x100);
+    *at(&m, DS, 0x304) = 7;
+    expect("56 grants a region", int224(56, 0, 0x300), 0);
+    expect("and M-Ext becomes 0", *at(&m, DS, 0x304), 0);
+    expect("56 of the same region is refused", int224(56, 0, 0x300), 255);
+    write_program("ALONE   CMD", alone, sizeof alone, 5);
+    name(1, "ALONE   CMD", 0);
+    int224(59, 0, FCB);
+    expect("59 answers the paragraph of the base page in AX", ax(), 0x2100);
+    expect("and in BX", m.bx, 0x2100);
+    expect("the image stands behind the base page's 30H bytes", *at(&m, 0x2100, 0x30), 0x91);
+    start_program(&m, ax());
+    expect("code alone starts at 100H of its region", m.cs == 0x2100 && m.ds == 0x2100 && m.es == 0x2100 && m.ip == 0x100, 1);
+    expect("with the DMA address in its base page", m.dma_base == 0x2100 && m.dma_offset == 0x80, 1);
+    m.ds = DS;
+    m.dma_base = DS;
+    m.dma_offset = DMA;
+    write_program("THREE   CMD", three, sizeof three, 2);
+    name(1, "THREE   CMD", 0);
+    int224(59, 0, FCB);
+    expect("with a data group the base page is there", ax(), 0x2120);
+    start_program(&m, ax());
+    expect("code, data and extra: each register has its group, IP is 0", m.cs == 0x2131 && m.ds == 0x2120 && m.es == 0x2130 && m.ip == 0, 1);
+    m.ds = DS;
+    m.dma_base = DS;
+    m.dma_offset = DMA;
+    name(1, "NOTHING CMD", 0);
+    int224(59, 0, FCB);
+    expect("59 of no such file is FFFFH", ax(), 0xFFFF);
+    expect("58 frees all", int224(58, 0, 0), 0);
+    expect("so that the table has no region", m.table[1], 0);
+}
+
 /* In the place of the hard disk an eight-inch floppy: record 0 of a file is logical record 16, in sector 20 of track 2. */
 static void floppy(void)
 {
@@ -202,6 +272,7 @@ int main(void)
     several();
     searches_and_users();
     overlapping();
+    programs();
     protection();
     floppy();
     printf("%d passed, %d failed\n", passed, failed);

@@ -144,6 +144,7 @@ void floppies(void);
 void on_the_shelf(void);
 void fresh_disks(void);
 void sigla_by_column(void);
+void memory_and_load(void);
 void stack_used(void);
 
 #endif

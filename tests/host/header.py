@@ -22,6 +22,8 @@ LENGTHS = {
     "FAULT_BYTES": r"\bconst FAULT_BYTES: usize = (\d+);",
     "FILE_BYTES": r"\bconst FILE_BYTES: usize = (\d+);",
     "SHELF_BYTES": r"\bconst SHELF_BYTES: usize = (\d+);",
+    "TABLE_BYTES": r"\bconst TABLE_BYTES: usize = (\d+);",
+    "MCB_BYTES": r"\bconst MCB_BYTES: usize = (\d+);",
 }
 
 # Where the numbers of the edition desk stand.
@@ -134,6 +136,19 @@ def shelved_in(source):
     return [f"{spelled(re.match(r'Shelved::([A-Za-z]+)', case)[1])} = {number}" for case, number in arms(source, "shelved_number")]
 
 
+def memory_calls_in(source):
+    """the numbers of the memory calls, by their names, and load, which stands behind them"""
+    named = re.findall(r"\bpub const (\w+_MEM|GET_ABS_MAX): u8 = (\d+);", source)
+    return [f"{name} = {number}" for name, number in named] + [f"PROGRAM_LOAD = {int(named[-1][1]) + 1}"]
+
+
+def memory_refusals_in(source):
+    """the numbers of load's own refusals in the source's order, and then those that the memory calls have beside them"""
+    both = arms(source, "load_refusal_number") + arms(source, "memory_refusal_number")
+    lines = [f"{spelled(variant_of(refusal))} = {number}" for refusal, number in both if number.isdigit()]
+    return [line for line in dict.fromkeys(lines) if not line.startswith("NOT_SERVED")]
+
+
 def halves_in(source):
     """the mask of the number and the shift of the value, by what the value is multiplied with"""
     (step,) = set(map(int, re.findall(r"number \+ (\d+) \* value", source)))
@@ -206,6 +221,8 @@ REFUSALS_AGREE = "the header's refusals have their numbers and the source's orde
 PLACINGS_AGREE = "the header's placings are the source's"
 SHELVED_AGREE = "the header's answers of a shelf have the numbers of shelved_number"
 DESK_AGREES = "the header's numbers of the edition desk are the source's"
+MEMORY_CALLS_AGREE = "the header's memory calls have the source's numbers"
+MEMORY_REFUSALS_AGREE = "the header's refusals of memory calls and load have their numbers and the source's order"
 HALVES_AGREE = "the header takes an answer apart as the source puts it together"
 TOLD_AGREES = "and so it does with what a siglum means"
 
@@ -218,7 +235,7 @@ def cases(header, source):
     """what is compared, what the header has, and what the source has"""
     header = bare(header)
     have, want = declared(header), exported(source)
-    calls, refusals, placings, shelved, desk = constants_of(header)
+    calls, refusals, placings, shelved, desk, memory_calls, memory_refusals = constants_of(header)
     yield FUNCTIONS, list(have), list(want)
     for name in want:
         yield signature(name), have.get(name, []), want[name]
@@ -228,6 +245,8 @@ def cases(header, source):
     yield PLACINGS_AGREE, placings, placings_in(source)
     yield SHELVED_AGREE, shelved, shelved_in(source)
     yield DESK_AGREES, desk, desk_in(source)
+    yield MEMORY_CALLS_AGREE, memory_calls, memory_calls_in(source)
+    yield MEMORY_REFUSALS_AGREE, memory_refusals, memory_refusals_in(source)
     yield HALVES_AGREE, halves_of(header), halves_in(source)
     yield TOLD_AGREES, told_of(header), told_in(source)
 
@@ -240,9 +259,9 @@ def difference(has, wants):
     return ""
 
 
-LOG_IN, CALL, CUT, FAULT, FILE, SHELF, FRESH, REPLACE, MANUSCRIPT = (
+LOG_IN, CALL, CUT, FAULT, FILE, SHELF, FRESH, REPLACE, MANUSCRIPT, MEMORY, LOAD = (
     signature(f"churawel_{name}")
-    for name in ("log_in", "call", "cut", "fault", "file", "shelf", "fresh_copy", "replace_siglum", "manuscript")
+    for name in ("log_in", "call", "cut", "fault", "file", "shelf", "fresh_copy", "replace_siglum", "manuscript", "memory", "load")
 )
 
 # What is wrong, the text to alter (there once), what it becomes, and the case that must find it.
@@ -274,6 +293,11 @@ WRONG = [
     ("a replacement that leaves the volume", r"(_siglum\([^;]*)(uint8_t \*volume)", r"\1const \2", REPLACE),
     ("a manuscript in 32 bits", r"uint64_t churawel_manuscript", "uint32_t churawel_manuscript", MANUSCRIPT),
     ("the house list first", r"(const uint8_t \*own, size_t own_bytes),(\s*)(const uint8_t \*house, size_t house_bytes)", r"\3,\2\1", MANUSCRIPT),
+    ("a memory's bytes in 32 bits", r"size_t memory_bytes(?=\);\s*/\*\s*\* Loads)", "uint32_t memory_bytes", MEMORY),
+    ("a table that is not changed", r"(_memory\([^;]*)(uint8_t \*table)", r"\1const \2", MEMORY),
+    ("a load that changes the volume", r"(_load\([^;]*)const (uint8_t \*volume)", r"\1\2", LOAD),
+    ("a load that leaves the memory", r"(_load\([^;]*)(uint8_t \*memory)", r"\1const \2", LOAD),
+    ("a load's table behind its memory", r"(uint8_t \*table, \w+ \w+),(\s*)(uint8_t \*memory, \w+ \w+)", r"\3,\2\1", LOAD),
     ("a function that is missing", r"(?s)uint32_t churawel_call\(.*?\);", "", FUNCTIONS),
     ("a function too many", r"(uint32_t churawel_call\()", r"void churawel_close(uint8_t *drive);\n\1", FUNCTIONS),
     ("a function of another name", r"churawel_log_in\(", "churawel_login(", FUNCTIONS),
@@ -309,6 +333,11 @@ WRONG = [
     ("a copy without its placing", r"(?s)(_fresh_copy\([^;]*?), uint32_t placing", r"\1", FRESH),
     ("another number of the desk", r"CHURAWEL_DESK_NEITHER = 51", "CHURAWEL_DESK_NEITHER = 53", DESK_AGREES),
     ("names of 32 bytes", r"NAME_BYTES 30", "NAME_BYTES 32", LENGTHS_AGREE),
+    ("a table of 64 bytes", r"TABLE_BYTES 66", "TABLE_BYTES 64", LENGTHS_AGREE),
+    ("a memory call's number", r"FREE_MEM = 57", "FREE_MEM = 58", MEMORY_CALLS_AGREE),
+    ("load as a memory call", r"PROGRAM_LOAD = 59", "PROGRAM_LOAD = 58", MEMORY_CALLS_AGREE),
+    ("62 for 63", r"NO_PLACE = 63", "NO_PLACE = 62", MEMORY_REFUSALS_AGREE),
+    ("60 before 65", r"(\w+_RULES = 65,)(.*\s*)(\w+_HEADER = 60,)", r"\3\2\1", MEMORY_REFUSALS_AGREE),
     ("a mask of eight bits", r"\(answer\) & 0xFFFFu", "(answer) & 0xFFu", HALVES_AGREE),
     ("a shift by eight bits", r"\(answer\) >> 16", "(answer) >> 8", HALVES_AGREE),
     ("a list in another place", r"\(told\) >> 16", "(told) >> 24", TOLD_AGREES),

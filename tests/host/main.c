@@ -22,6 +22,7 @@ int main(void)
     on_the_shelf();
     fresh_disks();
     sigla_by_column();
+    memory_and_load();
     stack_used();
     return summary() == 0 ? 0 : 1;
 }

@@ -26,6 +26,7 @@ static uint32_t total;
 static size_t volume_bytes, drive_bytes;
 static uint8_t stack[STACK_BYTES], volume[T_MOST * B], drive[CHURAWEL_WIDE_DRIVE_BYTES], fcb[36], buffer[PIECES * RECORD];
 static uint8_t second[sizeof volume];
+static uint8_t mcb[CHURAWEL_MCB_BYTES], table[CHURAWEL_TABLE_BYTES], memory[1 << 16];
 static ucontext_t caller, callee;
 static uint8_t asked, parameter, shelf[CHURAWEL_SHELF_BYTES];
 
@@ -76,6 +77,16 @@ static void manuscript_there(void)
     churawel_manuscript(1, buffer, sizeof buffer, buffer, sizeof buffer);
 }
 
+static void memory_there(void)
+{
+    churawel_memory(asked, mcb, sizeof mcb, table, sizeof table, sizeof memory);
+}
+
+static void load_there(void)
+{
+    churawel_load(drive, drive_bytes, volume, volume_bytes, fcb, sizeof fcb, table, sizeof table, memory, sizeof memory);
+}
+
 // How many bytes of a painted stack the work uses.
 static size_t used_by(void (*work)(void))
 {
@@ -124,6 +135,41 @@ static void start_at_desk(void)
     start();
     volume[(SLOTS - 1) * ENTRY + 15] = 2;
     memcpy(volume + D * B, (const uint8_t[]){1, 0, 1, 0, 1}, 5);
+}
+
+// The last file is a CMD file of eight groups of a paragraph each, and one piece has room for them.
+static void start_to_load(void)
+{
+    start();
+    uint8_t *record = volume + D * B;
+    for (unsigned group = 0; group < 8; group++) {
+        record[9 * group] = (uint8_t)(group + 1);
+        record[9 * group + 1] = 1;
+        record[9 * group + 5] = 16;
+    }
+    volume[(SLOTS - 1) * ENTRY + 15] = 2;
+    memset(table, 0, sizeof table);
+    table[0] = 1;
+    table[3] = 2;
+    table[4] = 255;
+}
+
+// 53 to 58 and load; whether the load was done tells that its whole way was measured.
+static void memory_stack(void)
+{
+    char what[96];
+    size_t calls = 0;
+    for (uint8_t function = 53; function <= 58; function++) {
+        start_to_load();
+        asked = function;
+        mcb[2] = 1;
+        size_t used = used_by(memory_there);
+        calls = used > calls ? used : calls;
+    }
+    start_to_load();
+    size_t loaded = used_by(load_there);
+    snprintf(what, sizeof what, "and so do the memory calls, %zu bytes at most, and load, %zu", calls, loaded);
+    verdict(what, calls < PROMISED && loaded < PROMISED && table[1] == 8);
 }
 
 // The most that any function uses that is called in this way; the least goes to `least`, if it is less.
@@ -177,6 +223,7 @@ static void used_on(uint32_t blocks)
     snprintf(what, sizeof what, "a replacement, which marks records, uses %zu bytes of %d; a manuscript's name %zu", replacement,
              PROMISED_DESK, manuscript);
     verdict(what, replacement > PROMISED && replacement < PROMISED_DESK && manuscript < PROMISED);
+    memory_stack();
     verdict("and what is measured is a call's own stack", least > 0 && least < most);
 }
 

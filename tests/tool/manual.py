@@ -92,7 +92,9 @@ def help_of_all(desk, page, options):
 
 def refusals(desk, page):
     """the header's numbers, in its order, have a sentence in the one table, and the page has the same"""
-    numbers = dict(re.findall(r"(CHURAWEL_(?:REFUSED_\w+|SHELF_FULL|DESK_\w+)) = (\d+)", HEADER.read_text()))
+    # no command has the numbers of the memory calls and of load
+    header = re.sub(r"(?s)/\* The memory calls and load.*?uint32_t churawel_memory", "", HEADER.read_text())
+    numbers = dict(re.findall(r"(CHURAWEL_(?:REFUSED_\w+|SHELF_FULL|DESK_\w+)) = (\d+)", header))
     table = re.findall(r'\{(CHURAWEL_\w+), "(.*)"\}', (ROOT / "tool/words.c").read_text())
     desk.same("each number of the header has a sentence", [name for name, _ in table], list(numbers))
     desk.same("each sentence is another", len({sentence for _, sentence in table}), len(table))

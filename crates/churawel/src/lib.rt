@@ -1,14 +1,16 @@
 // The seam to an emulator: log-in, every other call, a call that is cut off, why a volume is refused, which files it has, what
-// volumes hold together, a fresh disk, and the edition desk, exported for C, over lent bytes alone.
+// volumes hold together, a fresh disk, the edition desk, the memory calls and load, exported for C, over lent bytes alone.
 ghost use mathlib.Core.Path.{_≡_};
 ghost use mathlib.Core.List.{[]};
 ghost use Rattle.disk_geometry.specs.Geometry.{geometryOf, withPlacing};
+ghost use Rattle.memory_bytes.specs.Over.{over, memoryOver};
 ghost use Rattle.seam_calls.specs.Seam.{sealed, atSeam, logInAtSeam, cutAtSeam};
 ghost use Rattle.seam_looks.specs.Fault.{explained, faultAtSeam};
 ghost use Rattle.seam_looks.specs.File.{shown, fileAtSeam};
 ghost use Rattle.seam_shelf.specs.Shelf.{shelfSealed, shelfAtSeam};
 ghost use Rattle.seam_fresh.specs.SeamFresh.{freshSealed, freshAtSeam};
 ghost use Rattle.seam_desk.specs.Sigla.{replaced, replaceAtSeam, manuscriptAtSeam};
+ghost use Rattle.seam_memory.specs.Load.{started, loadAtSeam};
 
 // Logs the volume in: the drive becomes the state that calls take, or zero bytes where the log-in is refused.
 #[no_mangle]
@@ -188,4 +190,36 @@ pub extern "C" fn churawel_manuscript(siglum: u16, own: &[u8], house: &[u8]) -> 
     ensures { λ r. ⌜ r ≡ manuscriptAtSeam siglum (now (own .entry)) (now (house .entry)) ⌝ }
 {
     seam_desk::manuscript(siglum, own, house)
+}
+
+// Does a memory call over control block and table, in a memory of so many bytes.
+#[no_mangle]
+pub extern "C" fn churawel_memory(
+    function: u8,
+    mcb: &mut [u8],
+    table: &mut [u8],
+    memory_bytes: usize,
+) -> u32
+    ensures { λ r. ⌜
+        over r (now (mcb .exit)) (now (table .exit)) ≡ memoryOver function (now (mcb .entry)) (now (table .entry)) «memory_bytes»
+        ⌝ }
+{
+    seam_memory::memory_call(function, mcb, table, memory_bytes)
+}
+
+// Loads the CMD file that the control block names into the memory; the paragraph of the base page is the value.
+#[no_mangle]
+pub extern "C" fn churawel_load(
+    drive: &[u8],
+    volume: &[u8],
+    fcb: &[u8],
+    table: &mut [u8],
+    memory: &mut [u8],
+) -> u32
+    ensures { λ r. ⌜
+        started r (now (table .exit)) (now (memory .exit))
+        ≡ loadAtSeam (now (drive .entry)) (now (volume .entry)) (now (fcb .entry)) (now (table .entry)) (now (memory .entry))
+        ⌝ }
+{
+    seam_memory::load(drive, volume, fcb, table, memory)
 }

@@ -1,0 +1,2 @@
+-- Lists of bytes laid one behind the other.
+pub mod Joined

@@ -1,0 +1,1 @@
+// Lists of bytes laid one behind the other: definitions and laws only, no code.

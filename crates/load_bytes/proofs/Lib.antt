@@ -1,0 +1,2 @@
+-- Laws of load over bytes.
+pub mod LoadOverLaws

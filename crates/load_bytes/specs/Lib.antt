@@ -1,0 +1,2 @@
+-- Load over the bytes of the memory table.
+pub mod LoadOver

@@ -1,0 +1,3 @@
+-- Laws of the grants.
+pub mod GrantsLaws
+pub mod Examples

@@ -1,0 +1,3 @@
+-- What the groups of a CMD file are granted.
+pub mod Grants
+pub mod CodeGrants

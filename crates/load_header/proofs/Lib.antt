@@ -1,0 +1,3 @@
+-- Laws of the header.
+pub mod HeaderLaws
+pub mod Examples

@@ -1,0 +1,2 @@
+-- The header of a CMD file.
+pub mod Header

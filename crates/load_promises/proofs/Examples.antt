@@ -1,0 +1,60 @@
+-- Load's own refusals in their order, worked out by hand: what is wrong is mended one by one, from 65 to 62. The header has code alone, four
+-- paragraphs of image that need 10H, at paragraph 20H; the memory has 30H paragraphs.
+use mathlib.Core.Path.{_≡_, refl}
+use mathlib.Core.List.{List, [], _∷_, _++_}
+use Prim.Native.Nat.{ℕ}
+use lib.ListN.{length, replicate}
+use Rattle.lists.specs.Bounded.{lowFrom, anyFrom, everyFrom}
+use Rattle.memory_spans.specs.declared.Span.{Span}
+use Rattle.memory_spans.specs.Span.{span, covers, overlap, liesIn, anyOf, allOf, mostOf}
+use Rattle.memory_spans.specs.Rules.{apart, lawful}
+use Rattle.memory_spans.specs.Room.{taken, freeIn, run, room, hasRoom}
+use Rattle.memory_room.specs.Starts.{grantAt, grantOf}
+use Rattle.memory_regions.specs.Places.{padded}
+use Rattle.memory_calls.specs.declared.Table.{Table}
+use Rattle.memory_calls.specs.Table.{withinRules}
+use Rattle.load_header.specs.Header.{groups, typeAt, goodGroup, placeOf, pagePlace, goodHeader, imageStart}
+use Rattle.load_grants.specs.Grants.{followed, grants}
+use Rattle.loading.specs.declared.LoadAnswer.{LoadAnswer}
+use Rattle.loading.specs.declared.LoadRefusal.the-variants.{Rules, Header, Image, NoPlace, NoRoom}
+use Rattle.loading.specs.declared.LoadAnswer.the-variants.{Loaded, Refused}
+use Rattle.loading.specs.Page.{pageStart}
+use Rattle.loading.specs.Load.{loaded, placed}
+
+abbrev header : ℕ → List ℕ
+header form = form ∷ 0x04 ∷ 0 ∷ 0x20 ∷ 0 ∷ 0x10 ∷ 0 ∷ 0 ∷ 0 ∷ replicate 119 0
+
+abbrev table : ℕ → List Span → Table
+table size l = record { pieces = padded 8 (span 0x20 size ∷ []); used = 1; regions = padded 8 l; granted = length l }
+
+abbrev full : List Span
+full = span 0x20 0 ∷ span 0x20 0 ∷ span 0x20 0 ∷ span 0x20 0 ∷ span 0x20 0 ∷ span 0x20 0 ∷ span 0x20 0 ∷ span 0x20 0 ∷ []
+
+-- the answer over that header, so many records of image, and that table
+abbrev answer : ℕ → ℕ → Table → LoadAnswer
+answer form records t = placed (header form) records [] t (replicate 0x300 0) .reply .answer
+
+-- the piece leaves the memory; 10H is no type; no image; no region place; one paragraph too few
+first-65 : answer 0x10 0 (table 0x11 full) ≡ Refused Rules
+unfolding placed withinRules lawful apart overlap liesIn anyOf allOf padded
+first-65 = refl
+
+then-60 : answer 0x10 0 (table 0x0F full) ≡ Refused Header
+unfolding placed withinRules lawful apart overlap liesIn anyOf allOf padded goodHeader goodGroup groups typeAt placeOf pagePlace lowFrom anyFrom everyFrom
+then-60 = refl
+
+then-61 : answer 0x01 0 (table 0x0F full) ≡ Refused Image
+unfolding placed withinRules lawful apart overlap liesIn anyOf allOf padded goodHeader goodGroup groups typeAt placeOf pagePlace lowFrom anyFrom everyFrom imageStart
+then-61 = refl
+
+then-63 : answer 0x01 1 (table 0x0F full) ≡ Refused NoPlace
+unfolding placed withinRules lawful apart overlap liesIn anyOf allOf padded goodHeader goodGroup groups typeAt placeOf pagePlace lowFrom anyFrom everyFrom imageStart
+then-63 = refl
+
+then-62 : answer 0x01 1 (table 0x0F []) ≡ Refused NoRoom
+unfolding placed withinRules lawful apart overlap liesIn anyOf allOf padded goodHeader goodGroup groups typeAt placeOf pagePlace lowFrom anyFrom everyFrom imageStart grants followed grantOf grantAt hasRoom room run freeIn taken covers mostOf
+then-62 = refl
+
+then-done : answer 0x01 1 (table 0x10 []) ≡ Loaded 0x20
+unfolding placed loaded pageStart withinRules lawful apart overlap liesIn anyOf allOf padded goodHeader goodGroup groups typeAt placeOf pagePlace lowFrom anyFrom everyFrom imageStart grants followed grantOf grantAt hasRoom room run freeIn taken covers mostOf
+then-done = refl

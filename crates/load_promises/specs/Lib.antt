@@ -1,0 +1,2 @@
+-- The promises of load, in the reader's words; proofs/ proves each.
+pub mod Promises

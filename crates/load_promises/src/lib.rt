@@ -1,0 +1,1 @@
+// What holds of load, and of runs of memory calls and loads: statements and laws only, no code.

@@ -1,0 +1,4 @@
+-- Laws of the bytes of table and control block, of a call over them, and the round trip.
+pub mod BytesLaws
+pub mod OverLaws
+pub mod RoundTripHolds

@@ -1,0 +1,111 @@
+-- Calls evaluated: one piece of 700H paragraphs from 100H on, in a memory of 800H paragraphs. The manual's example: a region of 600H
+-- paragraphs at 100H; its last 200H are freed (from 500H on: the manual's 700H is the end of the region), and a region beside it stays.
+use mathlib.Core.Path.{_≡_, refl}
+use mathlib.Core.Bool.{false}
+use mathlib.Core.List.{List, [], _∷_}
+use Prim.Native.Nat.{ℕ}
+use lib.ListN.{length}
+use Rattle.memory_spans.specs.declared.Span.{Span}
+use Rattle.memory_spans.specs.Span.{span, covers, overlap, liesIn, anyOf, allOf, mostOf}
+use Rattle.memory_spans.specs.Rules.{apart, lawful}
+use Rattle.memory_spans.specs.Room.{taken, freeIn, run, room, hasRoom}
+use Rattle.memory_regions.specs.Places.{padded}
+use Rattle.memory_regions.specs.Freeing.{edge, freeable, left, freed}
+use Rattle.memory_calls.specs.declared.Table.{Table}
+use Rattle.memory_calls.specs.declared.Mcb.{Mcb}
+use Rattle.memory_calls.specs.declared.Refusal.the-variants.{NotServed, Rules, NoPlace, NoRoom, BadFree}
+use Rattle.memory_calls.specs.declared.Answer.the-variants.{Done}
+use Rattle.memory_calls.specs.Table.{withinRules}
+use Rattle.memory_calls.specs.Calls.{refused, tested, grantedAt, freeing, freeingPart, serve, memoryCall}
+
+abbrev table : List Span → Table
+table l = record { pieces = padded 8 (span 256 1792 ∷ []); used = 1; regions = padded 8 l; granted = length l }
+
+abbrev mcb : ℕ → ℕ → ℕ → Mcb
+mcb base length ext = record { base = base; length = length; ext = ext }
+
+abbrev two : List Span
+two = span 256 1536 ∷ span 1792 256 ∷ []
+
+-- 57 of the last 200H paragraphs: the region keeps its place, M-Ext becomes 0
+last-part : memoryCall 57 32768 (table two) (mcb 1280 512 7)
+    ≡ record { answer = Done; table = table (span 256 1024 ∷ span 1792 256 ∷ []); mcb = mcb 1280 512 0 }
+unfolding memoryCall serve freeing freeingPart freeable freed left edge padded withinRules lawful apart overlap liesIn anyOf allOf
+last-part = refl
+
+-- of its first paragraph; of all of it: the places close up
+first-part : memoryCall 57 32768 (table two) (mcb 256 1 0)
+    ≡ record { answer = Done; table = table (span 257 1535 ∷ span 1792 256 ∷ []); mcb = mcb 256 1 0 }
+unfolding memoryCall serve freeing freeingPart freeable freed left edge padded withinRules lawful apart overlap liesIn anyOf allOf
+first-part = refl
+
+whole : memoryCall 57 32768 (table two) (mcb 256 1536 0) ≡ record { answer = Done; table = table (span 1792 256 ∷ []); mcb = mcb 256 1536 0 }
+unfolding memoryCall serve freeing freeingPart freeable freed left edge padded withinRules lawful apart overlap liesIn anyOf allOf
+whole = refl
+
+-- from the middle, and of 0 paragraphs: 64
+middle : memoryCall 57 32768 (table two) (mcb 300 10 0) ≡ refused BadFree (table two) (mcb 300 10 0)
+unfolding memoryCall serve freeing freeingPart freeable freed left edge padded withinRules lawful apart overlap liesIn anyOf allOf
+middle = refl
+
+none-freed : memoryCall 57 32768 (table two) (mcb 256 0 0) ≡ refused BadFree (table two) (mcb 256 0 0)
+unfolding memoryCall serve freeing freeingPart freeable freed left edge padded withinRules lawful apart overlap liesIn anyOf allOf
+none-freed = refl
+
+-- M-Ext FFH, and 58: all
+every : memoryCall 57 32768 (table two) (mcb 300 10 255) ≡ record { answer = Done; table = table []; mcb = mcb 300 10 0 }
+unfolding memoryCall serve freeing freeingPart freeable freed left edge padded withinRules lawful apart overlap liesIn anyOf allOf
+every = refl
+
+all-freed : memoryCall 58 32768 (table two) (mcb 300 10 255) ≡ record { answer = Done; table = table []; mcb = mcb 300 10 255 }
+unfolding memoryCall serve padded withinRules lawful apart overlap liesIn anyOf allOf
+all-freed = refl
+
+-- 56 straight behind a region; 54 over the last paragraph of one
+beside : memoryCall 56 32768 (table (span 256 16 ∷ [])) (mcb 272 8 9)
+    ≡ record { answer = Done; table = table (span 256 16 ∷ span 272 8 ∷ []); mcb = mcb 272 8 0 }
+unfolding memoryCall serve grantedAt hasRoom room run freeIn taken covers mostOf padded withinRules lawful apart overlap liesIn anyOf allOf
+beside = refl
+
+taken-there : memoryCall 54 32768 (table (span 256 16 ∷ [])) (mcb 271 8 9) ≡ refused NoRoom (table (span 256 16 ∷ [])) (mcb 271 8 9)
+unfolding memoryCall serve tested hasRoom room run freeIn taken covers mostOf padded withinRules lawful apart overlap liesIn anyOf allOf
+taken-there = refl
+
+-- the memory is a byte too short: 65 in every call, 58 too; and a function that is none of them
+short : memoryCall 58 32767 (table two) (mcb 0 0 0) ≡ refused Rules (table two) (mcb 0 0 0)
+unfolding memoryCall serve padded withinRules lawful apart overlap liesIn anyOf allOf
+short = refl
+
+other : memoryCall 59 32768 (table two) (mcb 0 0 0) ≡ refused NotServed (table two) (mcb 0 0 0)
+unfolding memoryCall
+other = refl
+
+-- eight regions: 63, whether or not there is room; 53 and 54 never answer it
+abbrev full : Table
+full = table (span 256 1 ∷ span 258 1 ∷ span 260 1 ∷ span 262 1 ∷ span 264 1 ∷ span 266 1 ∷ span 268 1 ∷ span 270 1 ∷ [])
+
+no-place : memoryCall 56 32768 full (mcb 256 1 0) ≡ refused NoPlace full (mcb 256 1 0)
+unfolding memoryCall serve grantedAt hasRoom room run freeIn taken covers mostOf padded withinRules lawful apart overlap liesIn anyOf allOf
+no-place = refl
+
+asks-no-place : memoryCall 54 32768 full (mcb 257 1 0) ≡ record { answer = Done; table = full; mcb = mcb 257 1 0 }
+unfolding memoryCall serve tested hasRoom room run freeIn taken covers mostOf padded withinRules lawful apart overlap liesIn anyOf allOf
+asks-no-place = refl
+
+-- nine regions are not within the rules
+nine : withinRules 32768 (record { pieces = padded 8 (span 256 1792 ∷ []); used = 1; regions = padded 8 []; granted = 9 }) ≡ false
+unfolding withinRules
+nine = refl
+
+-- a piece may end with paragraph FFFFH, and its region's end may be freed; one paragraph more is 65, whatever the memory
+abbrev high : ℕ → List Span → Table
+high size l = record { pieces = padded 8 (span 65520 size ∷ []); used = 1; regions = padded 8 l; granted = length l }
+
+to-the-end : memoryCall 57 1048832 (high 16 (span 65520 16 ∷ [])) (mcb 65535 1 0)
+    ≡ record { answer = Done; table = high 16 (span 65520 15 ∷ []); mcb = mcb 65535 1 0 }
+unfolding memoryCall serve freeing freeingPart freeable freed left edge padded withinRules lawful apart overlap liesIn anyOf allOf
+to-the-end = refl
+
+beyond : memoryCall 58 1048832 (high 17 []) (mcb 0 0 0) ≡ refused Rules (high 17 []) (mcb 0 0 0)
+unfolding memoryCall padded withinRules lawful apart overlap liesIn anyOf allOf
+beyond = refl

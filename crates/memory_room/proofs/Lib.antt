@@ -1,0 +1,4 @@
+-- Laws of paragraphs.
+pub mod MostLaws
+pub mod CandidateLaws
+pub mod Examples

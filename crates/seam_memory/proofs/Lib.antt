@@ -1,0 +1,2 @@
+-- What the seam of the memory calls and of load rests on.
+pub mod LoadLaws
