@@ -45,6 +45,10 @@ const struct command COMMANDS[] = {
      "Makes an empty disk; IMAGE must not be there yet.\n"
      "Without a geometry that of 40960 bytes is taken.",
      new_image},
+    {"gencmd", "IN OUT", "Rh", 2, 2, false,
+     "Makes a CMD file, which the machine can run, of a hex file; both are files of this machine.\n"
+     "IN may be - for standard input, OUT - for standard output. A file OUT that is there is replaced only with --replace.",
+     gencmd},
 };
 const int COMMANDS_COUNT = sizeof COMMANDS / sizeof *COMMANDS;
 

@@ -15,8 +15,8 @@
 enum { RECORD_BYTES = 128, NAME_BYTES = 11, RECORDS_MOST = 65536, END_OF_TEXT = 0x1A, EMPTY = 0xE5 };
 enum { DONE = 0, REFUSED = 1, WRONG_USE = 2 };
 
-// The most bytes that a volume and a file have, and the most slots of a directory.
-enum { VOLUME_MOST = 8 * 1024 * 1024, FILE_MOST = RECORDS_MOST * RECORD_BYTES, SLOTS_MOST = 2048 };
+// The most bytes that a volume and a file have, and the most slots of a directory; and the most bytes of a hex text.
+enum { VOLUME_MOST = 8 * 1024 * 1024, FILE_MOST = RECORDS_MOST * RECORD_BYTES, SLOTS_MOST = 2048, TEXT_MOST = 1 << 24 };
 
 struct bytes {
     uint8_t *at;
@@ -85,6 +85,8 @@ void *room_for(size_t count);
 // All bytes of a file, but at most so many; of one that is open, or of the one that has this path.
 struct bytes read_all(int from, const char *path, size_t most);
 struct bytes read_file(const char *path, size_t most);
+// The same, where - is standard input.
+struct bytes read_input(const char *path, size_t most);
 // A file that was read to be replaced; `path` is free of symbolic links.
 struct original {
     char *path;
@@ -100,6 +102,8 @@ void replace_file(const char *path, const struct stat *old, struct bytes bytes);
 // A file that must not be there before.
 void create_file(const char *path, struct bytes bytes);
 void write_all(int to, const char *path, struct bytes bytes);
+// What a command hands out: a file that is there is replaced only where that is wanted, and never the one that was read.
+void write_result(const char *path, const struct stat *source, const char *source_is, bool replace, struct bytes bytes);
 
 // ---- disk.c: an image that is logged in
 
@@ -194,5 +198,6 @@ void rename_file(const struct options *options, char **operands, int count);
 void erase(const struct options *options, char **operands, int count);
 void attributes(const struct options *options, char **operands, int count);
 void new_image(const struct options *options, char **operands, int count);
+void gencmd(const struct options *options, char **operands, int count);
 
 #endif

@@ -141,6 +141,7 @@ void each_line(void);
 void cut_calls(void);
 void hard_disk(void);
 void floppies(void);
+void hex_to_cmd(void);
 void stack_used(void);
 
 #endif

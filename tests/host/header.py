@@ -21,6 +21,7 @@ LENGTHS = {
     "RECORDS_MOST": r"Refusal::BadCount, .* <= (\d+)\)",
     "FAULT_BYTES": r"\bconst FAULT_BYTES: usize = (\d+);",
     "FILE_BYTES": r"\bconst FILE_BYTES: usize = (\d+);",
+    "CMD_MOST": r"\bconst LONGEST: usize = (\d+);",
 }
 
 # Names that the header has and the source has not: a name for each number of a call, and a name for a refusal.
@@ -31,9 +32,17 @@ REFUSALS = {"BadCount": "COUNT", "NoRoom": "NO_MATCH"}
 # ---- the source
 
 
+def in_order(file):
+    """a crate's first file, then its others as the first one names them"""
+    crate = file.relative_to(ROOT / "crates").parts[0]
+    sources = ROOT / "crates" / crate / "src"
+    first = next(path for name in ("lib.rt", "main.rt") if (path := sources / name).exists())
+    return crate, first.read_text().find(f"mod {file.stem};")
+
+
 def all_sources():
     """every source file under crates in one text, without comments"""
-    files = sorted((ROOT / "crates").glob("*/src/**/*.rt"))
+    files = sorted((ROOT / "crates").glob("*/src/**/*.rt"), key=in_order)
     return "\n".join(re.sub(r"//.*", "", file.read_text()) for file in files)
 
 
@@ -94,13 +103,13 @@ def calls_in(source):
     return [f"{name} = {number}" for number, name in sorted(named.items())]
 
 
-def refusals_in(source):
-    """the numbers of refusal in the source's order; None is no refusal"""
+def refusals_in(source, function, of=""):
+    """the numbers of refusal that a function knows, in the source's order; None is no refusal"""
     lines = []
-    for refusal, number in arms(source, "refusal_number"):
+    for refusal, number in arms(source, function):
         variant = variant_of(refusal)
         if variant != "None":
-            lines.append(f"{REFUSALS.get(variant, spelled(variant))} = {number}")
+            lines.append(f"{of}{REFUSALS.get(variant, spelled(variant))} = {number}")
     return list(dict.fromkeys(lines))
 
 
@@ -110,9 +119,11 @@ def placings_in(source):
 
 
 def halves_in(source):
-    """the mask of the number and the shift of the value, by what the value is multiplied with"""
-    (step,) = map(int, re.findall(r"number \+ (\d+) \* value", source))
-    return [f"NUMBER: & {step - 1}", f"VALUE: >> {step.bit_length() - 1}"]
+    """the mask of the number and the shifts of value and length, by what these are multiplied with"""
+    (value,) = map(int, re.findall(r"number \+ (\d+) \* value", source))
+    (length,) = map(int, re.findall(r"number \+ (\d+) \* \(length as u64\)", source))
+    shifts = [f"{name}: >> {step.bit_length() - 1}" for name, step in (("VALUE", value), ("LENGTH", length))]
+    return [f"NUMBER: & {value - 1}"] + shifts
 
 
 # ---- the header
@@ -165,6 +176,7 @@ LENGTHS_AGREE = "the header's lengths are the source's"
 CALLS_AGREE = "the header's functions have the numbers of call_of"
 REFUSALS_AGREE = "the header's refusals have their numbers and the source's order"
 PLACINGS_AGREE = "the header's placings are the source's"
+HEX_REFUSALS_AGREE = "the header's refusals of a hex text have their numbers and the source's order"
 HALVES_AGREE = "the header takes an answer apart as the source puts it together"
 
 
@@ -176,14 +188,15 @@ def cases(header, source):
     """what is compared, what the header has, and what the source has"""
     header = bare(header)
     have, want = declared(header), exported(source)
-    calls, refusals, placings = constants_of(header)
+    calls, refusals, hex_refusals, placings = constants_of(header)
     yield FUNCTIONS, list(have), list(want)
     for name in want:
         yield signature(name), have.get(name, []), want[name]
     yield LENGTHS_AGREE, lengths_of(header), lengths_in(source)
     yield CALLS_AGREE, calls, calls_in(source)
-    yield REFUSALS_AGREE, refusals, refusals_in(source)
+    yield REFUSALS_AGREE, refusals, refusals_in(source, "refusal_number")
     yield PLACINGS_AGREE, placings, placings_in(source)
+    yield HEX_REFUSALS_AGREE, hex_refusals, refusals_in(source, "number_of", "HEX_")
     yield HALVES_AGREE, halves_of(header), halves_in(source)
 
 
@@ -195,7 +208,8 @@ def difference(has, wants):
     return ""
 
 
-LOG_IN, CALL, CUT, FAULT, FILE = (signature(f"churawel_{name}") for name in ("log_in", "call", "cut", "fault", "file"))
+NAMES = ("log_in", "call", "cut", "fault", "file", "gencmd")
+LOG_IN, CALL, CUT, FAULT, FILE, GENCMD = (signature(f"churawel_{name}") for name in NAMES)
 
 # What is wrong, the text to alter (there once), what it becomes, and the case that must find it.
 WRONG = [
@@ -220,6 +234,9 @@ WRONG = [
     ("a fault without its length", r", size_t fault_bytes", "", FAULT),
     ("a drive that is not const", r"const (uint8_t \*drive)", r"\1", FILE),
     ("a slot of 16 bits", r"uint32_t from", "uint16_t from", FILE),
+    ("a length of the text that is 32 bits wide", r"size_t text_bytes", "uint32_t text_bytes", GENCMD),
+    ("an answer of 32 bits for a CMD file", r"uint64_t churawel_gencmd", "uint32_t churawel_gencmd", GENCMD),
+    ("an output buffer that is const", r"(uint8_t \*out)", r"const \1", GENCMD),
     ("a function that is missing", r"(?s)uint32_t churawel_call\(.*?\);", "", FUNCTIONS),
     ("a function too many", r"(uint32_t churawel_call\()", r"void churawel_close(uint8_t *drive);\n\1", FUNCTIONS),
     ("a function of another name", r"churawel_log_in\(", "churawel_login(", FUNCTIONS),
@@ -231,6 +248,7 @@ WRONG = [
     ("a buffer of 127 bytes", r"BUFFER_BYTES 128", "BUFFER_BYTES 127", LENGTHS_AGREE),
     ("a fault of 31 bytes", r"FAULT_BYTES 32", "FAULT_BYTES 31", LENGTHS_AGREE),
     ("seventeen records", r"RECORDS_MOST 16", "RECORDS_MOST 17", LENGTHS_AGREE),
+    ("a shorter longest CMD file", r"CMD_MOST 262272", "CMD_MOST 262144", LENGTHS_AGREE),
     ("a length that the source has not", r"(#define \w+_FCB_BYTES)", r"#define CHURAWEL_SLOT_BYTES 32\n\1", LENGTHS_AGREE),
     ("another number of a function", r"SIZE = 35", "SIZE = 38", CALLS_AGREE),
     ("two functions' numbers exchanged", r"(OPEN = )15(.*\s*.*CLOSE = )16", r"\g<1>16\g<2>15", CALLS_AGREE),
@@ -245,8 +263,11 @@ WRONG = [
     ("the placing before the directory", r"(?s)(_log_in\([^;]*?)(uint32_t directory_blocks), (uint32_t placing)", r"\1\3, \2", LOG_IN),
     ("another number of a placing", r"EIGHT_INCH = 1", "EIGHT_INCH = 2", PLACINGS_AGREE),
     ("a placing that is missing", r"CHURAWEL_STRAIGHT = 0,", "", PLACINGS_AGREE),
+    ("two refusals of a hex text exchanged", r"(HEX_SUM = )71(.*\s*.*TYPE = )72", r"\g<1>72\g<2>71", HEX_REFUSALS_AGREE),
+    ("a refusal of a hex text that is missing", r"CHURAWEL_REFUSED_HEX_NO_CODE = 75,", "", HEX_REFUSALS_AGREE),
     ("a mask of eight bits", r"& 0xFFFFu", "& 0xFFu", HALVES_AGREE),
     ("a shift by eight bits", r">> 16", ">> 8", HALVES_AGREE),
+    ("a length's shift by 16 bits", r">> 32", ">> 16", HALVES_AGREE),
 ]
 
 

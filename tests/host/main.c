@@ -19,6 +19,7 @@ int main(void)
     cut_calls();
     hard_disk();
     floppies();
+    hex_to_cmd();
     stack_used();
     return summary() == 0 ? 0 : 1;
 }

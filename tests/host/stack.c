@@ -44,6 +44,13 @@ static void file_there(void)
     churawel_file(drive, drive_bytes, volume, volume_bytes, SLOTS - 1, buffer, CHURAWEL_FILE_BYTES);
 }
 
+static void gencmd_there(void)
+{
+    static const char text[] = ":0300050011223392\n:01000082017C\n:00000001FF\n";
+    static uint8_t out[512];
+    churawel_gencmd((const uint8_t *)text, sizeof text - 1, out, sizeof out);
+}
+
 // How many bytes of a painted stack the work uses.
 static size_t used_by(void (*work)(void))
 {
@@ -125,6 +132,9 @@ static void used_on(uint32_t blocks)
     size_t line = used_by(file_there);
     snprintf(what, sizeof what, "and so do a fault, %zu bytes, and a file's line, %zu", told, line);
     verdict(what, told < PROMISED && line < PROMISED);
+    size_t made = used_by(gencmd_there);
+    snprintf(what, sizeof what, "and so does a hex text made a CMD file: %zu bytes", made);
+    verdict(what, made < PROMISED);
     verdict("and what is measured is a call's own stack", least > 0 && least < most);
 }
 

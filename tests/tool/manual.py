@@ -7,7 +7,7 @@ from disk import entry, volume
 
 PAGE = ROOT / "docs/churawel.1"
 HEADER = ROOT / "include/churawel.h"
-COMMANDS = ["list", "check", "get", "type", "put", "rename", "erase", "attributes", "new"]
+COMMANDS = ["list", "check", "get", "type", "put", "rename", "erase", "attributes", "new", "gencmd"]
 
 
 def plain(roff):
