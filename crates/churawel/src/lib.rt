@@ -1,5 +1,5 @@
-// The seam to an emulator: log-in, every other call, a call that is cut off, why a volume is refused and which files it has, and
-// a hex text made a CMD file, exported for C, over lent bytes alone.
+// The seam to an emulator: log-in, every other call, a call that is cut off, why a volume is refused and which files it has,
+// exported for C, over lent bytes alone.
 ghost use mathlib.Core.Path.{_≡_};
 ghost use mathlib.Core.Bool.{true, _||_};
 ghost use mathlib.Core.List.{List, []};
@@ -29,7 +29,6 @@ use files::line;
 
 mod cut;
 mod fault;
-mod gencmd;
 
 // A number of 32 bits as a size.
 fn size(x: u32) -> usize

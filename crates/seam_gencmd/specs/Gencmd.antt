@@ -4,8 +4,12 @@ use Prim.Native.Nat.{ℕ, _+_, _*_}
 use Rattle.gencmd_file.specs.declared.Answer.{Answer}
 use Rattle.gencmd_file.specs.Gencmd.{After, numberOf, lengthOf, gencmd}
 
+-- what the high 32 bits count
+abbrev pub high : ℕ
+high = 4294967296
+
 unfoldable pub packed : Answer → ℕ
-packed a = numberOf a + 4294967296 * lengthOf a
+packed a = numberOf a + high * lengthOf a
 
 -- the answer, and every byte of the output buffer
 pub record Made : Type 0 where

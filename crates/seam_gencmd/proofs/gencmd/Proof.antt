@@ -5,9 +5,9 @@ use denote.Ref.{now}
 use borrow.Author.Needs.{needs}
 use Rattle.gencmd_file.specs.Gencmd.{After, lengthOf}
 use Rattle.gencmd_file.proofs.LengthLaws.{answer-within}
-use Rattle.churawel.specs.Gencmd.{packed, sealedAfter, gencmdAtSeam}
-use Rattle.churawel.proofs.gencmd.churawel_gencmd.Statement.{statement}
-use Rattle.churawel.proofs.gencmd.churawel_gencmd.Tie as tie
+use Rattle.seam_gencmd.specs.Gencmd.{packed, sealedAfter, gencmdAtSeam}
+use Rattle.seam_gencmd.proofs.gencmd.Statement.{statement}
+use Rattle.seam_gencmd.proofs.gencmd.Tie as tie
 
 gencmd-requires : tie.Need-gencmd-requires
 gencmd-requires c κs = search needs
@@ -38,8 +38,8 @@ returns : tie.Need-returns
 unfolding packed gencmdAtSeam
 returns c = rw (c .length-of .ensures, c .before .long .ensures .0, c .before .before .number .ensures) (ap sealedAfter (c .before .before .before .before .before .gencmd .ensures))
 
-pub churawel-gencmd-spec : {M : Type 1} → statement M
-churawel-gencmd-spec =
+pub gencmd-spec : {M : Type 1} → statement M
+gencmd-spec =
     tie.close
     (tie.spec
     gencmd-requires
