@@ -121,7 +121,7 @@ def placings_in(source):
 def halves_in(source):
     """the mask of the number and the shifts of value and length, by what these are multiplied with"""
     (value,) = map(int, re.findall(r"number \+ (\d+) \* value", source))
-    (length,) = map(int, re.findall(r"number \+ (\d+) \* \(length as u64\)", source))
+    (length,) = map(int, re.findall(r"(?s)const HIGH: u64 = (\d+);.*number \+ HIGH \* \(length as u64\)", source))
     shifts = [f"{name}: >> {step.bit_length() - 1}" for name, step in (("VALUE", value), ("LENGTH", length))]
     return [f"NUMBER: & {value - 1}"] + shifts
 
