@@ -5,9 +5,9 @@ use mathlib.Core.List.{List, [], _∷_}
 use Prim.Native.Nat.{ℕ, _%_, _≤_, _<_}
 use lib.Dec.{leb, ltb}
 use lib.ListN.{length}
-use borrow.Author.Tests.{ltb-true, lt-ltb, le-ltb, le-leb, lt-leb}
+use borrow.Author.Tests.{not-false, ltb-true, lt-ltb, le-ltb, le-leb, lt-leb}
 use Rattle.lists.proofs.BoolLaws.{and-parts}
-use Rattle.disk_geometry.specs.Geometry.{slots}
+use Rattle.disk_geometry.specs.Geometry.{lawful, slots}
 use Rattle.disk_volume.specs.Record.{slotRecord}
 use Rattle.call_answers.specs.declared.Refusal.{Refusal}
 use Rattle.call_answers.specs.declared.Refusal.the-variants.{NoMatch}
@@ -18,7 +18,7 @@ use Rattle.call_search.specs.declared.SearchKind.the-variants.{Nothing, Pattern
 use Rattle.filecalls.specs.declared.KeptSearch.{KeptSearch}
 use Rattle.filecalls.specs.declared.Drive.{Drive}
 use Rattle.filecalls.specs.declared.Reply.{Reply}
-use Rattle.filecalls.specs.State.{goodPattern, goodKept}
+use Rattle.filecalls.specs.State.{goodPattern, goodKept, goodSearch, isOpen}
 use Rattle.filecalls.specs.Tests.{closedState, volumeLength, bufferLength}
 use Rattle.disk_stores.specs.Stores.{laid}
 use Rattle.filecalls.specs.Outcome.{unless, outcome, left, withSearch, changedState}
@@ -68,16 +68,33 @@ kept-below Pattern user last pattern n k e =
     ltb-true last n (and-parts (leb user 15) (ltb last n) (and-parts (leb user 15 && ltb last n) (goodPattern pattern) e .0) .1)
 kept-below Everything user last pattern n k e = ltb-true last n (and-parts (leb user 15) (ltb last n) e .1)
 
--- a kept search that stands outside is outside the rules, and one that is not kept is within them
+-- a kept search that stands outside is outside the rules
 pub kept-outside : (kind : SearchKind) (user last : ℕ) (pattern : List ℕ) (n : ℕ) → isKept kind ≡ true → (leb user 15 && ltb last n) ≡ false → goodKept kind user last pattern n ≡ false
 kept-outside Nothing user last pattern n k e = absurd (false≢true k)
 kept-outside Pattern user last pattern n k e = rw e
 kept-outside Everything user last pattern n k e = e
 
+-- within, the pattern alone is left to be asked, and only where there is one
+pub pattern-within : (kind : SearchKind) (user last : ℕ) (pattern : List ℕ) (n : ℕ) → kind ≡ Pattern → (leb user 15 && ltb last n) ≡ true → goodKept kind user last pattern n ≡ goodPattern pattern
+pattern-within kind user last pattern n k e = rw (k, e)
+
+pub all-within : (kind : SearchKind) (user last : ℕ) (pattern : List ℕ) (n : ℕ) → kind ≡ Everything → (leb user 15 && ltb last n) ≡ true → goodKept kind user last pattern n ≡ true
+all-within kind user last pattern n k e = rw (k, e)
+
+-- a search that is not kept is within the rules
 pub not-kept : (kind : SearchKind) (user last : ℕ) (pattern : List ℕ) (n : ℕ) → isKept kind ≡ false → goodKept kind user last pattern n ≡ true
 not-kept Nothing user last pattern n k = refl
 not-kept Pattern user last pattern n k = absurd (true≢false k)
 not-kept Everything user last pattern n k = absurd (true≢false k)
+
+-- another geometry or user closes the state, whatever the search; lawful ones leave the search to be asked
+pub outside-closed : (d : Drive) {t : Bool} → t ≡ lawful (d .geometry) → (t && leb (d .user) 15) ≡ false → isOpen d ≡ false
+unfolding isOpen
+outside-closed d e h = rw (← e, h)
+
+pub search-left : (d : Drive) {t : Bool} → t ≡ lawful (d .geometry) → not (t && leb (d .user) 15) ≡ false → isOpen d ≡ goodSearch d
+unfolding isOpen
+search-left d {t} e h = rw (← e, not-false (t && leb (d .user) 15) h)
 
 -- what a search leaves that came to slot i, j in the code: a hit, and none
 module _ (d : Drive) (v f b : List ℕ) (q : KeptSearch) (i : ℕ) where
