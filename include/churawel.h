@@ -95,17 +95,6 @@ enum {
     CHURAWEL_REFUSED_NO_BLOCK = 2           /* writes: a block is needed and none is free */
 };
 
-/* The numbers by which a hex text is refused: those of its lines, first line first, then the others. */
-enum {
-    CHURAWEL_REFUSED_HEX_DIGITS = 70,       /* a line with another character than 0 to 9 and A to F, or that is short */
-    CHURAWEL_REFUSED_HEX_SUM = 71,          /* its bytes, checksum included, don't add up to 0 modulo 256 */
-    CHURAWEL_REFUSED_HEX_OTHER_TYPE = 72,   /* its type is not 00, 01 or 81 to 84 */
-    CHURAWEL_REFUSED_HEX_BEYOND = 73,       /* a byte beyond address FFFFH */
-    CHURAWEL_REFUSED_HEX_NO_END = 74,       /* no line of type 01 */
-    CHURAWEL_REFUSED_HEX_NO_CODE = 75,      /* no byte of code */
-    CHURAWEL_REFUSED_HEX_ROOM = 76          /* the output buffer is too short */
-};
-
 /*
  * How the records of a volume lie: one behind the other, T times B bytes; or as on an eight-inch floppy, in an image of 256,256
  * bytes, which B 1,024, T 243 and D 2 alone can have.
@@ -191,6 +180,17 @@ uint32_t churawel_file(
     const uint8_t *volume, size_t volume_bytes,
     uint32_t from,
     uint8_t *file, size_t file_bytes);
+
+/* The numbers by which a hex text is refused: those of its lines, first line first, then the others. */
+enum {
+    CHURAWEL_REFUSED_HEX_DIGITS = 70,       /* a line with another character than 0 to 9 and A to F, or that is short */
+    CHURAWEL_REFUSED_HEX_SUM = 71,          /* its bytes, checksum included, don't add up to 0 modulo 256 */
+    CHURAWEL_REFUSED_HEX_OTHER_TYPE = 72,   /* its type is not 00, 01 or 81 to 84 */
+    CHURAWEL_REFUSED_HEX_BEYOND = 73,       /* a byte beyond address FFFFH */
+    CHURAWEL_REFUSED_HEX_NO_END = 74,       /* no line of type 01 */
+    CHURAWEL_REFUSED_HEX_NO_CODE = 75,      /* no byte of code */
+    CHURAWEL_REFUSED_HEX_ROOM = 76          /* the output buffer is too short */
+};
 
 /*
  * Makes a CMD file of a hex text (GENCMD, for lines of type 00, 01 and 81 to 84), in the first bytes of `out`: 0, with the
