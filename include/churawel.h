@@ -1,5 +1,5 @@
 /*
- * Churawel: the file calls of SCP 1700 (a CP/M-86) over a disk image, for an emulator. C11 and C++.
+ * Churawel: the file calls of SCP 1700 (a CP/M-86) over a disk image, for an emulator, and its GENCMD. C11 and C++.
  *
  * Everything is lent: the caller owns all memory, and nothing is kept between calls. No heap is used, and of the C library only memset
  * and memcpy. A slice is a pointer and the number of bytes; the pointer is never null, also where the number is 0, and the slices of
@@ -20,7 +20,8 @@ extern "C" {
 
 /*
  * The lengths that calls want: of a drive up to 256 blocks, of a drive above, of a control block, of the transfer buffer (k times
- * as long for k records, at most so many), of a fault, of a file's line, of a shelf, of a memory table, and of a memory control block.
+ * as long for k records, at most so many), of a fault, of a file's line, of a shelf, of a memory table, and of a memory control block;
+ * and the most bytes that a CMD file has.
  */
 #define CHURAWEL_DRIVE_BYTES 64
 #define CHURAWEL_WIDE_DRIVE_BYTES 544
@@ -32,13 +33,16 @@ extern "C" {
 #define CHURAWEL_SHELF_BYTES 64
 #define CHURAWEL_TABLE_BYTES 66
 #define CHURAWEL_MCB_BYTES 5
+#define CHURAWEL_CMD_MOST 262272
 
 /*
  * The two halves of an answer: its number, and a log-in's count of free blocks or its lowest bad slot, or of several records
- * how many were done, or of a cut how many stores were made, or of a load the paragraph of its base page.
+ * how many were done, or of a cut how many stores were made, or of a load the paragraph of its base page. An answer of 64 bits has its
+ * number there too, and a length above.
  */
 #define CHURAWEL_NUMBER(answer) ((answer) & 0xFFFFu)
 #define CHURAWEL_VALUE(answer) ((answer) >> 16)
+#define CHURAWEL_LENGTH(answer) ((answer) >> 32)
 
 /* The parts of what churawel_manuscript answers: its number, which list, and where the name begins; and a name's length. */
 #define CHURAWEL_TOLD(told) ((uint32_t)((told) & 0xFFFFu))
@@ -300,6 +304,26 @@ uint32_t churawel_load(
     const uint8_t *fcb, size_t fcb_bytes,
     uint8_t *table, size_t table_bytes,
     uint8_t *memory, size_t memory_bytes);
+
+/* The numbers by which a hex text is refused: those of its lines, first line first, then the others. */
+enum {
+    CHURAWEL_REFUSED_HEX_DIGITS = 70,       /* a line with another character than 0 to 9 and A to F, or that is short */
+    CHURAWEL_REFUSED_HEX_SUM = 71,          /* its bytes, checksum included, don't add up to 0 modulo 256 */
+    CHURAWEL_REFUSED_HEX_OTHER_TYPE = 72,   /* its type is not 00, 01 or 81 to 84 */
+    CHURAWEL_REFUSED_HEX_BEYOND = 73,       /* a byte beyond address FFFFH */
+    CHURAWEL_REFUSED_HEX_NO_END = 74,       /* no line of type 01 */
+    CHURAWEL_REFUSED_HEX_NO_CODE = 75,      /* no byte of code */
+    CHURAWEL_REFUSED_HEX_ROOM = 76          /* the output buffer is too short */
+};
+
+/*
+ * Makes a CMD file of a hex text (GENCMD, for lines of type 00, 01 and 81 to 84), in the first bytes of `out`: 0, with the
+ * file's length in the high 32 bits, a multiple of 128. Bytes behind the file stay as they were. A text that is refused: 70 to
+ * 76, the length is 0, and every byte of `out` stays. No file has more than CHURAWEL_CMD_MOST bytes.
+ */
+uint64_t churawel_gencmd(
+    const uint8_t *text, size_t text_bytes,
+    uint8_t *out, size_t out_bytes);
 
 /* Did the call of this function succeed? A number alone does not say so: 2 is a directory code of 15 and a refusal of 34. */
 static inline int churawel_succeeded(uint8_t function, uint32_t answer)

@@ -53,22 +53,6 @@ static const char *own_name(const struct name *name, char *shown)
     return shown;
 }
 
-static void write_out(const char *path, const struct disk *disk, bool replace, struct bytes bytes)
-{
-    struct stat there;
-    if (stat(path, &there) != 0) {
-        create_file(path, bytes);
-        return;
-    }
-    if (there.st_dev == disk->original.state.st_dev && there.st_ino == disk->original.state.st_ino)
-        refuse("%s is the image itself", path);
-    if (S_ISREG(there.st_mode) && !replace)
-        refuse("%s is there already; --replace replaces it", path);
-    // A symbolic link stays one: the file that it leads to is replaced.
-    char *whole = realpath(path, NULL);
-    replace_file(whole == NULL ? path : whole, &there, bytes);
-}
-
 void get(const struct options *options, char **operands, int count)
 {
     char shown[SHOWN_MOST];
@@ -81,7 +65,7 @@ void get(const struct options *options, char **operands, int count)
     if (strcmp(path, "-") == 0)
         write_all(STDOUT_FILENO, "standard output", bytes);
     else
-        write_out(path, disk, options->replace, bytes);
+        write_result(path, &disk->original.state, "the image", options->replace, bytes);
 }
 
 void type(const struct options *options, char **operands, int count)

@@ -85,6 +85,11 @@ struct bytes read_file(const char *path, size_t most)
     return bytes;
 }
 
+struct bytes read_input(const char *path, size_t most)
+{
+    return strcmp(path, "-") == 0 ? read_all(STDIN_FILENO, "standard input", most) : read_file(path, most);
+}
+
 // ---- an image opened
 
 // A new file could take the name of one that nobody may write; that is not wanted.
@@ -266,4 +271,20 @@ void create_file(const char *path, struct bytes bytes)
         unlink(fresh);
     }
     flush_folder(path);
+}
+
+void write_result(const char *path, const struct stat *source, const char *source_is, bool replace, struct bytes bytes)
+{
+    struct stat there;
+    if (stat(path, &there) != 0) {
+        create_file(path, bytes);
+        return;
+    }
+    if (there.st_dev == source->st_dev && there.st_ino == source->st_ino)
+        refuse("%s is %s itself", path, source_is);
+    if (S_ISREG(there.st_mode) && !replace)
+        refuse("%s is there already; --replace replaces it", path);
+    // A symbolic link stays one: the file that it leads to is replaced.
+    char *whole = realpath(path, NULL);
+    replace_file(whole == NULL ? path : whole, &there, bytes);
 }

@@ -64,6 +64,10 @@ const struct command COMMANDS[] = {
      "Makes NEW, a copy of the disk in good order without what was erased; NEW must not be there yet.\n"
      "Files go by their first slot, and a file's entries and blocks stand one behind the other. IMAGE stays as it is.",
      fresh_image},
+    {"gencmd", "IN OUT", "Rh", 2, 2, false,
+     "Makes a CMD file, which the machine can run, of a hex file; both are files of this machine.\n"
+     "IN may be - for standard input, OUT - for standard output. A file OUT that is there is replaced only with --replace.",
+     gencmd},
 };
 const int COMMANDS_COUNT = sizeof COMMANDS / sizeof *COMMANDS;
 

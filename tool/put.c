@@ -6,14 +6,6 @@
 #include <string.h>
 #include <unistd.h>
 
-// A byte more than a file can have is read too, so that the call itself refuses a longer one.
-static struct bytes host_bytes(const char *path)
-{
-    if (strcmp(path, "-") == 0)
-        return read_all(STDIN_FILENO, "standard input", FILE_MOST + 1);
-    return read_file(path, FILE_MOST + 1);
-}
-
 static struct name new_name(const char *path, const char *typed)
 {
     const char *stroke = strrchr(path, '/');
@@ -62,8 +54,9 @@ void put(const struct options *options, char **operands, int count)
     char shown[SHOWN_MOST];
     struct name name = new_name(operands[1], count > 2 ? operands[2] : NULL);
     shown_file(name.user, name.bytes, shown);
-    // What is put is read before the image is locked, since standard input may take its time.
-    struct bytes bytes = host_bytes(operands[1]);
+    // What is put is read before the image is locked, since standard input may take its time. A byte more than a file can have
+    // is read too, so that the call itself refuses a longer one.
+    struct bytes bytes = read_input(operands[1], FILE_MOST + 1);
     struct disk *disk = open_disk(options, operands[0], true);
     make_file(disk, &name, options->replace, shown);
     write_records(disk, bytes, options->text ? END_OF_TEXT : 0, shown);

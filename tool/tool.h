@@ -15,8 +15,8 @@
 enum { RECORD_BYTES = 128, NAME_BYTES = 11, RECORDS_MOST = 65536, END_OF_TEXT = 0x1A, EMPTY = 0xE5 };
 enum { DONE = 0, REFUSED = 1, WRONG_USE = 2 };
 
-// The most bytes that a volume and a file have, and the most slots of a directory.
-enum { VOLUME_MOST = 8 * 1024 * 1024, FILE_MOST = RECORDS_MOST * RECORD_BYTES, SLOTS_MOST = 2048 };
+// The most bytes that a volume and a file have, and the most slots of a directory; and the most bytes of a hex text.
+enum { VOLUME_MOST = 8 * 1024 * 1024, FILE_MOST = RECORDS_MOST * RECORD_BYTES, SLOTS_MOST = 2048, TEXT_MOST = 1 << 24 };
 
 struct bytes {
     uint8_t *at;
@@ -89,6 +89,8 @@ struct bytes read_all(int from, const char *path, size_t most);
 struct bytes read_file(const char *path, size_t most);
 // The same of a plain file, into room that is there, with the file's state; nothing, or why it can't be read.
 const char *read_into(const char *path, struct bytes *bytes, size_t most, struct stat *state);
+// The same, where - is standard input.
+struct bytes read_input(const char *path, size_t most);
 // A file that was read to be replaced; `path` is free of symbolic links.
 struct original {
     char *path;
@@ -104,6 +106,8 @@ void replace_file(const char *path, const struct stat *old, struct bytes bytes);
 // A file that must not be there before.
 void create_file(const char *path, struct bytes bytes);
 void write_all(int to, const char *path, struct bytes bytes);
+// What a command hands out: a file that is there is replaced only where that is wanted, and never the one that was read.
+void write_result(const char *path, const struct stat *source, const char *source_is, bool replace, struct bytes bytes);
 
 // ---- disk.c: an image that is logged in
 
@@ -209,5 +213,6 @@ void erase(const struct options *options, char **operands, int count);
 void attributes(const struct options *options, char **operands, int count);
 void new_image(const struct options *options, char **operands, int count);
 void fresh_image(const struct options *options, char **operands, int count);
+void gencmd(const struct options *options, char **operands, int count);
 
 #endif

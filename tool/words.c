@@ -37,6 +37,13 @@ static const struct {
     {CHURAWEL_DESK_CONTENTS, "the file's contents are not in order, list a record that can't be read, or lack the chapter"},
     {CHURAWEL_DESK_NEITHER, "no list has this siglum"},
     {CHURAWEL_DESK_LISTS, "a list is not made of lines of 32 bytes"},
+    {CHURAWEL_REFUSED_HEX_DIGITS, "a character is not 0 to 9 or A to F, or the line is cut off"},
+    {CHURAWEL_REFUSED_HEX_SUM, "the bytes of the line don't add up with its checksum"},
+    {CHURAWEL_REFUSED_HEX_OTHER_TYPE, "the line's type is not 00, 01 or 81 to 84"},
+    {CHURAWEL_REFUSED_HEX_BEYOND, "the line has bytes beyond address FFFFH"},
+    {CHURAWEL_REFUSED_HEX_NO_END, "there is no line of type 01, which ends a hex file"},
+    {CHURAWEL_REFUSED_HEX_NO_CODE, "there is no byte of code"},
+    {CHURAWEL_REFUSED_HEX_ROOM, "the CMD file is longer than its buffer"},
 };
 
 #define LAWFUL_WORDS \
@@ -140,7 +147,7 @@ void show_help(void)
 {
     puts("Usage: churawel [-g B,T,D] [-f FORMAT] COMMAND ..\n"
          "\n"
-         "Lists, checks, reads and changes disk images of SCP 1700 (CP/M-86), and the sigla of an edition on them.\n"
+         "Lists, checks, reads and changes disk images of SCP 1700 (CP/M-86), and the sigla of an edition on them; makes CMD files of hex files.\n"
          "\n"
          "Commands:");
     for (int k = 0; k < COMMANDS_COUNT; k++) {

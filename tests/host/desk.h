@@ -145,6 +145,7 @@ void on_the_shelf(void);
 void fresh_disks(void);
 void sigla_by_column(void);
 void memory_and_load(void);
+void hex_to_cmd(void);
 void stack_used(void);
 
 #endif

@@ -4,6 +4,7 @@
 # failed', and the exit status is 0 only where M is 0.
 import re
 import sys
+from functools import cache
 from itertools import zip_longest
 from pathlib import Path
 
@@ -24,6 +25,7 @@ LENGTHS = {
     "SHELF_BYTES": r"\bconst SHELF_BYTES: usize = (\d+);",
     "TABLE_BYTES": r"\bconst TABLE_BYTES: usize = (\d+);",
     "MCB_BYTES": r"\bconst MCB_BYTES: usize = (\d+);",
+    "CMD_MOST": r"\bconst LONGEST: usize = (\d+);",
 }
 
 # Where the numbers of the edition desk stand.
@@ -38,12 +40,20 @@ CALLS = {"LogIn": ["RESET", "RESET_DRIVE"], "Protect": ["WRITE_PROTECT"]}
 REFUSALS = {"BadCount": "COUNT", "NoRoom": "NO_MATCH"}
 
 
-# ---- the source
+# ---- the source, worked out once for all copies of the header
+
+
+def in_order(file):
+    """a crate's first file, then its others as the first one names them"""
+    crate = file.relative_to(ROOT / "crates").parts[0]
+    sources = ROOT / "crates" / crate / "src"
+    first = next(path for name in ("lib.rt", "main.rt") if (path := sources / name).exists())
+    return crate, first.read_text().find(f"mod {file.stem};")
 
 
 def all_sources():
     """every source file under crates in one text, without comments"""
-    files = sorted((ROOT / "crates").glob("*/src/**/*.rt"))
+    files = sorted((ROOT / "crates").glob("*/src/**/*.rt"), key=in_order)
     return "\n".join(re.sub(r"//.*", "", file.read_text()) for file in files)
 
 
@@ -55,6 +65,7 @@ def in_c(parameter):
     return [f"{NUMBERS.get(kind, kind)} {name}"]
 
 
+@cache
 def exported(source):
     """what each exported function returns and takes, in the words of C"""
     functions = {}
@@ -75,13 +86,15 @@ def constants_in(source, patterns, between):
     return lines
 
 
+@cache
 def lengths_in(source):
     """a name's length is that of a line but for its siglum"""
-    (line,) = set(re.findall(r"\bconst LINE_BYTES: usize = (\d+);", source))
+    (line,) = set(re.findall(r"\bpub const LINE_BYTES: usize = (\d+);", source))
     (siglum,) = set(re.findall(r"\bconst NAME_AT: usize = (\d+);", source))
     return [f"NAME_BYTES {int(line) - int(siglum)}"] + constants_in(source, LENGTHS, " ")
 
 
+@cache
 def desk_in(source):
     return constants_in(source, DESK, " = ")
 
@@ -105,6 +118,7 @@ def spelled(variant):
     return re.sub(r"(?<=[a-z])(?=[A-Z])", "_", variant).upper()
 
 
+@cache
 def calls_in(source):
     """the numbers that call_of knows, rising"""
     named = {}
@@ -116,32 +130,37 @@ def calls_in(source):
     return [f"{name} = {number}" for number, name in sorted(named.items())]
 
 
-def refusals_in(source):
-    """the numbers of refusal in the source's order; None is no refusal"""
+@cache
+def refusals_in(source, function, of=""):
+    """the numbers of refusal that a function knows, in the source's order; None is no refusal"""
     lines = []
-    for refusal, number in arms(source, "refusal_number"):
+    for refusal, number in arms(source, function):
         variant = variant_of(refusal)
         if variant != "None":
-            lines.append(f"{REFUSALS.get(variant, spelled(variant))} = {number}")
+            lines.append(f"{of}{REFUSALS.get(variant, spelled(variant))} = {number}")
     return list(dict.fromkeys(lines))
 
 
+@cache
 def placings_in(source):
     """how records lie, by the geometry's constants"""
     return [f"{name} = {number}" for name, number in re.findall(r"const (STRAIGHT|EIGHT_INCH): usize = (\d+);", source)]
 
 
+@cache
 def shelved_in(source):
     """the numbers of a shelf's answer"""
     return [f"{spelled(re.match(r'Shelved::([A-Za-z]+)', case)[1])} = {number}" for case, number in arms(source, "shelved_number")]
 
 
+@cache
 def memory_calls_in(source):
     """the numbers of the memory calls, by their names, and load, which stands behind them"""
     named = re.findall(r"\bpub const (\w+_MEM|GET_ABS_MAX): u8 = (\d+);", source)
     return [f"{name} = {number}" for name, number in named] + [f"PROGRAM_LOAD = {int(named[-1][1]) + 1}"]
 
 
+@cache
 def memory_refusals_in(source):
     """the numbers of load's own refusals in the source's order, and then those that the memory calls have beside them"""
     both = arms(source, "load_refusal_number") + arms(source, "memory_refusal_number")
@@ -149,12 +168,16 @@ def memory_refusals_in(source):
     return [line for line in dict.fromkeys(lines) if not line.startswith("NOT_SERVED")]
 
 
+@cache
 def halves_in(source):
-    """the mask of the number and the shift of the value, by what the value is multiplied with"""
-    (step,) = set(map(int, re.findall(r"number \+ (\d+) \* value", source)))
-    return [f"NUMBER: & {step - 1}", f"VALUE: >> {step.bit_length() - 1}"]
+    """the mask of the number and the shifts of value and length, by what these are multiplied with"""
+    (value,) = set(map(int, re.findall(r"number \+ (\d+) \* value", source)))
+    (length,) = map(int, re.findall(r"(?s)const HIGH: u64 = (\d+);.*number \+ HIGH \* \(length as u64\)", source))
+    shifts = [f"{name}: >> {step.bit_length() - 1}" for name, step in (("VALUE", value), ("LENGTH", length))]
+    return [f"NUMBER: & {value - 1}"] + shifts
 
 
+@cache
 def told_in(source):
     """the number, which list, and where the name begins, by what these are multiplied with"""
     (lists,) = map(int, re.findall(r"Where::House\(\w+\) => (\d+) \+ high", source))
@@ -223,6 +246,7 @@ SHELVED_AGREE = "the header's answers of a shelf have the numbers of shelved_num
 DESK_AGREES = "the header's numbers of the edition desk are the source's"
 MEMORY_CALLS_AGREE = "the header's memory calls have the source's numbers"
 MEMORY_REFUSALS_AGREE = "the header's refusals of memory calls and load have their numbers and the source's order"
+HEX_REFUSALS_AGREE = "the header's refusals of a hex text have their numbers and the source's order"
 HALVES_AGREE = "the header takes an answer apart as the source puts it together"
 TOLD_AGREES = "and so it does with what a siglum means"
 
@@ -235,18 +259,19 @@ def cases(header, source):
     """what is compared, what the header has, and what the source has"""
     header = bare(header)
     have, want = declared(header), exported(source)
-    calls, refusals, placings, shelved, desk, memory_calls, memory_refusals = constants_of(header)
+    calls, refusals, placings, shelved, desk, memory_calls, memory_refusals, hex_refusals = constants_of(header)
     yield FUNCTIONS, list(have), list(want)
     for name in want:
         yield signature(name), have.get(name, []), want[name]
     yield LENGTHS_AGREE, lengths_of(header), lengths_in(source)
     yield CALLS_AGREE, calls, calls_in(source)
-    yield REFUSALS_AGREE, refusals, refusals_in(source)
+    yield REFUSALS_AGREE, refusals, refusals_in(source, "refusal_number")
     yield PLACINGS_AGREE, placings, placings_in(source)
     yield SHELVED_AGREE, shelved, shelved_in(source)
     yield DESK_AGREES, desk, desk_in(source)
     yield MEMORY_CALLS_AGREE, memory_calls, memory_calls_in(source)
     yield MEMORY_REFUSALS_AGREE, memory_refusals, memory_refusals_in(source)
+    yield HEX_REFUSALS_AGREE, hex_refusals, refusals_in(source, "number_of", "HEX_")
     yield HALVES_AGREE, halves_of(header), halves_in(source)
     yield TOLD_AGREES, told_of(header), told_in(source)
 
@@ -259,10 +284,8 @@ def difference(has, wants):
     return ""
 
 
-LOG_IN, CALL, CUT, FAULT, FILE, SHELF, FRESH, REPLACE, MANUSCRIPT, MEMORY, LOAD = (
-    signature(f"churawel_{name}")
-    for name in ("log_in", "call", "cut", "fault", "file", "shelf", "fresh_copy", "replace_siglum", "manuscript", "memory", "load")
-)
+NAMES = ("log_in", "call", "cut", "fault", "file", "shelf", "fresh_copy", "replace_siglum", "manuscript", "memory", "load", "gencmd")
+LOG_IN, CALL, CUT, FAULT, FILE, SHELF, FRESH, REPLACE, MANUSCRIPT, MEMORY, LOAD, GENCMD = (signature(f"churawel_{name}") for name in NAMES)
 
 # What is wrong, the text to alter (there once), what it becomes, and the case that must find it.
 WRONG = [
@@ -298,6 +321,9 @@ WRONG = [
     ("a load that changes the volume", r"(_load\([^;]*)const (uint8_t \*volume)", r"\1\2", LOAD),
     ("a load that leaves the memory", r"(_load\([^;]*)(uint8_t \*memory)", r"\1const \2", LOAD),
     ("a load's table behind its memory", r"(uint8_t \*table, \w+ \w+),(\s*)(uint8_t \*memory, \w+ \w+)", r"\3,\2\1", LOAD),
+    ("a length of the text that is 32 bits wide", r"size_t text_bytes", "uint32_t text_bytes", GENCMD),
+    ("an answer of 32 bits for a CMD file", r"uint64_t churawel_gencmd", "uint32_t churawel_gencmd", GENCMD),
+    ("an output buffer that is const", r"(uint8_t \*out)", r"const \1", GENCMD),
     ("a function that is missing", r"(?s)uint32_t churawel_call\(.*?\);", "", FUNCTIONS),
     ("a function too many", r"(uint32_t churawel_call\()", r"void churawel_close(uint8_t *drive);\n\1", FUNCTIONS),
     ("a function of another name", r"churawel_log_in\(", "churawel_login(", FUNCTIONS),
@@ -309,6 +335,7 @@ WRONG = [
     ("a buffer of 127 bytes", r"BUFFER_BYTES 128", "BUFFER_BYTES 127", LENGTHS_AGREE),
     ("a fault of 31 bytes", r"FAULT_BYTES 32", "FAULT_BYTES 31", LENGTHS_AGREE),
     ("seventeen records", r"RECORDS_MOST 16", "RECORDS_MOST 17", LENGTHS_AGREE),
+    ("a shorter longest CMD file", r"CMD_MOST 262272", "CMD_MOST 262144", LENGTHS_AGREE),
     ("a length that the source has not", r"(#define \w+_FCB_BYTES)", r"#define CHURAWEL_SLOT_BYTES 32\n\1", LENGTHS_AGREE),
     ("another number of a function", r"SIZE = 35", "SIZE = 38", CALLS_AGREE),
     ("two functions' numbers exchanged", r"(OPEN = )15(.*\s*.*CLOSE = )16", r"\g<1>16\g<2>15", CALLS_AGREE),
@@ -338,8 +365,11 @@ WRONG = [
     ("load as a memory call", r"PROGRAM_LOAD = 59", "PROGRAM_LOAD = 58", MEMORY_CALLS_AGREE),
     ("62 for 63", r"NO_PLACE = 63", "NO_PLACE = 62", MEMORY_REFUSALS_AGREE),
     ("60 before 65", r"(\w+_RULES = 65,)(.*\s*)(\w+_HEADER = 60,)", r"\3\2\1", MEMORY_REFUSALS_AGREE),
+    ("two refusals of a hex text exchanged", r"(HEX_SUM = )71(.*\s*.*TYPE = )72", r"\g<1>72\g<2>71", HEX_REFUSALS_AGREE),
+    ("a refusal of a hex text that is missing", r"CHURAWEL_REFUSED_HEX_NO_CODE = 75,", "", HEX_REFUSALS_AGREE),
     ("a mask of eight bits", r"\(answer\) & 0xFFFFu", "(answer) & 0xFFu", HALVES_AGREE),
     ("a shift by eight bits", r"\(answer\) >> 16", "(answer) >> 8", HALVES_AGREE),
+    ("a length's shift by 16 bits", r"\(answer\) >> 32", "(answer) >> 16", HALVES_AGREE),
     ("a list in another place", r"\(told\) >> 16", "(told) >> 24", TOLD_AGREES),
     ("a name's place without its shift", r"\(told\) >> 32", "(told) >> 16", TOLD_AGREES),
 ]

@@ -23,6 +23,7 @@ int main(void)
     fresh_disks();
     sigla_by_column();
     memory_and_load();
+    hex_to_cmd();
     stack_used();
     return summary() == 0 ? 0 : 1;
 }

@@ -87,6 +87,13 @@ static void load_there(void)
     churawel_load(drive, drive_bytes, volume, volume_bytes, fcb, sizeof fcb, table, sizeof table, memory, sizeof memory);
 }
 
+static void gencmd_there(void)
+{
+    static const char text[] = ":0300050011223392\n:01000082017C\n:00000001FF\n";
+    static uint8_t out[512];
+    churawel_gencmd((const uint8_t *)text, sizeof text - 1, out, sizeof out);
+}
+
 // How many bytes of a painted stack the work uses.
 static size_t used_by(void (*work)(void))
 {
@@ -224,6 +231,9 @@ static void used_on(uint32_t blocks)
              PROMISED_DESK, manuscript);
     verdict(what, replacement > PROMISED && replacement < PROMISED_DESK && manuscript < PROMISED);
     memory_stack();
+    size_t made = used_by(gencmd_there);
+    snprintf(what, sizeof what, "and so does a hex text made a CMD file: %zu bytes", made);
+    verdict(what, made < PROMISED);
     verdict("and what is measured is a call's own stack", least > 0 && least < most);
 }
 

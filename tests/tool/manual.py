@@ -8,7 +8,7 @@ from disk import entry, volume
 
 PAGE = ROOT / "docs/churawel.1"
 HEADER = ROOT / "include/churawel.h"
-COMMANDS = ["who", "replace", "list", "check", "shelf", "get", "type", "put", "rename", "erase", "attributes", "new", "fresh"]
+COMMANDS = ["who", "replace", "list", "check", "shelf", "get", "type", "put", "rename", "erase", "attributes", "new", "fresh", "gencmd"]
 
 
 def plain(roff):

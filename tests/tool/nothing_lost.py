@@ -22,6 +22,7 @@ RUNS = [
     (["new", "N.IMG"], "N.IMG"),
     (["fresh", "V.IMG", "N.IMG"], "N.IMG"),
     (["get", "--replace", "V.IMG", "a.txt", "out"], "out"),
+    (["gencmd", "--replace", "tool.hex", "out"], "out"),
 ]
 
 
@@ -34,6 +35,7 @@ def lay(desk):
     desk.path("V.IMG").chmod(0o640)
     desk.write("in", bytes(range(256)) * 20)
     desk.write("out", b"old")
+    desk.write("tool.hex", b":0300050011223392\n:00000001FF\n")
 
 
 def traced(desk, words, *faults):
@@ -65,7 +67,7 @@ def state(desk, name):
     """the file's bytes and mode, or nothing; and all else in the folder that was not there"""
     path = desk.path(name)
     there = (path.read_bytes(), path.stat().st_mode) if path.exists() else None
-    others = sorted(p.name for p in desk.folder.iterdir() if p.name not in ("V.IMG", "in", "out", name))
+    others = sorted(p.name for p in desk.folder.iterdir() if p.name not in ("V.IMG", "in", "out", "tool.hex", name))
     return there, others
 
 

@@ -1,5 +1,6 @@
 // The seam to an emulator: log-in, every other call, a call that is cut off, why a volume is refused, which files it has, what
-// volumes hold together, a fresh disk, the edition desk, the memory calls and load, exported for C, over lent bytes alone.
+// volumes hold together, a fresh disk, the edition desk, the memory calls, load, and a hex text made a CMD file, exported for C, over
+// lent bytes alone.
 ghost use mathlib.Core.Path.{_≡_};
 ghost use mathlib.Core.List.{[]};
 ghost use Rattle.disk_geometry.specs.Geometry.{geometryOf, withPlacing};
@@ -11,6 +12,7 @@ ghost use Rattle.seam_shelf.specs.Shelf.{shelfSealed, shelfAtSeam};
 ghost use Rattle.seam_fresh.specs.SeamFresh.{freshSealed, freshAtSeam};
 ghost use Rattle.seam_desk.specs.Sigla.{replaced, replaceAtSeam, manuscriptAtSeam};
 ghost use Rattle.seam_memory.specs.Load.{started, loadAtSeam};
+ghost use Rattle.seam_gencmd.specs.Gencmd.{made, gencmdAtSeam};
 
 // Logs the volume in: the drive becomes the state that calls take, or zero bytes where the log-in is refused.
 #[no_mangle]
@@ -222,4 +224,15 @@ pub extern "C" fn churawel_load(
         ⌝ }
 {
     seam_memory::load(drive, volume, fcb, table, memory)
+}
+
+// Writes the CMD file of a hex text into the first bytes of `out`; its length is in the high 32 bits.
+#[no_mangle]
+pub extern "C" fn churawel_gencmd(text: &[u8], out: &mut [u8]) -> u64
+    ensures { λ r. ⌜
+        made r (now (out .exit))
+        ≡ gencmdAtSeam (now (text .entry)) (now (out .entry))
+        ⌝ }
+{
+    seam_gencmd::gencmd(text, out)
 }

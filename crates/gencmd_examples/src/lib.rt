@@ -1,0 +1,1 @@
+// Hex texts worked out by hand, and what becomes of them, evaluated: definitions and statements only, no code.

@@ -1,0 +1,21 @@
+-- Where the file has what: the header first, then each group behind the one before, by paragraphs. This is what a loader
+-- relies on.
+use mathlib.Core.Path.{_≡_}
+use mathlib.Core.List.{List}
+use Prim.Native.Nat.{ℕ, _+_, _*_}
+use Rattle.lists.specs.Bytes.{part}
+use Rattle.gencmd_lines.specs.Line.{Line, CODE, DATA, EXTRA, STACK}
+use Rattle.gencmd_groups.specs.declared.Groups.{Groups}
+use Rattle.gencmd_groups.specs.Groups.{groupBytes, paragraphBytes}
+use Rattle.gencmd_file.specs.File.{headerBytes, header, fileWith}
+
+-- n paragraphs of the image, behind so many others
+abbrev pub imagePart : List Line → Groups → ℕ → ℕ → List ℕ
+imagePart ls s before n = part (fileWith ls s) (headerBytes + paragraphBytes * before) (paragraphBytes * n)
+
+pub record Parts (ls : List Line) (s : Groups) : Type 0 where
+  pub head : part (fileWith ls s) 0 headerBytes ≡ header s
+  pub code : imagePart ls s 0 (s .code) ≡ groupBytes ls CODE (paragraphBytes * s .code)
+  pub «data» : imagePart ls s (s .code) (s .«data») ≡ groupBytes ls DATA (paragraphBytes * s .«data»)
+  pub extra : imagePart ls s (s .code + s .«data») (s .extra) ≡ groupBytes ls EXTRA (paragraphBytes * s .extra)
+  pub stack : imagePart ls s (s .code + s .«data» + s .extra) (s .stack) ≡ groupBytes ls STACK (paragraphBytes * s .stack)
