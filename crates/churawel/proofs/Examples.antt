@@ -13,7 +13,7 @@ use Rattle.disk_volume.specs.Entry.{Entry, blockIn, ofFile, ofGroup}
 use Rattle.disk_volume.specs.Directory.{slotAt, findSlot}
 use Rattle.disk_rules.specs.GoodSlot.{goodTopBits, inPlaces, namesBlock, namedBelow, seenBelow}
 use Rattle.disk_faults.specs.Faults.{breaksAt, breaks, placeOf, slotOf, twinSlot, told, firstOf, firstBroken}
-use Rattle.churawel.specs.Fault.{ownerBytes, otherBytes, faultBytes}
+use Rattle.seam_looks.specs.Fault.{ownerBytes, otherBytes, faultBytes}
 
 abbrev sigla : Entry
 sigla =

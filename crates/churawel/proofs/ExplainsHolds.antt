@@ -17,9 +17,9 @@ use Rattle.disk_faults.proofs.FirstLaws.{is-first}
 use Rattle.call_answers.specs.declared.Answer.{Answer}
 use Rattle.call_answers.specs.declared.Answer.the-variants.{Done, Ready, BadSlot, Refused, Several}
 use Rattle.filecalls.specs.LogIn.{logIn}
-use Rattle.churawel.specs.Fault.{faultLength, faultBytes, faultFor, faultAtSeam}
+use Rattle.seam_looks.specs.Fault.{faultLength, faultBytes, faultFor, faultAtSeam}
 use Rattle.churawel.specs.Explains.{NamesSlot, NamesRule, TellsTruly, Explains}
-use Rattle.churawel.proofs.FaultLaws.{Bad, bad-slot}
+use Rattle.seam_looks.proofs.FaultLaws.{Bad, bad-slot}
 
 -- in 32 bytes the call leaves the fault of log-in's answer
 left : (g : Geometry) (v lent : List ℕ) → length lent ≡ faultLength → faultAtSeam g v lent .fault ≡ faultFor g v (logIn g v .answer)

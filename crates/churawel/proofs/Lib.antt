@@ -1,15 +1,6 @@
--- What the seam rests on: answers that fit 16 bits, closed states that every call refuses, states that a drive's bytes carry, what is
--- told of a bad slot and of a file, and the bytes of a fault evaluated.
-pub mod ValueLaws
-pub mod ClosedLaws
-pub mod WayLaws
-pub mod SeamLaws
-pub mod LentLaws
-pub mod CutLaws
+-- States that a drive's bytes carry from call to call, that what a fault tells is true, and the bytes of a fault evaluated.
 pub mod LastingLaws
 pub mod CallsLast
 pub mod FaithfulHolds
-pub mod FaultLaws
-pub mod FileLaws
 pub mod ExplainsHolds
 pub mod Examples

@@ -13,7 +13,7 @@ use Rattle.disk_faults.specs.declared.Rule.{Rule}
 use Rattle.disk_faults.specs.Faults.{breaks, ruleNumber}
 use Rattle.call_answers.specs.declared.Answer.the-variants.{BadSlot}
 use Rattle.filecalls.specs.LogIn.{logIn}
-use Rattle.churawel.specs.Fault.{faultLength, faultAtSeam}
+use Rattle.seam_looks.specs.Fault.{faultLength, faultAtSeam}
 
 -- the bytes of a fault tell of a rule, and of slot s
 abbrev pub NamesSlot : List ℕ → ℕ → Type 0

@@ -18,7 +18,8 @@ use Rattle.call_served.specs.Calls.{callOf}
 use Rattle.drive_bytes.specs.Layout.{driveBytes, decoded}
 use Rattle.drive_bytes.specs.RoundTrip.{Carried}
 use Rattle.numbers.specs.Numbers.{Bytes}
-use Rattle.churawel.specs.Seam.{answered, sealed, atSeam, logInAtSeam}
+use Rattle.seam_words.specs.Answered.{answered}
+use Rattle.seam_calls.specs.Seam.{sealed, atSeam, logInAtSeam}
 
 -- log-in leaves a state that is carried, and an accepted one leaves it open
 abbrev pub LogInCarried : Type 0

@@ -1,221 +1,11 @@
 // The seam to an emulator: log-in, every other call, a call that is cut off, why a volume is refused and which files it has,
 // exported for C, over lent bytes alone.
 ghost use mathlib.Core.Path.{_≡_};
-ghost use mathlib.Core.Bool.{true, _||_};
-ghost use mathlib.Core.List.{List, []};
-ghost use Rattle.call_answers.specs.Answer.{numberOf, valueOf};
-ghost use Rattle.call_served.specs.Calls.{callOf};
-ghost use Rattle.call_served.specs.declared.Call.the-variants.{LogIn};
+ghost use mathlib.Core.List.{[]};
 ghost use Rattle.disk_geometry.specs.Geometry.{geometryOf, withPlacing};
-ghost use Rattle.filecalls.specs.State.{isOpen};
-ghost use Rattle.filecalls.specs.CodeFront.{frontOf, joined};
-ghost use Rattle.bdos.specs.CodeWay.{wayOf, asks, changes};
-ghost use Rattle.drive_bytes.specs.Layout.{fields, isDrive};
-ghost use Rattle.churawel.specs.Seam.{answered, sealed, atSeam, logInAtSeam, cutAtSeam};
-ghost use Rattle.churawel.specs.CodeSeam.{asksOpen, Tells, WayMost, CallMost};
-ghost use Rattle.churawel.specs.Fault.{explained, faultAtSeam};
-ghost use Rattle.churawel.specs.File.{shown, fileAtSeam};
-ghost use Prim.Native.Nat.{ℕ, _%_, _<_};
-use bdos::Way;
-use call_answers::Answer;
-use call_answers::Refusal;
-use call_served::Call;
-use disk_geometry::Geometry;
-use disk_held::WORDS;
-use filecalls::Drive;
-use filecalls::ENOUGH;
-use filecalls::Front;
-use files::line;
-
-mod cut;
-mod fault;
-
-// A number of 32 bits as a size.
-fn size(x: u32) -> usize
-    ensures { λ r. ⌜ r ≡ x ⌝ }
-{
-    x as usize
-}
-
-// A byte as a number of 32 bits.
-fn wide(b: u8) -> u32
-    ensures { λ r. ⌜ (r ≡ b) × (r < 256) ⌝ }
-{
-    b as u32
-}
-
-// The geometry of a caller's four numbers.
-fn geometry(block_bytes: u32, blocks: u32, directory_blocks: u32, placing: u32) -> Geometry
-    ensures { λ r. ⌜ r ≡ withPlacing (geometryOf «block_bytes» blocks «directory_blocks») placing ⌝ }
-{
-    Geometry {
-        block_bytes: size(block_bytes),
-        blocks: size(blocks),
-        directory_blocks: size(directory_blocks),
-        placing: size(placing),
-    }
-}
-
-// The answer as one number: its number in the low 16 bits, the value beside it in the high 16.
-fn seal(a: Answer) -> u32
-    ensures { λ r. ⌜ (r % 65536 ≡ numberOf a) × (valueOf a < 65536 → r ≡ answered a) ⌝ }
-{
-    let number = wide(call_answers::number(a));
-    let value = (call_answers::value(a) % 65536) as u32;
-    number + 65536 * value
-}
-
-// What is told of a call: its answer as one number, and whether it succeeded.
-struct Told {
-    answer: u32,
-    done: bool,
-}
-
-// What is told of an answer.
-fn tell(answer: Answer) -> Told
-    ensures { λ r. ⌜ Tells answer r ⌝ }
-{
-    Told {
-        answer: seal(answer),
-        done: call_answers::succeeded(answer),
-    }
-}
-
-// Does the call ask by itself whether the state is open?
-fn asks_open(kind: Call) -> bool
-    ensures { λ r. ⌜ r ≡ asksOpen kind ⌝ }
-{
-    match kind {
-        Call::LogIn => false,
-        Call::Open => true,
-        Call::Close => true,
-        Call::SearchFirst => true,
-        Call::SearchNext => true,
-        Call::Delete => true,
-        Call::Make => true,
-        Call::Rename => true,
-        Call::Protect => true,
-        Call::Attributes => true,
-        Call::User => true,
-        Call::Size => true,
-        Call::SetRandom => true,
-        Call::Moves(_) => true,
-        Call::Unserved => false,
-    }
-}
-
-// May the call go through the door? The seam asks where the call does not.
-fn may_enter(kind: Call, front: Front) -> bool
-    ensures { λ r. ⌜ ((held : List ℕ) → r ≡ (asksOpen kind || isOpen (joined front held))) ⌝ }
-{
-    if asks_open(kind) {
-        return true;
-    }
-    front.is_open()
-}
-
-// Logs the volume in anew with the drive's own geometry, whatever is lent beside it.
-fn log_in_anew(front: Front, drive: &mut [u8], volume: &[u8]) -> Answer
-    requires { ⌜ (isDrive (now drive) ≡ true) × (front ≡ frontOf (fields (now drive))) ⌝ }
-    ensures { λ r. ⌜
-        ((most n p : ℕ) (f b : List ℕ) → callOf n ≡ LogIn
-        → WayMost most n p (now (drive .entry)) (now (volume .entry)) f b r (now (drive .exit)) (now (volume .entry)) f b most)
-        ⌝ }
-{
-    if !front.is_open() {
-        return Answer::Refused(Refusal::Closed);
-    }
-    let reply = Drive::log_in(front.geometry, volume);
-    let next = reply.drive;
-    drive_bytes::encode(next, drive);
-    reply.answer
-}
-
-// Does a call that asks. Where it succeeds its front is laid back; the held blocks are as they were.
-fn ask(
-    kind: Call,
-    parameter: u8,
-    front: Front,
-    drive: &mut [u8],
-    volume: &[u8],
-    fcb: &mut [u8],
-    buffer: &mut [u8],
-) -> Answer
-    requires { ⌜ (isDrive (now drive) ≡ true) × (front ≡ frontOf (fields (now drive))) ⌝ }
-    ensures { λ r. ⌜
-        ((most n : ℕ) → kind ≡ callOf n → asks (wayOf kind) ≡ true
-        → WayMost most n parameter (now (drive .entry)) (now (volume .entry)) (now (fcb .entry)) (now (buffer .entry)) r
-        (now (drive .exit)) (now (volume .entry)) (now (fcb .exit)) (now (buffer .exit)) most)
-        ⌝ }
-{
-    if !may_enter(kind, front) {
-        return Answer::Refused(Refusal::Closed);
-    }
-    let reply = bdos::ask(kind, parameter, front, volume, fcb, buffer);
-    let answer = reply.answer;
-    let next = reply.front;
-    if call_answers::succeeded(answer) {
-        drive_bytes::lay_front(drive, next);
-    }
-    answer
-}
-
-// Does a call that changes the volume, as long as a store is left. Where it succeeds the held blocks are laid back; the front is as
-// it was.
-fn change(
-    kind: Call,
-    parameter: u8,
-    front: Front,
-    drive: &mut [u8],
-    volume: &mut [u8],
-    fcb: &mut [u8],
-    buffer: &[u8],
-    left: &mut usize,
-) -> Answer
-    requires { ⌜ (isDrive (now drive) ≡ true) × (front ≡ frontOf (fields (now drive))) ⌝ }
-    ensures { λ r. ⌜
-        ((n : ℕ) → kind ≡ callOf n → changes (wayOf kind) ≡ true
-        → WayMost (now (left .entry)) n parameter (now (drive .entry)) (now (volume .entry)) (now (fcb .entry))
-        (now (buffer .entry)) r (now (drive .exit)) (now (volume .exit)) (now (fcb .exit)) (now (buffer .entry))
-        (now (left .exit)))
-        ⌝ }
-{
-    let mut held = [0u64; WORDS];
-    drive_bytes::load_words(drive, &mut held);
-    let reply = bdos::change(kind, parameter, front, &mut held, volume, fcb, buffer, left);
-    let answer = reply.answer;
-    if call_answers::succeeded(answer) {
-        drive_bytes::lay_words(drive, &held);
-    }
-    answer
-}
-
-// Does the call over a drive's bytes, by its way through the door, as long as a store is left.
-fn call_of_kind(
-    kind: Call,
-    parameter: u8,
-    front: Front,
-    drive: &mut [u8],
-    volume: &mut [u8],
-    fcb: &mut [u8],
-    buffer: &mut [u8],
-    left: &mut usize,
-) -> Answer
-    requires { ⌜ (isDrive (now drive) ≡ true) × (front ≡ frontOf (fields (now drive))) ⌝ }
-    ensures { λ r. ⌜
-        ((n : ℕ) → kind ≡ callOf n
-        → WayMost (now (left .entry)) n parameter (now (drive .entry)) (now (volume .entry)) (now (fcb .entry))
-        (now (buffer .entry)) r (now (drive .exit)) (now (volume .exit)) (now (fcb .exit)) (now (buffer .exit))
-        (now (left .exit)))
-        ⌝ }
-{
-    let way = bdos::way_of(kind);
-    match way {
-        Way::LogsIn => log_in_anew(front, drive, volume),
-        Way::Asks => ask(kind, parameter, front, drive, volume, fcb, buffer),
-        Way::Changes => change(kind, parameter, front, drive, volume, fcb, buffer, left),
-    }
-}
+ghost use Rattle.seam_calls.specs.Seam.{sealed, atSeam, logInAtSeam, cutAtSeam};
+ghost use Rattle.seam_looks.specs.Fault.{explained, faultAtSeam};
+ghost use Rattle.seam_looks.specs.File.{shown, fileAtSeam};
 
 // Logs the volume in: the drive becomes the state that calls take, or zero bytes where the log-in is refused.
 #[no_mangle]
@@ -233,40 +23,14 @@ pub extern "C" fn churawel_log_in(
         (now (drive .entry))
         ⌝ }
 {
-    let g = geometry(block_bytes, blocks, directory_blocks, placing);
-    if drive.len() != drive_bytes::length_for(g.blocks) {
-        return seal(Answer::Refused(Refusal::Closed));
-    }
-    let reply = Drive::log_in(g, volume);
-    let next = reply.drive;
-    drive_bytes::encode(next, drive);
-    let answer = reply.answer;
-    seal(answer)
-}
-
-// Does the call of this function's number over the drive's bytes as long as a store is left; a drive that counts as closed is
-// refused by 32. Where a call is refused the drive's bytes stay, unless it logs in.
-fn call_most(
-    function: u8,
-    parameter: u8,
-    drive: &mut [u8],
-    volume: &mut [u8],
-    fcb: &mut [u8],
-    buffer: &mut [u8],
-    left: &mut usize,
-) -> Told
-    ensures { λ r. ⌜
-        CallMost (now (left .entry)) function parameter (now (drive .entry)) (now (volume .entry)) (now (fcb .entry))
-        (now (buffer .entry)) r (now (drive .exit)) (now (volume .exit)) (now (fcb .exit)) (now (buffer .exit)) (now (left .exit))
-        ⌝ }
-{
-    if !drive_bytes::is_drive(drive) {
-        return tell(Answer::Refused(Refusal::Closed));
-    }
-    let front = drive_bytes::fields(drive);
-    let kind = call_served::call_of(function);
-    let answer = call_of_kind(kind, parameter, front, drive, volume, fcb, buffer, left);
-    tell(answer)
+    seam_calls::log_in(
+        block_bytes,
+        blocks,
+        directory_blocks,
+        placing,
+        volume,
+        drive,
+    )
 }
 
 // Does the call of this function's number over the drive's bytes.
@@ -284,9 +48,7 @@ pub extern "C" fn churawel_call(
         ≡ atSeam function parameter (now (drive .entry)) (now (volume .entry)) (now (fcb .entry)) (now (buffer .entry))
         ⌝ }
 {
-    let mut left = ENOUGH;
-    let told = call_most(function, parameter, drive, volume, fcb, buffer, &mut left);
-    told.answer
+    seam_calls::call(function, parameter, drive, volume, fcb, buffer)
 }
 
 // Does the call of this function's number with at most so many stores, and closes the drive: the machine is gone. What is left
@@ -306,17 +68,7 @@ pub extern "C" fn churawel_cut(
         ≡ cutAtSeam most function parameter (now (drive .entry)) (now (volume .entry)) (now (fcb .entry)) (now (buffer .entry))
         ⌝ }
 {
-    if !drive_bytes::has_length(drive) {
-        return seal(Answer::Refused(Refusal::Closed));
-    }
-    let d = drive_bytes::front(drive);
-    if !d.is_open() {
-        lists::fill(drive, 0);
-        return seal(Answer::Refused(Refusal::Closed));
-    }
-    let r = cut::cut_open(size(most), function, parameter, drive, volume, fcb, buffer);
-    lists::fill(drive, 0);
-    r
+    seam_calls::cut(most, function, parameter, drive, volume, fcb, buffer)
 }
 
 // Logs the volume in as `churawel_log_in` does, and says of a bad slot why it is bad; no drive is left.
@@ -335,14 +87,14 @@ pub extern "C" fn churawel_fault(
         (now (fault .entry))
         ⌝ }
 {
-    if fault.len() != fault::FAULT_BYTES {
-        return seal(Answer::Refused(Refusal::BufferLength));
-    }
-    let g = geometry(block_bytes, blocks, directory_blocks, placing);
-    let reply = Drive::log_in(g, volume);
-    let answer = reply.answer;
-    fault::put_fault_for(fault, g, volume, answer);
-    seal(answer)
+    seam_looks::fault(
+        block_bytes,
+        blocks,
+        directory_blocks,
+        placing,
+        volume,
+        fault,
+    )
 }
 
 // Lays the line of the next file at or after slot `from`; its lowest slot is the value.
@@ -353,21 +105,5 @@ pub extern "C" fn churawel_file(drive: &[u8], volume: &[u8], from: u32, file: &m
         ≡ fileAtSeam (now (drive .entry)) (now (volume .entry)) from (now (file .entry))
         ⌝ }
 {
-    let d = drive_bytes::front(drive);
-    if !d.is_open() {
-        return seal(Answer::Refused(Refusal::Closed));
-    }
-    let g = d.geometry;
-    if volume.len() != g.bytes() {
-        return seal(Answer::Refused(Refusal::VolumeLength));
-    }
-    if file.len() != line::FILE_BYTES {
-        return seal(Answer::Refused(Refusal::BufferLength));
-    }
-    let slot = files::next_file(g, volume, size(from));
-    if g.slots() <= slot {
-        return seal(Answer::Refused(Refusal::NoMatch));
-    }
-    line::put_file(file, g, volume, slot);
-    seal(Answer::Ready(slot))
+    seam_looks::file(drive, volume, from, file)
 }

@@ -23,7 +23,8 @@ use Rattle.call_served.specs.Calls.{callOf}
 use Rattle.drive_bytes.specs.Layout.{driveBytes, decoded}
 use Rattle.drive_bytes.specs.RoundTrip.{Carried}
 use Rattle.drive_bytes.proofs.LentLaws.{open-length}
-use Rattle.churawel.specs.Seam.{answered, Sealed, through, atSeam, logInAtSeam}
+use Rattle.seam_words.specs.Answered.{answered}
+use Rattle.seam_calls.specs.Seam.{Sealed, through, atSeam, logInAtSeam}
 use Rattle.churawel.proofs.LastingLaws.{Lasts}
 use Rattle.churawel.proofs.FaithfulHolds.{log-in-carried, log-in-opens, log-in-geometry, log-in-faithful, step-lasts, step-log-in, step-back, call-carried, call-geometry}
 use Rattle.demands.specs.Run.{Seen, seen, answers, final, finalState}

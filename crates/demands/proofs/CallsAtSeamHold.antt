@@ -22,7 +22,8 @@ use Rattle.call_served.specs.Calls.{callOf}
 use Rattle.drive_bytes.specs.Layout.{driveBytes, decoded, encodedIn}
 use Rattle.drive_bytes.proofs.RoundTripHolds.{read-carried, closed-is-zeros}
 use Rattle.drive_bytes.proofs.LentLaws.{open-length}
-use Rattle.churawel.specs.Seam.{answered, Sealed, sealed, through, atSeam, logInAtSeam, zeros}
+use Rattle.seam_words.specs.Answered.{answered}
+use Rattle.seam_calls.specs.Seam.{Sealed, sealed, through, atSeam, logInAtSeam, zeros}
 use Rattle.churawel.proofs.LastingLaws.{Lasts}
 use Rattle.churawel.proofs.FaithfulHolds as faithful
 use Rattle.demands.specs.Demand1.{call}

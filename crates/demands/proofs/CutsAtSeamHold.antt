@@ -20,7 +20,8 @@ use Rattle.drive_bytes.specs.Layout.{driveBytes, blocksAt, decoded}
 use Rattle.drive_bytes.proofs.LoadLaws.{drive-whole}
 use Rattle.drive_bytes.proofs.RoundTripHolds.{open-drive}
 use Rattle.drive_bytes.proofs.LentLaws.{open-length}
-use Rattle.churawel.specs.Seam.{answered, Sealed, sealed, zeros, cutAtSeam}
+use Rattle.seam_words.specs.Answered.{answered}
+use Rattle.seam_calls.specs.Seam.{Sealed, sealed, zeros, cutAtSeam}
 use Rattle.demands.specs.Run.{final, finalState}
 use Rattle.demands.specs.AtSeam.{callAtSeam, volumeLeft, driveLeft, logsIn}
 use Rattle.demands.specs.Cuts.{CutAnywhere}

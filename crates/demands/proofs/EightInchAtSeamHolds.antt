@@ -20,7 +20,8 @@ use Rattle.filecalls.specs.Outcome.{Outcome, left}
 use Rattle.bdos.specs.Step.{step}
 use Rattle.bdos.specs.Stores.{storesOf}
 use Rattle.drive_bytes.specs.Layout.{driveBytes, blocksAt, decoded}
-use Rattle.churawel.specs.Seam.{answered, Sealed, zeros, refusedClosed, cutAtSeam}
+use Rattle.seam_words.specs.Answered.{answered}
+use Rattle.seam_calls.specs.Seam.{Sealed, zeros, refusedClosed, cutAtSeam}
 use Rattle.demands.specs.Run.{Seen, seen, Way, answers, final, finalState}
 use Rattle.demands.specs.AtSeam.{inNumbers, volumeLeft, driveLeft, FromC, logsIn, whileOpen}
 use Rattle.demands.specs.EightInch.{straightDrive, StateOf, has-geometry, shut, SpareSame}

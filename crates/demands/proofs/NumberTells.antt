@@ -26,7 +26,7 @@ use Rattle.call_served.specs.declared.Call.the-variants.{LogIn, Open, Close, Se
 use Rattle.call_served.specs.declared.Transfer.the-variants.{ReadSequential, WriteSequential, ReadRandom, WriteRandom, WriteZeroFill, ReadSeveral, WriteSeveral}
 use Rattle.bdos.specs.Step.{carries, does, step}
 use Rattle.call_served.specs.Asked.{Asked}
-use Rattle.churawel.specs.Seam.{answered}
+use Rattle.seam_words.specs.Answered.{answered}
 use Rattle.demands.specs.Order.{numbersOf, refusalsOf, codesOf, isSeveral, among, answersOf}
 use Rattle.demands.specs.Demand1.{call}
 use Rattle.demands.proofs.Demand1.{demand1}

@@ -26,7 +26,8 @@ use Rattle.filecalls.specs.State.{isOpen, closed}
 use Rattle.bdos.specs.Step.{step}
 use Rattle.call_served.specs.Asked.{Asked, asked}
 use Rattle.drive_bytes.specs.Layout.{driveBytes, decoded}
-use Rattle.churawel.specs.Seam.{answered, Sealed, atSeam, logInAtSeam}
+use Rattle.seam_words.specs.Answered.{answered}
+use Rattle.seam_calls.specs.Seam.{Sealed, atSeam, logInAtSeam}
 use Rattle.demands.specs.Run.{Seen, seen, Way, answers, final, finalState, plain}
 use Rattle.demands.specs.Order.{codesOf, isSeveral}
 use Rattle.demands.specs.Demand1.{call}

@@ -24,7 +24,7 @@ use Rattle.call_served.specs.declared.Call.the-variants.{LogIn}
 use Rattle.bdos.specs.Step.{step}
 use Rattle.call_served.specs.Asked.{Asked, asked}
 use Rattle.drive_bytes.specs.Layout.{driveBytes, decoded}
-use Rattle.churawel.specs.Seam.{sealed, logInAtSeam, zeros}
+use Rattle.seam_calls.specs.Seam.{sealed, logInAtSeam, zeros}
 use Rattle.demands.specs.Order.{numbersOf, refusalsOf, among, answersOf}
 use Rattle.demands.specs.Demand1.{call, tests}
 use Rattle.demands.specs.Demand2.{Writes, Reads, earlier, NoneFree, Sound, Present}

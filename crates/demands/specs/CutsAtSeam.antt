@@ -17,7 +17,8 @@ use Rattle.filecalls.specs.Stores.{refusedBy}
 use Rattle.bdos.specs.Step.{step}
 use Rattle.bdos.specs.Stores.{storesOf}
 use Rattle.drive_bytes.specs.Layout.{driveBytes, decoded}
-use Rattle.churawel.specs.Seam.{answered, Sealed, sealed, zeros, logInAtSeam, cutAtSeam}
+use Rattle.seam_words.specs.Answered.{answered}
+use Rattle.seam_calls.specs.Seam.{Sealed, sealed, zeros, logInAtSeam, cutAtSeam}
 use Rattle.demands.specs.AtSeam.{callAtSeam, volumeLeft, driveLeft, FromC, OverSeamRuns}
 use Rattle.demands.specs.Cuts.{CutAnywhere}
 

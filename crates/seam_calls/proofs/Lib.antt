@@ -1,0 +1,9 @@
+-- What the calls at the seam rest on: values that fit 16 bits, closed states that every call refuses, what a call leaves as it was, and
+-- lengths that no call takes.
+pub mod ValueLaws
+pub mod ClosedLaws
+pub mod KeptLaws
+pub mod WayLaws
+pub mod SeamLaws
+pub mod LentLaws
+pub mod CutLaws
