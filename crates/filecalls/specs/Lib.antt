@@ -10,9 +10,7 @@ pub mod Read
 pub mod Write
 pub mod Small
 pub mod Leaves
-pub mod Several
 pub mod Stores
 pub mod CodeFront
 pub mod CodeReady
 pub mod CodeLadder
-pub mod CodeCut
