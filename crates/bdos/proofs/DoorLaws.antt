@@ -15,7 +15,8 @@ use Rattle.filecalls.specs.declared.Reply.{Reply}
 use Rattle.filecalls.specs.Outcome.{Act, actStores, Outcome, outcome}
 use Rattle.filecalls.specs.Stores.{Cut, CutAfter, cutOutcome, cutLeft, refusedBy}
 use Rattle.filecalls.proofs.CutLaws.{code-whole}
-use Rattle.filecalls.proofs.SeveralCutLaws.{delete-enough, make-enough, rename-enough, attributes-enough, sequential-enough, direct-enough, several-enough}
+use Rattle.filecalls.proofs.EnoughLaws.{delete-enough, make-enough, rename-enough, attributes-enough, sequential-enough, direct-enough}
+use Rattle.several.proofs.SeveralCutLaws.{several-enough}
 use Rattle.bdos.specs.Step.{keepsBuffer}
 use Rattle.bdos.specs.Stores.{transferStores, callStores}
 use Rattle.bdos.specs.CodeWay.{wayOf, logs}

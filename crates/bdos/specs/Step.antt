@@ -13,7 +13,7 @@ use Rattle.filecalls.specs.declared.Drive.{Drive}
 use Rattle.filecalls.specs.Outcome.{deny, Outcome, outcome, left}
 use Rattle.filecalls.specs.LogIn.{logIn}
 use Rattle.filecalls.specs.Leaves.{openLeaves, closeLeaves, sizeLeaves, deleteLeaves, makeLeaves, renameLeaves, attributesLeave, searchFirstLeaves, searchNextLeaves, readSequentialLeaves, readRandomLeaves, writeSequentialLeaves, writeRandomLeaves, writeZeroFillLeaves, protectLeaves, userLeaves, setRandomLeaves}
-use Rattle.filecalls.specs.Several.{several}
+use Rattle.several.specs.Several.{several}
 
 -- what a call is not lent stays as it is
 abbrev pub keepsBuffer : List ℕ → Outcome → Outcome

@@ -11,7 +11,8 @@ use Rattle.call_served.specs.declared.Transfer.the-variants.{ReadSequential, Wr
 use Rattle.call_served.specs.Calls.{callOf}
 use Rattle.call_served.specs.Asked.{Asked}
 use Rattle.filecalls.specs.declared.Drive.{Drive}
-use Rattle.filecalls.specs.Stores.{deleteStores, makeStores, renameStores, attributesStores, sequentialStores, directStores, severalStores}
+use Rattle.filecalls.specs.Stores.{deleteStores, makeStores, renameStores, attributesStores, sequentialStores, directStores}
+use Rattle.several.specs.Stores.{severalStores}
 
 -- a call that moves records, by its parameter, state, volume, control block and buffer; a read stores nothing
 unfoldable pub transferStores : Transfer → ℕ → Drive → List ℕ → List ℕ → List ℕ → List Store

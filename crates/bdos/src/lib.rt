@@ -86,7 +86,7 @@ fn read(
     match kind {
         Transfer::ReadSequential => front.read_sequential(volume, fcb, buffer),
         Transfer::ReadRandom => front.read_random(volume, fcb, buffer),
-        Transfer::ReadSeveral => front.read_several(volume, fcb, buffer, parameter),
+        Transfer::ReadSeveral => several::read(front, volume, fcb, buffer, parameter),
         Transfer::WriteSequential => front.refused(Refusal::NotServed),
         Transfer::WriteRandom => front.refused(Refusal::NotServed),
         Transfer::WriteZeroFill => front.refused(Refusal::NotServed),
@@ -154,7 +154,8 @@ fn write(
         Transfer::WriteSequential => front.write_sequential_most(held, volume, fcb, buffer, left),
         Transfer::WriteRandom => front.write_direct_most(held, volume, fcb, buffer, false, left),
         Transfer::WriteZeroFill => front.write_direct_most(held, volume, fcb, buffer, true, left),
-        Transfer::WriteSeveral => front.write_several_most(
+        Transfer::WriteSeveral => several::write_most(
+            front,
             held,
             volume,
             fcb,

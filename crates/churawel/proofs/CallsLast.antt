@@ -36,8 +36,8 @@ use Rattle.filecalls.specs.Write.{directoryTests, writeDone, writeSequentialAct
 use Rattle.filecalls.specs.Small.{protectTests, protectAct, userTests, userAct, setRandomTests, setRandomAct}
 use Rattle.filecalls.proofs.StateLaws.{is-open, both-clear}
 use Rattle.filecalls.specs.Leaves.{readSequentialLeaves, writeSequentialLeaves}
-use Rattle.filecalls.specs.Several.{onPiece, several}
-use Rattle.filecalls.proofs.SeveralLaws.{several-keeps}
+use Rattle.several.specs.Several.{onPiece, several}
+use Rattle.several.proofs.SeveralLaws.{several-keeps}
 use Rattle.drive_bytes.specs.Layout.{storedWords}
 use Rattle.churawel.proofs.LastingLaws.{Lasts, Lasting, does, lasting-unless, outcome-lasts, held-lasts, protects-lasts, user-lasts, search-lasts, words-free, words-of, block-room, hit-low, first-pattern}
 

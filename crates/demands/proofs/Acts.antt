@@ -20,7 +20,7 @@ use Rattle.call_read.specs.Read.{readBytes}
 use Rattle.filecalls.specs.declared.Drive.{Drive}
 use Rattle.filecalls.specs.declared.KeptSearch.{KeptSearch}
 use Rattle.filecalls.specs.Outcome.{Change, keeps, searches, Act, deny, done, actStores, unless, changedState, Outcome, outcome}
-use Rattle.filecalls.proofs.SinglesCutLaws.{same-geometry}
+use Rattle.filecalls.proofs.OutcomeLaws.{same-geometry}
 use Rattle.demands.proofs.Orderly.{Orderly, Held}
 use Rattle.demands.proofs.Frame.{Apart, present-same, bytes-same}
 

@@ -30,7 +30,7 @@ use Rattle.filecalls.specs.Small.{protectTests, protectAct, userTests, userAct,
 use Rattle.disk_stores.specs.Stores.{Store}
 use Rattle.filecalls.specs.Outcome.{keeps, protects, becomes, Act, deny, done, unless, changedState, Outcome, outcome, left}
 use Rattle.filecalls.specs.Leaves.{readSequentialLeaves}
-use Rattle.filecalls.proofs.SeveralLaws.{read-refuses}
+use Rattle.several.proofs.SeveralLaws.{read-refuses}
 use Rattle.call_served.specs.declared.Call.{Call}
 use Rattle.call_served.specs.declared.Call.the-variants.{LogIn, Open, Close, SearchFirst, SearchNext, Delete, Make, Rename, Protect, Attributes, User, Size, SetRandom, Moves, Unserved}
 use Rattle.call_served.specs.declared.Transfer.the-variants.{ReadSequential, WriteSequential, ReadRandom, WriteRandom, WriteZeroFill, ReadSeveral, WriteSeveral}

@@ -23,9 +23,9 @@ use Rattle.filecalls.specs.Search.{hitAct, firstTests, searchFirstAct, nextTest
 use Rattle.filecalls.specs.Read.{readDone, readSequentialAct, readRandomAct}
 use Rattle.filecalls.specs.Write.{writeRandomAct, writeZeroFillAct}
 use Rattle.filecalls.specs.Leaves.{readSequentialLeaves}
-use Rattle.filecalls.specs.Several.{pieceAt, onPiece, several}
-use Rattle.filecalls.specs.Stores.{severalStores}
-use Rattle.filecalls.proofs.SeveralLaws as laws
+use Rattle.several.specs.Several.{pieceAt, onPiece, several}
+use Rattle.several.specs.Stores.{severalStores}
+use Rattle.several.proofs.SeveralLaws as laws
 use Rattle.call_served.specs.declared.Call.{Call}
 use Rattle.call_served.specs.declared.Call.the-variants.{LogIn, Open, Close, SearchFirst, SearchNext, Delete, Make, Rename, Protect, Attributes, User, Size, SetRandom, Moves, Unserved}
 use Rattle.call_served.specs.declared.Transfer.the-variants.{ReadSequential, WriteSequential, ReadRandom, WriteRandom, WriteZeroFill, ReadSeveral, WriteSeveral}

@@ -32,10 +32,9 @@ use Rattle.filecalls.specs.Read.{sequentialTests, randomTests, readDone, readSe
 use Rattle.filecalls.specs.Write.{writeDone, writeSequentialAct, writeRandomAct, writeZeroFillAct}
 use Rattle.filecalls.specs.Small.{protectTests, protectAct, userTests, userAct, setRandomTests, setRandomAct}
 use Rattle.filecalls.proofs.StateLaws.{is-open}
-use Rattle.filecalls.specs.Several.{Single, several}
-use Rattle.filecalls.specs.Several.{severalTests}
-use Rattle.filecalls.proofs.SinglesLaws.{Refuses}
-use Rattle.filecalls.proofs.SeveralLaws.{leaves-all, read-refuses, write-refuses}
+use Rattle.several.specs.Several.{Single, several, severalTests}
+use Rattle.several.proofs.SinglesLaws.{Refuses}
+use Rattle.several.proofs.SeveralLaws.{leaves-all, read-refuses, write-refuses}
 use Rattle.call_served.specs.declared.Call.{Call}
 use Rattle.call_served.specs.declared.Call.the-variants.{LogIn, Open, Close, SearchFirst, SearchNext, Delete, Make, Rename, Protect, Attributes, User, Size, SetRandom, Moves, Unserved}
 use Rattle.call_served.specs.declared.Transfer.the-variants.{ReadSequential, WriteSequential, ReadRandom, WriteRandom, WriteZeroFill, ReadSeveral, WriteSeveral}

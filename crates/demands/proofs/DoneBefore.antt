@@ -13,9 +13,10 @@ use Rattle.call_fcb.specs.Fcb.{position}
 use Rattle.call_answers.specs.Answer.{valueOf, succeeded}
 use Rattle.filecalls.specs.declared.Drive.{Drive}
 use Rattle.filecalls.specs.Leaves.{writeSequentialLeaves}
-use Rattle.filecalls.specs.Several.{onPiece, singles}
-use Rattle.filecalls.proofs.SinglesCutLaws.{piece-buffer}
-use Rattle.filecalls.specs.Stores.{sequentialStores, singlesStores}
+use Rattle.several.specs.Several.{onPiece, singles}
+use Rattle.several.proofs.SinglesCutLaws.{piece-buffer}
+use Rattle.filecalls.specs.Stores.{sequentialStores}
+use Rattle.several.specs.Stores.{singlesStores}
 use Rattle.demands.specs.Demand2.{Present}
 use Rattle.demands.proofs.Acts.{Consistent}
 use Rattle.demands.proofs.StoresInTurn.{told-done}

@@ -26,9 +26,10 @@ use Rattle.filecalls.specs.Outcome.{Change, keeps, takes, frees, protects, beco
 use Rattle.filecalls.specs.Leaves.{readSequentialLeaves, writeSequentialLeaves}
 use Rattle.filecalls.specs.Write.{writeRandomAct, writeZeroFillAct}
 use Rattle.filecalls.specs.Small.{protectTests, protectAct, userTests, userAct, setRandomTests, setRandomAct}
-use Rattle.filecalls.specs.Several.{Single, badCount, piecesLength, severalTests, ended, pieceAt, onPiece, singles, several}
-use Rattle.filecalls.specs.Stores.{sequentialStores, singlesStores, severalStores}
-use Rattle.filecalls.proofs.SinglesCutLaws.{same-geometry}
+use Rattle.several.specs.Several.{Single, badCount, piecesLength, severalTests, ended, pieceAt, onPiece, singles, several}
+use Rattle.filecalls.specs.Stores.{sequentialStores}
+use Rattle.several.specs.Stores.{singlesStores, severalStores}
+use Rattle.filecalls.proofs.OutcomeLaws.{same-geometry}
 use Rattle.bdos.specs.Step.{keepsBuffer, keepsFcb, keepsVolume, carries, does}
 use Rattle.bdos.specs.Stores.{transferStores, callStores}
 use Rattle.unskewed.specs.Unskewed.{unskewed}

@@ -40,8 +40,8 @@ use Rattle.filecalls.specs.Names.{deleteLadder, deleteAct, makeLadder, makeAct,
 use Rattle.filecalls.specs.Read.{sequentialTests, randomTests, readSequentialAct, readRandomAct}
 use Rattle.filecalls.specs.Write.{writeSequentialAct, writeRandomAct, writeZeroFillAct}
 use Rattle.filecalls.specs.Small.{protectTests, protectAct, userTests, userAct, setRandomTests, setRandomAct}
-use Rattle.filecalls.specs.Several.{Single, severalTests, several}
-use Rattle.filecalls.specs.Stores.{severalStores}
+use Rattle.several.specs.Several.{Single, severalTests, several}
+use Rattle.several.specs.Stores.{severalStores}
 use Rattle.bdos.specs.Step.{keepsBuffer, keepsFcb, keepsVolume, carries, does, step}
 use Rattle.bdos.specs.CodeWay.{wayOf, logs}
 use Rattle.bdos.specs.Stores.{transferStores, callStores, storesOf}

@@ -18,9 +18,9 @@ use Rattle.call_answers.specs.Answer.{numberOf, valueOf, succeeded, whyOf}
 use Rattle.filecalls.specs.Leaves.{readSequentialLeaves, writeSequentialLeaves}
 use Rattle.filecalls.specs.declared.Drive.{Drive}
 use Rattle.filecalls.specs.Outcome.{Outcome}
-use Rattle.filecalls.specs.Several.{Single, ended, onPiece, singles, several}
-use Rattle.filecalls.proofs.SinglesLaws.{chosen}
-use Rattle.filecalls.proofs.SeveralLaws.{several-chosen}
+use Rattle.several.specs.Several.{Single, ended, onPiece, singles, several}
+use Rattle.several.proofs.SinglesLaws.{chosen}
+use Rattle.several.proofs.SeveralLaws.{several-chosen}
 use Rattle.call_served.specs.declared.Call.{Call}
 use Rattle.call_served.specs.declared.Call.the-variants.{LogIn, Open, Close, SearchFirst, SearchNext, Delete, Make, Rename, Protect, Attributes, User, Size, SetRandom, Moves, Unserved}
 use Rattle.call_served.specs.declared.Transfer.the-variants.{ReadSequential, WriteSequential, ReadRandom, WriteRandom, WriteZeroFill, ReadSeveral, WriteSeveral}

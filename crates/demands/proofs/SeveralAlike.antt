@@ -12,8 +12,7 @@ use Rattle.call_answers.specs.Answer.{succeeded, whyOf}
 use Rattle.filecalls.specs.declared.Drive.{Drive}
 use Rattle.filecalls.specs.State.{isOpen}
 use Rattle.filecalls.specs.Outcome.{Outcome, withHeld}
-use Rattle.filecalls.specs.Several.{Single, ended, onPiece, singles, several}
-use Rattle.filecalls.specs.Several.{severalTests}
+use Rattle.several.specs.Several.{Single, ended, onPiece, singles, several, severalTests}
 use Rattle.demands.proofs.Orderly.{held-agree}
 use Rattle.demands.proofs.Acts.{Consistent}
 use Rattle.demands.proofs.Alike.{Alike, otherwiseHeld, alike-is}

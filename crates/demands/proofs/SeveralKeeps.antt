@@ -13,9 +13,9 @@ use Rattle.filecalls.specs.Leaves.{writeSequentialLeaves}
 use Rattle.filecalls.specs.declared.Drive.{Drive}
 use Rattle.filecalls.specs.Outcome.{Outcome}
 use Rattle.filecalls.specs.Write.{writeSequentialAct}
-use Rattle.filecalls.specs.Several.{Single, onPiece, several}
-use Rattle.filecalls.proofs.SinglesLaws.{Holds, Refuses}
-use Rattle.filecalls.proofs.SeveralLaws as laws
+use Rattle.several.specs.Several.{Single, onPiece, several}
+use Rattle.several.proofs.SinglesLaws.{Holds, Refuses}
+use Rattle.several.proofs.SeveralLaws as laws
 use Rattle.bdos.specs.Step.{carries, does}
 use Rattle.demands.proofs.Acts.{Consistent, Leaves, leaves-all, StepKeeps, outcome-keeps}
 use Rattle.demands.proofs.WritesKeep.{write-sequential-keeps}

@@ -27,11 +27,10 @@ use Rattle.filecalls.specs.Tests.{closedState, volumeLength, fcbLength, bufferL
 use Rattle.filecalls.specs.Outcome.{Outcome, unless, outcome}
 use Rattle.filecalls.specs.Read.{sequentialTests, readDone, readSequentialAct}
 use Rattle.filecalls.specs.Write.{directoryTests, writeDone, writeSequentialAct}
-use Rattle.filecalls.specs.Several.{Single, onPiece, several}
-use Rattle.filecalls.specs.Several.{severalTests}
-use Rattle.filecalls.proofs.SinglesLaws.{piece-answer, first-refused, first-done, stop-number}
-use Rattle.filecalls.proofs.SeveralLaws.{several-refused, several-passed}
-use Rattle.filecalls.proofs.SeveralLent.{LentPieces, lent-pieces}
+use Rattle.several.specs.Several.{Single, onPiece, several, severalTests}
+use Rattle.several.proofs.SinglesLaws.{piece-answer, first-refused, first-done, stop-number}
+use Rattle.several.proofs.SeveralLaws.{several-refused, several-passed}
+use Rattle.several.proofs.SeveralLent.{LentPieces, lent-pieces}
 use Rattle.call_served.specs.declared.Call.the-variants.{Moves}
 use Rattle.call_served.specs.declared.Transfer.the-variants.{ReadSequential, WriteSequential, ReadSeveral, WriteSeveral}
 use Rattle.demands.specs.Order.{numbersOf, reasons, fcbTests, refusalsOf, among, answersOf}

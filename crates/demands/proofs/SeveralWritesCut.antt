@@ -25,9 +25,10 @@ use Rattle.filecalls.specs.declared.Drive.{Drive}
 use Rattle.filecalls.specs.Outcome.{Outcome}
 use Rattle.filecalls.specs.Write.{writeSequentialAct}
 use Rattle.filecalls.specs.Leaves.{writeSequentialLeaves}
-use Rattle.filecalls.specs.Several.{onPiece, singles, several, severalTests}
-use Rattle.filecalls.proofs.SinglesCutLaws.{piece-buffer}
-use Rattle.filecalls.specs.Stores.{sequentialStores, singlesStores, severalStores}
+use Rattle.several.specs.Several.{onPiece, singles, several, severalTests}
+use Rattle.several.proofs.SinglesCutLaws.{piece-buffer}
+use Rattle.filecalls.specs.Stores.{sequentialStores}
+use Rattle.several.specs.Stores.{singlesStores, severalStores}
 use Rattle.bdos.specs.Step.{carries, does}
 use Rattle.demands.specs.Demand2.{Present}
 use Rattle.demands.proofs.Acts.{Consistent, act-laid, Safe, safe-none, StepKeeps, outcome-keeps}

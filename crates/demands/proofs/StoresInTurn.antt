@@ -17,18 +17,19 @@ use Rattle.filecalls.specs.Outcome.{Act, Outcome, outcome}
 use Rattle.filecalls.specs.Read.{sequentialTests}
 use Rattle.filecalls.specs.Write.{writeDone, directoryTests, writeSequentialAct}
 use Rattle.filecalls.specs.Leaves.{writeSequentialLeaves}
-use Rattle.filecalls.specs.Several.{ended, onPiece, singles}
-use Rattle.filecalls.specs.Stores.{sequentialStores, singlesStores}
+use Rattle.several.specs.Several.{ended, onPiece, singles}
+use Rattle.filecalls.specs.Stores.{sequentialStores}
+use Rattle.several.specs.Stores.{singlesStores}
 use Rattle.filecalls.specs.CodeLadder.{sequentialLent}
 use Rattle.filecalls.proofs.LentLaws.{sequential-lent}
 use Rattle.filecalls.proofs.OutcomeLaws as laws
-use Rattle.filecalls.proofs.SeveralLaws.{write-refuses}
+use Rattle.several.proofs.SeveralLaws.{write-refuses}
 use Rattle.call_served.specs.Asked.{Asked}
 use Rattle.call_served.specs.Calls.{callOf}
 use Rattle.bdos.specs.Stores.{transferStores, callStores, storesOf}
 use Rattle.demands.specs.Cuts.{afterWrites, nextStores, inTurn}
 use Rattle.demands.proofs.WritesCut.{stores-unless}
-use Rattle.filecalls.proofs.SinglesCutLaws.{piece-buffer}
+use Rattle.several.proofs.SinglesCutLaws.{piece-buffer}
 
 -- ---- lists
 append-none : (a : List Store) → a ++ [] ≡ a

@@ -11,8 +11,8 @@ use Rattle.lists.specs.Bytes.{byte}
 use Rattle.disk_stores.specs.Stores.{store, cut}
 use Rattle.disk_stores.specs.Order.{rises, Ordered, directory, data-first}
 use Rattle.filecalls.specs.State.{closed}
-use Rattle.filecalls.specs.Several.{severalTests, onPiece, singles}
-use Rattle.filecalls.specs.Stores.{singlesStores, severalStores}
+use Rattle.several.specs.Several.{severalTests, onPiece, singles}
+use Rattle.several.specs.Stores.{singlesStores, severalStores}
 use Rattle.call_served.specs.declared.Call.the-variants.{Delete, Moves}
 use Rattle.call_served.specs.declared.Transfer.the-variants.{WriteSeveral}
 use Rattle.call_served.specs.Asked.{Asked, asked}

@@ -41,7 +41,7 @@ use Rattle.call_served.specs.Asked.{Asked, asked}
 use Rattle.filecalls.specs.declared.Drive.{Drive}
 use Rattle.filecalls.specs.Outcome.{Outcome}
 use Rattle.filecalls.specs.Leaves.{writeSequentialLeaves}
-use Rattle.filecalls.specs.Several.{severalTests, pieceAt, singles}
+use Rattle.several.specs.Several.{severalTests, pieceAt, singles}
 use Rattle.bdos.specs.Step.{step}
 use Rattle.bdos.specs.Stores.{storesOf}
 use Rattle.numbers.specs.Numbers.{Bytes}

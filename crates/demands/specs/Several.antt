@@ -6,7 +6,7 @@ use mathlib.Core.List.{List}
 use Prim.Native.Nat.{ℕ}
 use Rattle.disk_geometry.specs.declared.Geometry.{Geometry}
 use Rattle.filecalls.specs.declared.Drive.{Drive}
-use Rattle.filecalls.specs.Several.{Single, several}
+use Rattle.several.specs.Several.{Single, several}
 use Rattle.bdos.specs.Step.{step}
 use Rattle.call_served.specs.Asked.{asked}
 

@@ -15,7 +15,7 @@ use Rattle.filecalls.specs.Outcome.{Act, deny, done, actStores, Outcome, outcom
 use Rattle.filecalls.specs.Leaves.{readRandomLeaves}
 use Rattle.filecalls.specs.Write.{writeDirectAct, writeRandomAct}
 use Rattle.filecalls.specs.Stores.{Cut, cutOutcome}
-use Rattle.filecalls.proofs.SeveralCutLaws.{direct-enough}
+use Rattle.filecalls.proofs.EnoughLaws.{direct-enough}
 use Rattle.desk.specs.Records.{shown, unread, recordShown, withSiglum, written, rewritten}
 use Rattle.desk.specs.Replace.{rewriteIf}
 use Rattle.desk.specs.Stores.{writtenStores, rewrittenStores, storesIf}

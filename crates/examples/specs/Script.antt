@@ -47,8 +47,7 @@ use Rattle.filecalls.specs.Names.{deleteLadder, deleteAct, makeLadder, makeAct,
 use Rattle.filecalls.specs.Read.{sequentialTests, randomTests, readDone, readSequentialAct, readRandomAct}
 use Rattle.filecalls.specs.Write.{writeEntry, writeDone, writeSequentialAct, writeRandomAct, writeZeroFillAct}
 use Rattle.filecalls.specs.Small.{protectTests, protectAct, userTests, userAct, setRandomTests, setRandomAct}
-use Rattle.filecalls.specs.Several.{onPiece, singles, several}
-use Rattle.filecalls.specs.Several.{severalTests}
+use Rattle.several.specs.Several.{onPiece, singles, several, severalTests}
 
 -- The calls that we serve, each with what it is lent beside the volume: a control block, a transfer buffer; those of several
 -- records have their number first.

@@ -11,7 +11,8 @@ use Rattle.disk_stores.specs.Stores.{Store, store, cut}
 use Rattle.filecalls.specs.declared.Drive.{Drive}
 use Rattle.filecalls.specs.State.{loggedIn}
 use Rattle.filecalls.specs.LogIn.{logIn as logInReply}
-use Rattle.filecalls.specs.Stores.{deleteStores, makeStores, renameStores, attributesStores, sequentialStores, directStores, singlesStores, severalStores}
+use Rattle.filecalls.specs.Stores.{deleteStores, makeStores, renameStores, attributesStores, sequentialStores, directStores}
+use Rattle.several.specs.Stores.{singlesStores, severalStores}
 use Rattle.examples.specs.Script.{words, seen}
 use Rattle.examples.specs.Samples.{sigla, lemmata, from, entry, empty, control, fresh, recordOf, renaming, filled, old, small, disk}
 

@@ -12,7 +12,7 @@ use Rattle.call_answers.proofs.Ladder.{ladder-stop, ladder-pass}
 use Rattle.filecalls.specs.declared.Drive.{Drive}
 use Rattle.filecalls.specs.declared.Reply.{Reply}
 use Rattle.disk_stores.specs.Stores.{Store, laid}
-use Rattle.filecalls.specs.Outcome.{Change, keeps, Act, deny, done, unless, Outcome, outcome, left, changedState}
+use Rattle.filecalls.specs.Outcome.{Change, keeps, takes, frees, protects, becomes, searches, Act, deny, done, unless, Outcome, outcome, left, changedState}
 
 -- a first group of tests refuses
 pub stops : (xs ys : List Test) (act : Act) → isNone (firstMet xs) ≡ false → unless (xs ++ ys) act ≡ deny (firstMet xs)
@@ -109,3 +109,18 @@ module _ (d : Drive) (v f b : List ℕ) where
       go : (t : Bool) → isNone why ≡ t → left r v′ f′ b′ ≡ outcome d v f b (unless ys (done k c ss f₂ b₂))
       go true h = rw (p, ed, ev, ef, eb, ← e, h)
       go false h = rw (p, ed, ev, ef, eb, ← e, h)
+
+-- no call changes the geometry
+change-geometry : (d : Drive) (v : List ℕ) (c : Change) → changedState d v c .geometry ≡ d .geometry
+unfolding changedState
+change-geometry d v keeps = refl
+change-geometry d v (takes t x) = refl
+change-geometry d v (frees u pattern) = refl
+change-geometry d v protects = refl
+change-geometry d v (becomes u) = refl
+change-geometry d v (searches q) = refl
+
+pub same-geometry : (d : Drive) (v f b : List ℕ) (act : Act) → outcome d v f b act .drive .geometry ≡ d .geometry
+unfolding outcome
+same-geometry d v f b (deny why) = refl
+same-geometry d v f b (done code c ss f′ b′) = change-geometry d v c

@@ -11,9 +11,7 @@ pub mod Write
 pub mod Change
 pub mod Small
 pub mod Leaves
-pub mod Several
 pub mod Stores
 pub mod CodeFront
 pub mod CodeReady
 pub mod CodeLadder
-pub mod CodeCut

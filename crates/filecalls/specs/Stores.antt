@@ -1,22 +1,19 @@
 -- What each changing call stores, record by record, and what a cut leaves. "Each changing call shall store whole 128-byte
 -- records: data records first, then directory records in rising order." A refused call stores nothing.
 use mathlib.Core.Path.{_≡_}
-use mathlib.Core.Bool.{Bool, true, cond, _&&_}
-use mathlib.Core.List.{List, [], _++_}
-use Prim.Native.Nat.{ℕ, zero, suc, _-_, _≤_}
+use mathlib.Core.Bool.{Bool, cond}
+use mathlib.Core.List.{List}
+use Prim.Native.Nat.{ℕ, _-_, _≤_}
 use lib.ListN.{length}
 use Rattle.disk_geometry.specs.declared.Geometry.{Geometry}
 use Rattle.disk_stores.specs.Stores.{Store, cut}
 use Rattle.call_answers.specs.declared.Answer.{Answer}
-use Rattle.call_answers.specs.Refusal.{isNone, firstMet}
 use Rattle.call_answers.specs.Answer.{numberOf, succeeded}
 use Rattle.filecalls.specs.declared.Drive.{Drive}
 use Rattle.filecalls.specs.declared.Reply.{Reply}
 use Rattle.filecalls.specs.Outcome.{Act, actStores, Outcome, outcome, left}
 use Rattle.filecalls.specs.Names.{deleteAct, makeAct, renameAct, attributesAct}
 use Rattle.filecalls.specs.Write.{writeSequentialAct, writeDirectAct}
-use Rattle.filecalls.specs.Leaves.{writeSequentialLeaves}
-use Rattle.filecalls.specs.Several.{severalTests, pieceAt, onPiece, several}
 
 abbrev pub deleteStores : Drive → List ℕ → List ℕ → List Store
 deleteStores d v fcb = actStores (deleteAct d v fcb)
@@ -36,25 +33,6 @@ sequentialStores d v fcb b = actStores (writeSequentialAct d v fcb b)
 -- functions 34 and 40
 abbrev pub directStores : Bool → Drive → List ℕ → List ℕ → List ℕ → List Store
 directStores fills d v fcb b = actStores (writeDirectAct fills d v fcb b)
-
--- "A call of (ii) stores as its single calls would": k single writes in order from piece i on, to the first refused one
-unfoldable pub singlesStores : ℕ → ℕ → Drive → List ℕ → List ℕ → List ℕ → List Store
-singlesStores i zero d v fcb b = []
-singlesStores i (suc k) d v fcb b =
-    let o : Outcome = onPiece writeSequentialLeaves i d v fcb b in
-    let rest : List Store = singlesStores (suc i) k (o .drive) (o .volume) (o .fcb) (o .buffer) in
-    sequentialStores d v fcb (pieceAt b i) ++ cond (succeeded (o .answer)) rest []
-
-unfoldable pub severalStores : Drive → List ℕ → List ℕ → List ℕ → ℕ → List Store
-severalStores d v fcb b k =
-    cond (isNone (firstMet (severalTests d v fcb b k))) (singlesStores 0 k d v fcb b) []
-
--- each of the first k of them succeeds
-unfoldable pub allDone : ℕ → ℕ → Drive → List ℕ → List ℕ → List ℕ → Bool
-allDone i zero d v fcb b = true
-allDone i (suc k) d v fcb b =
-    let o : Outcome = onPiece writeSequentialLeaves i d v fcb b in
-    succeeded (o .answer) && allDone (suc i) k (o .drive) (o .volume) (o .fcb) (o .buffer)
 
 -- all that a call leaves whose stores are cut after the first k, and how many of the k are left
 pub record Cut : Type 0 where
@@ -86,8 +64,3 @@ pub record CutAfter (most : ℕ) (g : Geometry) (v : List ℕ) (stores : List St
   pub left-is : c .left ≡ most - length stores
   pub refused-is : refusedBy (c .outcome .answer) ≡ refusedBy (o .answer)
   pub whole : length stores ≤ most → c .outcome ≡ o
-
--- several writes
-abbrev pub SeveralCut : ℕ → Drive → List ℕ → List ℕ → List ℕ → ℕ → Cut → Type 0
-SeveralCut most d v fcb b k c =
-    CutAfter most (d .geometry) v (severalStores d v fcb b k) (several writeSequentialLeaves d v fcb b k) c

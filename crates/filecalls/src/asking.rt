@@ -4,7 +4,6 @@ ghost use mathlib.Core.Path.{_≡_};
 ghost use mathlib.Core.List.{[]};
 ghost use Rattle.filecalls.specs.Outcome.{left};
 ghost use Rattle.filecalls.specs.Leaves.{openLeaves, closeLeaves, sizeLeaves, searchFirstLeaves, searchNextLeaves, readSequentialLeaves, readRandomLeaves, protectLeaves, userLeaves, setRandomLeaves};
-ghost use Rattle.filecalls.specs.Several.{several};
 use crate::Drive;
 use crate::Reply;
 
@@ -90,18 +89,6 @@ impl Drive {
     {
         let held = self.held;
         let reply = self.front().read_random(volume, fcb, buffer);
-        reply.joined(held)
-    }
-
-    // Function 220: reads k records at the sequential position, and moves it on.
-    pub fn read_several(self, volume: &[u8], fcb: &mut [u8], buffer: &mut [u8], k: u8) -> Reply
-        ensures { λ r. ⌜
-            left r (now (volume .entry)) (now (fcb .exit)) (now (buffer .exit))
-            ≡ several readSequentialLeaves self (now (volume .entry)) (now (fcb .entry)) (now (buffer .entry)) k
-            ⌝ }
-    {
-        let held = self.held;
-        let reply = self.front().read_several(volume, fcb, buffer, k);
         reply.joined(held)
     }
 

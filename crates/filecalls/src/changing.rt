@@ -4,7 +4,6 @@ ghost use mathlib.Core.Path.{_≡_};
 ghost use mathlib.Core.List.{[]};
 ghost use Rattle.filecalls.specs.Outcome.{left};
 ghost use Rattle.filecalls.specs.Leaves.{deleteLeaves, makeLeaves, renameLeaves, attributesLeave, writeSequentialLeaves, writeRandomLeaves, writeZeroFillLeaves};
-ghost use Rattle.filecalls.specs.Several.{several};
 use crate::Drive;
 use crate::ENOUGH;
 use crate::Reply;
@@ -101,20 +100,6 @@ impl Drive {
         let mut left = ENOUGH;
         let reply = self.front()
             .write_direct_most(&mut held, volume, fcb, buffer, true, &mut left);
-        reply.joined(held)
-    }
-
-    // Function 221: writes k records at the sequential position, and moves it on.
-    pub fn write_several(self, volume: &mut [u8], fcb: &mut [u8], buffer: &[u8], k: u8) -> Reply
-        ensures { λ r. ⌜
-            left r (now (volume .exit)) (now (fcb .exit)) (now (buffer .entry))
-            ≡ several writeSequentialLeaves self (now (volume .entry)) (now (fcb .entry)) (now (buffer .entry)) k
-            ⌝ }
-    {
-        let mut held = self.held;
-        let mut left = ENOUGH;
-        let reply = self.front()
-            .write_several_most(&mut held, volume, fcb, buffer, k, &mut left);
         reply.joined(held)
     }
 }

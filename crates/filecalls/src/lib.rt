@@ -15,7 +15,6 @@ mod names;
 mod opening;
 mod reads;
 mod searching;
-mod several;
 mod small;
 mod state;
 mod tests;

@@ -19,7 +19,7 @@ use Rattle.filecalls.specs.Names.{deleteLadder, deleteAct, makeLadder, makeAct,
 use Rattle.filecalls.specs.Read.{sequentialTests, randomTests, readSequentialAct, readRandomAct}
 use Rattle.filecalls.specs.Write.{writeSequentialAct, writeRandomAct, writeZeroFillAct}
 use Rattle.filecalls.specs.Small.{protectTests, protectAct, userTests, userAct, setRandomTests, setRandomAct}
-use Rattle.filecalls.specs.Several.{Single, severalTests, several}
+use Rattle.several.specs.Several.{Single, severalTests, several}
 use Rattle.filecalls.proofs.OutcomeLaws.{met}
 use Rattle.call_served.specs.declared.Call.{Call}
 use Rattle.call_served.specs.declared.Call.the-variants.{LogIn, Open, Close, SearchFirst, SearchNext, Delete, Make, Rename, Protect, Attributes, User, Size, SetRandom, Moves, Unserved}

@@ -10,8 +10,8 @@ use Rattle.filecalls.specs.declared.Drive.{Drive}
 use Rattle.filecalls.specs.Outcome.{keeps, takes, frees, protects, becomes, searches, Act, deny, done, changedState, outcome}
 use Rattle.filecalls.proofs.OutcomeLaws.{sameAll, outcome-refused}
 use Rattle.filecalls.specs.Leaves.{readSequentialLeaves, writeSequentialLeaves}
-use Rattle.filecalls.specs.Several.{Single, onPiece, several}
-use Rattle.filecalls.proofs.SeveralLaws.{several-keeps, leaves-all, read-refuses, write-refuses}
+use Rattle.several.specs.Several.{Single, onPiece, several}
+use Rattle.several.proofs.SeveralLaws.{several-keeps, leaves-all, read-refuses, write-refuses}
 use Rattle.call_served.specs.declared.Call.{Call}
 use Rattle.call_served.specs.declared.Call.the-variants.{LogIn, Open, Close, SearchFirst, SearchNext, Delete, Make, Rename, Protect, Attributes, User, Size, SetRandom, Moves, Unserved}
 use Rattle.call_served.specs.declared.Transfer.the-variants.{ReadSequential, WriteSequential, ReadRandom, WriteRandom, WriteZeroFill, ReadSeveral, WriteSeveral}

@@ -33,9 +33,9 @@ use Rattle.filecalls.specs.Names.{deleteLadder, deleteAct, makeLadder, makeAct,
 use Rattle.filecalls.specs.Read.{sequentialTests, randomTests, readSequentialAct, readRandomAct}
 use Rattle.filecalls.specs.Write.{writeSequentialAct, writeRandomAct, writeZeroFillAct}
 use Rattle.filecalls.specs.Small.{setRandomTests, setRandomAct}
-use Rattle.filecalls.specs.Several.{Single, piecesLength, severalTests, several}
+use Rattle.several.specs.Several.{Single, piecesLength, severalTests, several}
 use Rattle.filecalls.specs.Leaves.{readSequentialLeaves, writeSequentialLeaves}
-use Rattle.filecalls.specs.Stores.{severalStores}
+use Rattle.several.specs.Stores.{severalStores}
 use Rattle.bdos.specs.Step.{carries, does}
 use Rattle.bdos.specs.Stores.{transferStores, callStores}
 use Rattle.seam_calls.specs.CodeLent.{bufferBytes, lentFcb, lentBuffer}

@@ -15,8 +15,8 @@ use Rattle.filecalls.specs.Outcome.{Act, deny, unless, changedState, outcome}
 use Rattle.filecalls.specs.Names.{deleteAct, makeAct, renameAct, attributesAct}
 use Rattle.filecalls.specs.Write.{writeDone, writeSequentialAct, writeRandomAct, writeZeroFillAct}
 use Rattle.filecalls.specs.Leaves.{writeSequentialLeaves}
-use Rattle.filecalls.specs.Several.{onPiece, several}
-use Rattle.filecalls.proofs.SeveralLaws.{several-keeps}
+use Rattle.several.specs.Several.{onPiece, several}
+use Rattle.several.proofs.SeveralLaws.{several-keeps}
 use Rattle.bdos.specs.Step.{carries, does}
 use Rattle.disk_stores.specs.Stores.{Store}
 use Rattle.bdos.specs.Stores.{transferStores, callStores}

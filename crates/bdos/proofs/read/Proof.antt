@@ -25,8 +25,8 @@ read-random-requires c κs = search needs
 enum-told-3 : tie.Need-enum-told-3
 enum-told-3 c = search needs
 
-read-several-requires : tie.Need-read-several-requires
-read-several-requires c κs = search needs
+read-requires : tie.Need-read-requires
+read-requires c κs = search needs
 
 enum-told-4 : tie.Need-enum-told-4
 enum-told-4 c = search needs
@@ -80,7 +80,7 @@ same-length-6 c = search needs
 
 returns-3 : tie.Need-returns-3
 unfolding carries
-returns-3 c = λ (held : List ℕ) h. rw (c .before .before .before .before .before .before .before .enum-told3 .given .1) (c .before .before .before .before .read-several .ensures held)
+returns-3 c = λ (held : List ℕ) h. rw (c .before .before .before .before .before .before .before .enum-told3 .given .1) (c .before .before .before .before .read .ensures held)
 
 returns-4 : tie.Need-returns-4
 unfolding carries
@@ -107,7 +107,7 @@ read-spec =
     enum-told-2
     read-random-requires
     enum-told-3
-    read-several-requires
+    read-requires
     enum-told-4
     refused-requires
     enum-told-5

@@ -34,8 +34,8 @@ write-direct-most-requires-2 c κs = search needs
 enum-told-4 : tie.Need-enum-told-4
 enum-told-4 c = search needs
 
-write-several-most-requires : tie.Need-write-several-most-requires
-write-several-most-requires c κs = search needs
+write-most-requires : tie.Need-write-most-requires
+write-most-requires c κs = search needs
 
 enum-told-5 : tie.Need-enum-told-5
 enum-told-5 c = search needs
@@ -102,7 +102,7 @@ same-length-8 c = search needs
 
 returns-4 : tie.Need-returns-4
 unfolding transferStores carries writeRandomAct writeZeroFillAct
-returns-4 c = λ h. rw (c .before .before .before .before .before .before .before .before .before .enum-told4 .given .1) (c .before .before .before .before .write-several-most .ensures)
+returns-4 c = λ h. rw (c .before .before .before .before .before .before .before .before .before .enum-told4 .given .1) (c .before .before .before .before .write-most .ensures)
 
 returns-5 : tie.Need-returns-5
 unfolding transferStores carries writeRandomAct writeZeroFillAct
@@ -127,7 +127,7 @@ write-spec =
     enum-told-3
     write-direct-most-requires-2
     enum-told-4
-    write-several-most-requires
+    write-most-requires
     enum-told-5
     refused-requires
     enum-told-6

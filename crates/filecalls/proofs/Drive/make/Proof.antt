@@ -1,5 +1,5 @@
 -- The front does the call, with stores enough.
-use Rattle.filecalls.proofs.SeveralCutLaws.{make-enough}
+use Rattle.filecalls.proofs.EnoughLaws.{make-enough}
 use Rattle.filecalls.proofs.JoinLaws.{joined-whole}
 use Rattle.filecalls.specs.Names.{makeAct}
 use Rattle.filecalls.specs.declared.Drive.{Drive}

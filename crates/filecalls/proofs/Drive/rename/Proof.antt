@@ -1,5 +1,5 @@
 -- The front does the call, with stores enough.
-use Rattle.filecalls.proofs.SeveralCutLaws.{rename-enough}
+use Rattle.filecalls.proofs.EnoughLaws.{rename-enough}
 use Rattle.filecalls.proofs.JoinLaws.{joined-whole}
 use Rattle.filecalls.specs.Names.{renameAct}
 use Rattle.filecalls.specs.declared.Drive.{Drive}

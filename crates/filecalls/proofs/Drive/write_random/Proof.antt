@@ -1,5 +1,5 @@
 -- The front does the call, with stores enough.
-use Rattle.filecalls.proofs.SeveralCutLaws.{direct-enough}
+use Rattle.filecalls.proofs.EnoughLaws.{direct-enough}
 use Rattle.filecalls.proofs.JoinLaws.{joined-whole}
 use Rattle.filecalls.specs.Write.{writeDirectAct, writeRandomAct}
 use Rattle.filecalls.specs.declared.Drive.{Drive}
