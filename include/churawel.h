@@ -5,7 +5,7 @@
  * and memcpy. A slice is a pointer and the number of bytes; the pointer is never null, also where the number is 0, and the slices of
  * one call do not overlap. docs/EMULATOR.md says how a handler of INT 224 uses this.
  *
- * This file is kept by hand beside crates/churawel/src, which says exactly what each call leaves; tests/host compares
+ * This file is kept by hand beside crates/churawel/src/lib.rt, which says exactly what each call leaves; tests/host compares
  * its functions, lengths and numbers with the source.
  */
 #ifndef CHURAWEL_H

@@ -145,7 +145,7 @@ impl Shelf {
     }
 
     // Two shelves as one.
-    pub fn plus(self, other: Shelf) -> Shelf
+    fn plus(self, other: Shelf) -> Shelf
         requires { ⌜ (isKept self ≡ true) × (isKept other ≡ true) ⌝ }
         ensures { λ r. ⌜ r ≡ plus self other ⌝ }
     {
