@@ -11,6 +11,7 @@ use Rattle.numbers.specs.Numbers.{Bytes}
 use Rattle.filecalls.specs.declared.Drive.{Drive}
 use Rattle.memory_spans.specs.declared.Span.{Span}
 use Rattle.memory_spans.specs.Span.{none}
+use Rattle.memory_calls.specs.declared.Reply.{Reply}
 use Rattle.memory_calls.specs.declared.Answer.{Answer}
 use Rattle.memory_calls.specs.declared.Answer.the-variants.{Done, Refused}
 use Rattle.memory_calls.specs.Table.{regionsOf}
@@ -30,24 +31,23 @@ use Rattle.load_runs.specs.AtSeam.{RefusedCallLeavesAll, RefusedLoadLeav
 use Rattle.load_runs.proofs.LaysLaws.{read-lays, load-lays, regions-again}
 
 -- ---- a memory call: where its number is not 0 it was refused, and neither is written
+written : (f : ℕ) (mcb table : List ℕ) (r : Reply) (a : Answer) → (numberOf a ≡ 0 → ⊥)
+    → (cond (succeeded a && ltb f FREE-ALL-MEM) (mcbLaid (r .mcb)) mcb ≡ mcb)
+    × (cond (succeeded a && leb ALLOC-MEM f) (tableLaid (r .table)) table ≡ table)
+written f mcb table r Done n = absurd (n refl)
+written f mcb table r (Refused why) n = (refl, refl)
+
+left : (f : ℕ) (mcb table : List ℕ) (r : Reply) (t : Bool)
+    → (cond t (over MCB-LENGTH mcb table) (writtenBack f mcb table r) .number ≡ 0 → ⊥)
+    → (cond t (over MCB-LENGTH mcb table) (writtenBack f mcb table r) .mcb ≡ mcb)
+    × (cond t (over MCB-LENGTH mcb table) (writtenBack f mcb table r) .table ≡ table)
+unfolding writtenBack
+left f mcb table r true n = (refl, refl)
+left f mcb table r false n = written f mcb table r (r .answer) n
+
 pub refused-call-leaves-all : RefusedCallLeavesAll
-unfolding memoryOver writtenBack
-refused-call-leaves-all f bytes mcb table = whether (mcbRefused f mcb)
-  where
-    r = memoryCall f bytes (tableOf table) (mcbOf mcb)
-
-    written : (a : Answer) → (numberOf a ≡ 0 → ⊥)
-        → (cond (succeeded a && ltb f FREE-ALL-MEM) (mcbLaid (r .mcb)) mcb ≡ mcb)
-        × (cond (succeeded a && leb ALLOC-MEM f) (tableLaid (r .table)) table ≡ table)
-    written Done n = absurd (n refl)
-    written (Refused why) n = (refl, refl)
-
-    whether : (t : Bool)
-        → (cond t (over MCB-LENGTH mcb table) (writtenBack f mcb table r) .number ≡ 0 → ⊥)
-        → (cond t (over MCB-LENGTH mcb table) (writtenBack f mcb table r) .mcb ≡ mcb)
-        × (cond t (over MCB-LENGTH mcb table) (writtenBack f mcb table r) .table ≡ table)
-    whether true n = (refl, refl)
-    whether false n = written (r .answer) n
+unfolding memoryOver
+refused-call-leaves-all f bytes mcb table n = left f mcb table (memoryCall f bytes (tableOf table) (mcbOf mcb)) (mcbRefused f mcb) n
 
 -- ---- a load
 pub refused-load-leaves-all : RefusedLoadLeavesAll
@@ -61,21 +61,20 @@ refused-load-leaves-all s v f table memory = go (load (decoded s) v f (tableOf t
     go (answer.Refused why) q n = (refl, refused-load-alters-nothing (decoded s) v f (tableOf table) memory why q .1)
 
 -- the regions that are read again from the table's bytes are those that were granted
+others : (d : Drive) (v f table memory : List ℕ) → Bytes table → (x : ℕ) (a : LoadAnswer) → load d v f (tableOf table) memory .reply .answer ≡ a
+    → ((i : ℕ)
+    → i < length (newRegions (tableOf table) (tableOf (tableAfter a (load d v f (tableOf table) memory .reply .table) table)))
+    → OutsideOf (getD (newRegions (tableOf table) (tableOf (tableAfter a (load d v f (tableOf table) memory .reply .table) table))) i none) x)
+    → byte (load d v f (tableOf table) memory .memory) x ≡ byte memory x
+others d v f table memory bytes x (answer.Refused why) q h =
+    ap (λ (m : List ℕ). byte m x) (refused-load-alters-nothing d v f (tableOf table) memory why q .1)
+others d v f table memory bytes x (answer.Loaded p) q h =
+    let r = loaded-lasting d v f (tableOf table) memory p q in
+    let l = load-lays d v f (tableOf table) memory (read-lays table bytes) in
+    let e = ap (drop (length (regionsOf (tableOf table)))) (regions-again (length memory) (load d v f (tableOf table) memory .reply .table) l (r .after)) in
+    load-alters-no-other d v f (tableOf table) memory x (rw e at h)
+
 pub load-leaves-others : LoadLeavesOthers
 unfolding loadAtSeam loadBytes
-load-leaves-others s v f table memory bytes x o = go (load d v f t memory .reply .answer) refl o
-  where
-    d = decoded s
-    t = tableOf table
-
-    go : (a : LoadAnswer) → load d v f t memory .reply .answer ≡ a
-        → ((i : ℕ)
-        → i < length (newRegions t (tableOf (tableAfter a (load d v f t memory .reply .table) table)))
-        → OutsideOf (getD (newRegions t (tableOf (tableAfter a (load d v f t memory .reply .table) table))) i none) x)
-        → byte (load d v f t memory .memory) x ≡ byte memory x
-    go (answer.Refused why) q h = ap (λ (m : List ℕ). byte m x) (refused-load-alters-nothing d v f t memory why q .1)
-    go (answer.Loaded p) q h =
-        let r = loaded-lasting d v f t memory p q in
-        let l = load-lays d v f t memory (read-lays table bytes) in
-        let e = ap (drop (length (regionsOf t))) (regions-again (length memory) (load d v f t memory .reply .table) l (r .after)) in
-        load-alters-no-other d v f t memory x (rw e at h)
+load-leaves-others s v f table memory bytes x o =
+    others (decoded s) v f table memory bytes x (load (decoded s) v f (tableOf table) memory .reply .answer) refl o

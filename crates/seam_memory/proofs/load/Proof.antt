@@ -1,5 +1,4 @@
 -- The load over the front in the drive's bytes, sealed.
-use denote.Ref.{now}
 use Rattle.seam_memory.proofs.LoadLaws.{paragraph-low, load-sealed}
 use borrow.Author.Needs.{needs}
 use Rattle.seam_memory.proofs.load.Statement.{statement}
@@ -13,8 +12,7 @@ load-requires c κs = search needs
 
 seal-load-requires : tie.Need-seal-load-requires
 seal-load-requires c κs =
-    let a = c .before .before .before .before .before .before .before .before .args in
-    paragraph-low (now (a .drive)) (now (a .volume)) (now (a .fcb)) (now (a .table)) (now (a .memory)) (c .before .before .before .before .before .front .ensures) (c .before .before .before .before .load .ensures)
+    paragraph-low _ _ _ _ _ (c .before .before .before .before .before .before .before .front .ensures) (c .before .before .before .before .load .ensures)
 
 same-length : tie.Need-same-length
 same-length c = search needs
@@ -24,8 +22,7 @@ same-length-2 c = search needs
 
 returns : tie.Need-returns
 returns c =
-    let a = c .before .before .before .before .before .before .before .before .before .args in
-    load-sealed (now (a .drive)) (now (a .volume)) (now (a .fcb)) (now (a .table)) (now (a .memory)) (c .before .before .before .before .before .before .front .ensures) (c .before .before .before .before .before .load .ensures) (c .seal-load .ensures)
+    load-sealed _ _ _ _ _ (c .before .before .before .before .before .before .before .before .front .ensures) (c .before .before .before .before .before .load .ensures) (c .seal-load .ensures)
 
 pub load-spec : {M : Type 1} → statement M
 load-spec = tie.close (tie.spec front-requires load-requires seal-load-requires same-length same-length-2 returns)
