@@ -1,0 +1,9 @@
+-- The file that gencmd writes loads.
+pub mod GroupLaws
+pub mod HeaderSays
+pub mod HeaderGood
+pub mod ImageHas
+pub mod GrantsExact
+pub mod PutsLaws
+pub mod MemoryHas
+pub mod Theorem
