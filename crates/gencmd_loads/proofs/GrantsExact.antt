@@ -20,6 +20,7 @@ use Rattle.memory_room.specs.declared.Granted.the-variants.{Given, Nowhere}
 use Rattle.memory_room.specs.Starts.{lowestStart, grantAt, grantOf}
 use Rattle.memory_promises.proofs.RoomPlaces.{apart-once}
 use Rattle.load_header.specs.Header.{baseAt, mostAt, need}
+use Rattle.load_promises.specs.Promises.{OutsideOf}
 use Rattle.load_grants.specs.Grants.{followed, grantedTo, grants}
 use Rattle.load_grants.proofs.GrantsLaws.{grants-keep}
 
@@ -59,15 +60,12 @@ module _ (h : List ℕ) (pieces : List Span) where
       go (Given s) q n ih (suc j) b = let z : suc i + j ≡ i + suc j = omega arith in rw (← z) (ih s (omega (arith, n)) j (omega arith))
 
 -- ---- no byte belongs to two regions
-abbrev pub Outside : Span → ℕ → Type 0
-Outside s y = (y + 1 ≤ paragraphBytes * s .start) ⊎ (paragraphBytes * end s ≤ y)
-
 covers-it : (s : Span) (y : ℕ) → paragraphBytes * s .start ≤ y → y < paragraphBytes * end s → covers s (y / paragraphBytes) ≡ true
 unfolding covers
 covers-it s y a b = rw (le-leb (s .start) (y / paragraphBytes) (omega arith), lt-ltb (y / paragraphBytes) (end s) (omega arith))
 
 apart-bytes : (l : List Span) → apart l ≡ true → (i j y : ℕ) → i < length l → j < length l → (i ≡ j → ⊥)
-    → paragraphBytes * getD l i none .start ≤ y → y < paragraphBytes * end (getD l i none) → Outside (getD l j none) y
+    → paragraphBytes * getD l i none .start ≤ y → y < paragraphBytes * end (getD l i none) → OutsideOf (getD l j none) y
 apart-bytes l e i j y a b n c d = go (decLt y (paragraphBytes * getD l j none .start)) (decLt y (paragraphBytes * end (getD l j none)))
   where
     both : paragraphBytes * getD l j none .start ≤ y → y < paragraphBytes * end (getD l j none) → Dec (i < j) → ⊥
@@ -82,7 +80,7 @@ apart-bytes l e i j y a b n c d = go (decLt y (paragraphBytes * getD l j none .s
 
 pub grants-apart : (bytes : ℕ) (h : List ℕ) (pieces regions : List Span) (n : ℕ) → lawful bytes pieces regions ≡ true → length (grants h pieces regions 0 n) ≡ n
     → (i j y : ℕ) → i < n → j < n → (i ≡ j → ⊥) → paragraphBytes * getD (grants h pieces regions 0 n) i none .start ≤ y
-    → y < paragraphBytes * end (getD (grants h pieces regions 0 n) i none) → Outside (getD (grants h pieces regions 0 n) j none) y
+    → y < paragraphBytes * end (getD (grants h pieces regions 0 n) i none) → OutsideOf (getD (grants h pieces regions 0 n) j none) y
 grants-apart bytes h pieces regions n e all i j y a b m c d =
     let l = lawful-facts bytes pieces (regions ++ grants h pieces regions 0 n) (grants-keep bytes h pieces regions 0 n e) in
     let q : length (regions ++ grants h pieces regions 0 n) ≡ length regions + n = rw length-append (omega (arith, all)) in

@@ -13,18 +13,18 @@ use Rattle.memory_spans.specs.declared.Span.{Span}
 use Rattle.memory_spans.specs.Span.{paragraphBytes, none, end}
 use Rattle.load_header.specs.Header.{lengthAt, groups, need, pagePlace, pageParagraphs, imageStart}
 use Rattle.load_grants.proofs.GrantsLaws.{Fits}
+use Rattle.load_promises.specs.Promises.{OutsideOf}
 use Rattle.loading.specs.Page.{pageBytes, basePage, pageStart}
 use Rattle.loading.specs.Laid.{groupImage, groupLaid, laid, withPage}
 use Rattle.loading.proofs.LaidLaws.{start-in}
 use Rattle.loading.proofs.PageLaws.{page-length}
-use Rattle.gencmd_loads.proofs.GrantsExact.{Outside}
 use Rattle.gencmd_loads.proofs.PutsLaws.{puts-length, puts-has}
 
 module _ (h : List ℕ) (granted : List Span) (image memory : List ℕ)
     (whole : paragraphBytes * imageStart h (groups h) ≤ length image)
     (fits : (i : ℕ) → i < groups h → Fits (length memory) h i (getD granted i none))
     (alone : (i j y : ℕ) → i < groups h → j < groups h → (i ≡ j → ⊥) → paragraphBytes * getD granted i none .start ≤ y → y < paragraphBytes * end (getD granted i none)
-    → Outside (getD granted j none) y)
+    → OutsideOf (getD granted j none) y)
     (page : pagePlace h < groups h) (paged : pageParagraphs ≤ need h (pagePlace h)) where
   abbrev region : ℕ → Span
   region i = getD granted i none
@@ -47,7 +47,7 @@ module _ (h : List ℕ) (granted : List Span) (image memory : List ℕ)
   others : (i x : ℕ) → i < groups h → x < size i → (j : ℕ) → j < groups h → (i ≡ j → ⊥) → (at i + x + 1 ≤ at j) ⊎ (at j + size j ≤ at i + x)
   others i x l k j m n = go (alone i j (at i + x) l m n (omega arith) (let f = fits i l in omega (arith, f .enough)))
     where
-      go : Outside (region j) (at i + x) → (at i + x + 1 ≤ at j) ⊎ (at j + size j ≤ at i + x)
+      go : OutsideOf (region j) (at i + x) → (at i + x + 1 ≤ at j) ⊎ (at j + size j ≤ at i + x)
       go (inl a) = inl a
       go (inr a) = let f = fits j m in inr (omega (arith, f .enough))
 
@@ -67,7 +67,7 @@ module _ (h : List ℕ) (granted : List Span) (image memory : List ℕ)
       → (at i + x + 1 ≤ at (pagePlace h)) ⊎ (at (pagePlace h) + pageBytes ≤ at i + x)
   off-page i x l k o = go (ℕ-discrete i (pagePlace h))
     where
-      away : Outside (region (pagePlace h)) (at i + x) → (at i + x + 1 ≤ at (pagePlace h)) ⊎ (at (pagePlace h) + pageBytes ≤ at i + x)
+      away : OutsideOf (region (pagePlace h)) (at i + x) → (at i + x + 1 ≤ at (pagePlace h)) ⊎ (at (pagePlace h) + pageBytes ≤ at i + x)
       away (inl a) = inl a
       away (inr a) = inr (omega (arith, page-room))
 
