@@ -86,7 +86,7 @@ def constants_in(source, patterns, between):
 
 def lengths_in(source):
     """a name's length is that of a line but for its siglum"""
-    (line,) = set(re.findall(r"\bconst LINE_BYTES: usize = (\d+);", source))
+    (line,) = set(re.findall(r"\bpub const LINE_BYTES: usize = (\d+);", source))
     (siglum,) = set(re.findall(r"\bconst NAME_AT: usize = (\d+);", source))
     return [f"NAME_BYTES {int(line) - int(siglum)}"] + constants_in(source, LENGTHS, " ")
 
