@@ -1,5 +1,5 @@
 -- A run at the seam is one at the door, so what holds of a replacement after it holds of the exported function.
-use mathlib.Core.Path.{_≡_, refl, ap, _∙_}
+use mathlib.Core.Path.{_≡_, refl, ap, _∙_, subst}
 use mathlib.Core.List.{List}
 use Prim.Native.Nat.{ℕ}
 use lib.ListN.{length}
@@ -48,12 +48,14 @@ columns-at-seam g law v size ok s e cs small lent fcb chapter old new old16 new1
     let kept = demand3-at-seam g law v size ok s e cs small closed .kept in
     let x : ByColumn (decoded (driveLeft g v s cs)) (volumeLeft g v s cs) fcb chapter old new
     = rw (run .state-is, run .volume-is) (sigla-by-column g law v size ok logsIn is-log-in cs (bytes-lent cs small) closed (rw (run .volume-is) at lent) fcb chapter old new old16 new16) in
-    let after = sound-after (decoded (driveLeft g v s cs)) (volumeLeft g v s cs) fcb chapter old new x in
+    let d = decoded (driveLeft g v s cs) in
+    let w = volumeLeft g v s cs in
+    let after = sound-after d w fcb chapter old new x in
     record {
       leaves = refl;
       by-column = x;
       accepts-again = λ t q.
           log-in-answer g _ t q
           ∙ ap (λ (r : Reply). answered (r .answer))
-          (log-in-is g law _ (after .size ∙ kept .length-kept ∙ size) (accepted-sound g _ (rw (← ready .geometry-is) (after .good))));
+          (log-in-is g law _ (after .size ∙ kept .length-kept ∙ size) (accepted-sound g _ (subst (λ (h : Geometry). lowestBad h (replacement d w fcb chapter old new .volume) ≡ slots h) (ready .geometry-is) (after .good))));
     }
