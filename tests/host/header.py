@@ -4,6 +4,7 @@
 # failed', and the exit status is 0 only where M is 0.
 import re
 import sys
+from functools import cache
 from itertools import zip_longest
 from pathlib import Path
 
@@ -39,7 +40,7 @@ CALLS = {"LogIn": ["RESET", "RESET_DRIVE"], "Protect": ["WRITE_PROTECT"]}
 REFUSALS = {"BadCount": "COUNT", "NoRoom": "NO_MATCH"}
 
 
-# ---- the source
+# ---- the source, worked out once for all copies of the header
 
 
 def in_order(file):
@@ -64,6 +65,7 @@ def in_c(parameter):
     return [f"{NUMBERS.get(kind, kind)} {name}"]
 
 
+@cache
 def exported(source):
     """what each exported function returns and takes, in the words of C"""
     functions = {}
@@ -84,6 +86,7 @@ def constants_in(source, patterns, between):
     return lines
 
 
+@cache
 def lengths_in(source):
     """a name's length is that of a line but for its siglum"""
     (line,) = set(re.findall(r"\bpub const LINE_BYTES: usize = (\d+);", source))
@@ -91,6 +94,7 @@ def lengths_in(source):
     return [f"NAME_BYTES {int(line) - int(siglum)}"] + constants_in(source, LENGTHS, " ")
 
 
+@cache
 def desk_in(source):
     return constants_in(source, DESK, " = ")
 
@@ -114,6 +118,7 @@ def spelled(variant):
     return re.sub(r"(?<=[a-z])(?=[A-Z])", "_", variant).upper()
 
 
+@cache
 def calls_in(source):
     """the numbers that call_of knows, rising"""
     named = {}
@@ -125,6 +130,7 @@ def calls_in(source):
     return [f"{name} = {number}" for number, name in sorted(named.items())]
 
 
+@cache
 def refusals_in(source, function, of=""):
     """the numbers of refusal that a function knows, in the source's order; None is no refusal"""
     lines = []
@@ -135,22 +141,26 @@ def refusals_in(source, function, of=""):
     return list(dict.fromkeys(lines))
 
 
+@cache
 def placings_in(source):
     """how records lie, by the geometry's constants"""
     return [f"{name} = {number}" for name, number in re.findall(r"const (STRAIGHT|EIGHT_INCH): usize = (\d+);", source)]
 
 
+@cache
 def shelved_in(source):
     """the numbers of a shelf's answer"""
     return [f"{spelled(re.match(r'Shelved::([A-Za-z]+)', case)[1])} = {number}" for case, number in arms(source, "shelved_number")]
 
 
+@cache
 def memory_calls_in(source):
     """the numbers of the memory calls, by their names, and load, which stands behind them"""
     named = re.findall(r"\bpub const (\w+_MEM|GET_ABS_MAX): u8 = (\d+);", source)
     return [f"{name} = {number}" for name, number in named] + [f"PROGRAM_LOAD = {int(named[-1][1]) + 1}"]
 
 
+@cache
 def memory_refusals_in(source):
     """the numbers of load's own refusals in the source's order, and then those that the memory calls have beside them"""
     both = arms(source, "load_refusal_number") + arms(source, "memory_refusal_number")
@@ -158,6 +168,7 @@ def memory_refusals_in(source):
     return [line for line in dict.fromkeys(lines) if not line.startswith("NOT_SERVED")]
 
 
+@cache
 def halves_in(source):
     """the mask of the number and the shifts of value and length, by what these are multiplied with"""
     (value,) = set(map(int, re.findall(r"number \+ (\d+) \* value", source)))
@@ -166,6 +177,7 @@ def halves_in(source):
     return [f"NUMBER: & {value - 1}"] + shifts
 
 
+@cache
 def told_in(source):
     """the number, which list, and where the name begins, by what these are multiplied with"""
     (lists,) = map(int, re.findall(r"Where::House\(\w+\) => (\d+) \+ high", source))
