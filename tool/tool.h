@@ -69,7 +69,7 @@ struct geometry {
 };
 
 struct options;
-// By -g and -f, else by the environment, else by the image's length.
+// A floppy's by its length; else by -g and -f, by the environment, or V's by its length.
 struct geometry geometry_of_image(const struct options *options, const char *image, uint64_t image_bytes);
 // The same, and V's for an image of another length, which log-in then refuses.
 struct geometry geometry_or_v(const struct options *options, uint64_t image_bytes);

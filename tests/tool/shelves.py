@@ -69,6 +69,9 @@ def floppy(desk):
     desk.done("an eight-inch floppy", "shelf", "FLOPPY.IMG", out=alone)
     desk.done("an eight-inch floppy, by -f", "shelf", "-f", "eight-inch", "FLOPPY.IMG", out=alone)
     desk.done("an eight-inch floppy beside another kind of disk", "shelf", "THREE.IMG", "FLOPPY.IMG", out=beside)
+    desk.done("an eight-inch floppy beside a hard disk", "shelf", "-g", "2048,257,1", "HARD.IMG", "FLOPPY.IMG", out=shown(0, 2, 2, 33, 4, 493, 15))
+    environment = {"CHURAWEL_GEOMETRY": "2048,257,1"}
+    desk.done("the same by the environment", "shelf", "FLOPPY.IMG", "HARD.IMG", out=shown(0, 2, 2, 33, 4, 493, 15), environment=environment)
 
 
 def refused_images(desk):
