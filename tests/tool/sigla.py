@@ -175,6 +175,26 @@ def elsewhere(desk):
     desk.same("replace on a floppy: every byte", desk.read("F.IMG"), bytes(skewed(laid, noise)))
 
 
+def lists_elsewhere(desk):
+    """lists on a hard disk, whose block number takes two bytes, and on a floppy, in two blocks; both in one command"""
+    geometry, block = (2048, 300, 1), 257
+    hard = volume(geometry, {3: entry(user=15, name="SIGLA.LST", rc=1, blocks=[block], geometry=geometry)})
+    hard[2048 * block:2048 * block + 128] = OWN.ljust(128, b"\0")
+    desk.write("H.IMG", hard)
+    laid = volume(FLOPPY, {9: entry(name="HOUSE.LST", rc=9, blocks=[240, 17])})
+    lines = b"".join(line_of(f"{k:02}", f"manuscript {k}") for k in range(33)) + HOUSE
+    laid[1024 * 240:1024 * 241] = lines[:1024]
+    laid[1024 * 17:1024 * 17 + 128] = lines[1024:]
+    desk.write("F.IMG", skewed(laid, bytes(FLOPPY_BYTES)))
+    own, house = "H.IMG:15:sigla.lst", "F.IMG:house.lst"
+    said = f"A: Codex Ambrosianus A 138 sup. (own list, {own})\n".encode()
+    desk.done("a list on a hard disk", "who", "-g", "2048,300,1", "A", own, out=said)
+    desk.done("a list on a hard disk, and one on a floppy", "who", "-g", "2048,300,1", "B", own, house,
+              out=f"B: Bruxellensis 5092 (house list, {house})\n".encode())
+    for siglum, name in (("00", "manuscript 0"), ("31", "manuscript 31"), ("32", "manuscript 32"), ("Be", "the house's Bernensis")):
+        desk.done(f"{siglum} in a list on a floppy", "who", siglum, house, out=f"{siglum}: {name} (own list, {house})\n".encode())
+
+
 def run(tally):
     desk = Desk(tally, "sigla")
     names(desk)
@@ -182,3 +202,4 @@ def run(tally):
     replacing(desk)
     causes(desk)
     elsewhere(desk)
+    lists_elsewhere(desk)
