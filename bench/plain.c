@@ -740,8 +740,9 @@ static uint32_t write_record(const struct work *w, bool sequential, bool fills)
     return 0;
 }
 
-// k single calls, each with its own piece of the buffer, up to the first that is refused; how many were done is the value.
-static uint32_t several_records(const struct work *lent, uint32_t k, bool writes)
+// k single calls, each with its own piece of the buffer, up to the first that is refused; how many were done is the value. It is called, and
+// not in the dispatcher's own code, so that the single calls stay as short as they are without it.
+__attribute__((noinline)) static uint32_t several_records(const struct work *lent, uint32_t k, bool writes)
 {
     struct work pieces = *lent, *w = &pieces;
     uint32_t why = test_lent(w, VOLUME_LENT | FCB_LENT), done = 0;
@@ -835,7 +836,6 @@ uint32_t plain_call(uint8_t function, uint8_t parameter, uint8_t *drive, size_t 
     case 35: return file_size(&w);
     case 36: return set_random_record(&w);
     case 40: return write_record(&w, false, true);
-    // Apart, so that the others stay one table.
     default: return function == 220 || function == 221 ? several_records(&w, parameter, function == 221) : NOT_SERVED;
     }
 }
