@@ -81,11 +81,12 @@ static bool is_known(const struct options *options, uint64_t image_bytes, struct
     return known || image_bytes == bytes_of(geometry);
 }
 
-struct geometry geometry_or_v(const struct options *options, uint64_t image_bytes)
+bool geometry_of_one(const struct options *options, uint64_t image_bytes, struct geometry *geometry)
 {
-    struct geometry geometry;
-    is_known(options, image_bytes, &geometry);
-    return geometry;
+    bool known = is_known(options, image_bytes, geometry);
+    if (image_bytes != bytes_of(geometry) && image_bytes == bytes_of(&V))
+        *geometry = V;
+    return known;
 }
 
 struct geometry geometry_of_image(const struct options *options, const char *image, uint64_t image_bytes)

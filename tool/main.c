@@ -33,7 +33,9 @@ const struct command COMMANDS[] = {
     {"shelf", "IMAGE ..", "gfh", 1, INT_MAX, false,
      "Says what many disks hold together: refused disks; of the others files, entries, records, blocks held and free, waste.\n"
      "Waste is how many more records their blocks have room for. Then for each refused disk why it is refused.\n"
-     "An image that can't be read is not counted, and the exit status is then 1.",
+     "The disks may be of several kinds: -g is for those whose length it fits, or that are not known by their length.\n"
+     "An image that can't be read is not counted, nor is one behind the 65535th, and the exit status is then 1. A refused disk is\n"
+     "counted as such, and leaves it 0.",
      shelf},
     {"get", "IMAGE FILE [OUT]", "gftRGh", 2, 3, false,
      "Copies a file of the disk to a file of this machine.\n"
