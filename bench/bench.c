@@ -219,6 +219,7 @@ static void taking_table(const char *where, int alone)
         printf("  ");
         for (size_t k = 0; k < 4; k++) {
             taking = &takings[4 * alone + k];
+            job_function = 34;
             same &= check_taking();
             cell(start_taking, taking_job);
         }
@@ -275,6 +276,7 @@ static void compare_bytes(void)
         int same = check_pass();
         for (size_t k = 0; k < sizeof takings / sizeof *takings; k++) {
             taking = &takings[k];
+            job_function = 34;
             same &= check_taking();
         }
         for (uint8_t function = 20; function <= 21; function++) {

@@ -1,9 +1,11 @@
-// The same pieces of work as in bench.c, each done once on either side between two marks of the plugin instructions.c, and a chapter
-// whose siglum is replaced. A line for each piece on standard output, `label work blocks slots side`, names what the label's count
-// means. What a shelf costs stands beside the proved log-in.
+// The same pieces of work as in bench.c and every other call, each done once on either side between two marks of the plugin
+// instructions.c; both must leave the same bytes. A line for each piece on standard output, `label work blocks slots side`, names what the
+// label's count means. What a shelf costs stands beside the proved log-in, and a cut, a load and a chapter whose siglum is replaced
+// beside the proved calls that they need.
 #define _GNU_SOURCE
 #include "churawel.h"
 #include "jobs.h"
+#include "load.h"
 #include "plain.h"
 #include "sigla.h"
 
@@ -49,6 +51,16 @@ static const struct piece pieces[] = {
     {"write-block-gap", start_taking, taking_job, 34, &takings[2]},
     {"write-block-below", start_taking, taking_job, 34, &takings[3]},
     {"size", start_at_last_file, call_job, 35, 0},
+    {"reset", start_anew, call_job, 13, 0},
+    {"read-sequential", start_at_position, call_job, 20, 0},
+    {"write-sequential", start_at_position, call_job, 21, 0},
+    {"read-sixteen", start_at_sixteen, sixteen_job, 20, 0},
+    {"write-sixteen", start_at_sixteen, sixteen_job, 21, 0},
+    {"write-zero-fill", start_at_end, call_job, 40, 0},
+    {"zero-fill-block", start_taking, taking_job, 40, &takings[1]},
+    {"write-protect", start_anew, call_job, 28, 0},
+    {"user", start_anew, call_job, 32, 0},
+    {"set-random", start_at_position, call_job, 36, 0},
 };
 
 // Block size, blocks and directory blocks: 32, 128, 256 and 2,048 slots of 256 blocks; and the two hard disks of 8 MiB with as many
@@ -62,16 +74,44 @@ static void mark(long number)
     syscall(SYS_getpriority, MARK, number);
 }
 
+// What was counted last: this work on this volume, done in this way.
+static void note(const char *work, const char *name)
+{
+    printf("%ld %s %u %u %s\n", label, work, full.total, full.slots, name);
+}
+
+static void expect(int good, const char *what, const char *wrong)
+{
+    if (!good) {
+        fprintf(stderr, "%s: %s at %u slots\n", what, wrong, full.slots);
+        exit(1);
+    }
+}
+
 // One piece of work on the shelf as it is.
 static void count(const struct piece *piece, const struct side *side, const char *name)
 {
     job_function = piece->function;
     taking = piece->taking;
     piece->before(side);
+    sink = 0;
     mark(0);
     piece->job(side, 1);
     mark(++label);
-    printf("%ld %s %u %u %s\n", label, piece->work, full.total, full.slots, name);
+    note(piece->work, name);
+}
+
+// The piece on both sides; both leave the same.
+static void count_both(const struct piece *piece)
+{
+    static struct shelf after;
+    count(piece, &sides[0].side, sides[0].name);
+    struct desk lent = desk;
+    uint64_t answers = sink;
+    copy_shelf(&after, &work);
+    count(piece, &sides[1].side, sides[1].name);
+    int same = memcmp(&lent, &desk, sizeof desk) == 0 && answers == sink && memcmp(after.volume, work.volume, work.bytes) == 0;
+    expect(same, piece->work, "the two sides differ");
 }
 
 // The proved calls on an eight-inch floppy, and on the straight volume of the same numbers.
@@ -100,16 +140,61 @@ static void count_shelf(void)
         mark(0);
         log_in_job(&sides[0].side, 1);
         mark(++label);
-        printf("%ld %s %u %u log-in\n", label, shelved[i].work, full.total, full.slots);
+        note(shelved[i].work, "calls");
         mark(0);
         uint32_t answer = churawel_shelf(shelf, sizeof shelf, work.block, work.total, work.directory, work.placing, work.volume, work.bytes);
         mark(++label);
-        printf("%ld %s %u %u shelf\n", label, shelved[i].work, full.total, full.slots);
-        if (answer != 0) {
-            fprintf(stderr, "%s: the volume of %u slots is refused\n", shelved[i].work, full.slots);
-            exit(1);
-        }
+        note(shelved[i].work, "proved");
+        expect(answer == 0, shelved[i].work, "the volume is refused");
     }
+}
+
+// A write cut after more stores than it has, beside the write itself; both leave the same volume.
+static void count_cut(const struct piece *write)
+{
+    static struct shelf after;
+    count(write, &sides[0].side, "calls");
+    copy_shelf(&after, &work);
+    write->before(&sides[0].side);
+    mark(0);
+    uint32_t answer = churawel_cut(UINT32_MAX, write->function, 0, desk.drive, drive_bytes(&work), work.volume, work.bytes, desk.fcb,
+                                   sizeof desk.fcb, desk.buffer, sizeof desk.buffer);
+    mark(++label);
+    note(write->work, "proved");
+    expect(CHURAWEL_NUMBER(answer) == 0 && memcmp(after.volume, work.volume, work.bytes) == 0, write->work, "the cut differs from the write");
+}
+
+// A program loaded, beside the size and the reads that it needs; both leave the same image in the memory.
+static void count_load(void)
+{
+    static uint8_t image[LOADED_BYTES];
+    lay_program();
+    mark(0);
+    load_by_load();
+    mark(++label);
+    note("load", "proved");
+    memcpy(image, loaded(), sizeof image);
+    lay_program();
+    mark(0);
+    load_by_calls();
+    mark(++label);
+    note("load", "calls");
+    expect(memcmp(image, loaded(), sizeof image) == 0, "load", "the calls load another image");
+}
+
+// The writes that are cut, in place and with a block that is taken.
+static const struct piece cut_writes[] = {
+    {"cut-write", start_at_end, call_job, 34, 0},
+    {"cut-write-block", start_taking, taking_job, 34, &takings[1]},
+};
+
+// What is held to no plain C: a shelf, a cut and a load.
+static void count_beside_calls(void)
+{
+    count_shelf();
+    for (size_t i = 0; i < sizeof cut_writes / sizeof *cut_writes; i++)
+        count_cut(&cut_writes[i]);
+    count_load();
 }
 
 // A directory full of sixteen files' entries without blocks in the worst order for a fresh disk: each file's highest extent first, and
@@ -142,30 +227,45 @@ static void count_fresh(const char *name, void (*lay)(struct shelf *))
         mark(0);
         answers[s] = copies[s](work.block, work.total, work.directory, work.placing, work.volume, work.bytes, second[s], work.bytes);
         mark(++label);
-        printf("%ld %s %u %u %s\n", label, name, full.total, full.slots, sides[s].name);
+        note(name, sides[s].name);
     }
-    if (answers[0] % 65536 != 0 || answers[0] != answers[1] || memcmp(second[0], second[1], work.bytes) != 0) {
-        fprintf(stderr, "%s: the two sides differ at %u slots\n", name, full.slots);
-        exit(1);
+    int same = answers[0] % 65536 == 0 && answers[0] == answers[1] && memcmp(second[0], second[1], work.bytes) == 0;
+    expect(same, name, "the two sides differ");
+}
+
+// The ways in which a chapter's siglum is replaced: by the desk, by calls that test everything first, and by calls that do not.
+static const struct {
+    const char *name;
+    void (*replace)(void);
+} ways[] = {{"desk", replace_by_desk}, {"tested", replace_by_calls}, {"once", replace_untested}};
+
+// Where one record in so many has it, and the file's entries stand in these slots; all ways leave the same bytes.
+static void chapter(const char *what, unsigned one_in, const uint32_t slots[2])
+{
+    static struct shelf after;
+    for (size_t k = 0; k < sizeof ways / sizeof *ways; k++) {
+        lay_chapter(one_in, slots);
+        mark(0);
+        ways[k].replace();
+        mark(++label);
+        note(what, ways[k].name);
+        if (k == 0)
+            copy_shelf(&after, &work);
+        expect(memcmp(after.volume, work.volume, work.bytes) == 0, what, "desk and calls leave different bytes");
     }
 }
 
-// The siglum of a chapter replaced by the desk and by calls, where one record in so many has it; both leave the same bytes.
-static int chapter(const char *what, unsigned one_in)
+// One record in eight and every record, each with the entries far from each other, first and last.
+static void count_chapters(void)
 {
-    static struct shelf after;
-    lay_chapter(one_in);
-    mark(0);
-    replace_by_desk();
-    mark(++label);
-    printf("%ld %s %u %u desk\n", label, what, work.total, work.slots);
-    after = work;
-    lay_chapter(one_in);
-    mark(0);
-    replace_by_calls();
-    mark(++label);
-    printf("%ld %s %u %u calls\n", label, what, work.total, work.slots);
-    return memcmp(after.volume, work.volume, work.bytes) == 0;
+    fill_shelf(&full, 4096, 256, 2);
+    const uint32_t apart[] = {0, full.slots - 1}, first[] = {0, 1}, last[] = {full.slots - 2, full.slots - 1};
+    chapter("one-in-eight:first-and-last", 8, apart);
+    chapter("one-in-eight:first-two", 8, first);
+    chapter("one-in-eight:last-two", 8, last);
+    chapter("every-record:first-and-last", 1, apart);
+    chapter("every-record:first-two", 1, first);
+    chapter("every-record:last-two", 1, last);
 }
 
 int main(void)
@@ -173,18 +273,14 @@ int main(void)
     for (size_t k = 0; k < sizeof shapes / sizeof *shapes; k++) {
         fill_shelf(&full, shapes[k][0], shapes[k][1], shapes[k][2]);
         for (size_t i = 0; i < sizeof pieces / sizeof *pieces; i++)
-            for (size_t s = 0; s < sizeof sides / sizeof *sides; s++)
-                count(&pieces[i], &sides[s].side, sides[s].name);
-        count_shelf();
+            count_both(&pieces[i]);
+        count_beside_calls();
         count_fresh("fresh", fill_directory);
         count_fresh("fresh-disorder", disorder);
     }
     count_floppy();
     // The volume is a floppy still.
-    count_shelf();
-    fill_shelf(&full, 4096, 256, 2);
-    if (chapter("one-in-eight", 8) && chapter("every-record", 1))
-        return 0;
-    puts("desk and calls leave different bytes");
-    return 1;
+    count_beside_calls();
+    count_chapters();
+    return 0;
 }

@@ -1,7 +1,9 @@
 /*
  * A plugin for QEMU's user emulator that counts instructions of the program it runs: the same number on every machine. A program
  * asks for the count by the system call getpriority(MARK, label), which prints `MARK label count` with the instructions since
- * the last such call. QEMU's own header for plugins is not always installed, so what is used of it is declared here.
+ * the last such call. Each instruction is counted by itself: a block that QEMU translates may also number the instruction behind
+ * it, where that goes over the end of a page, so a count of blocks would depend on where the linker puts code. QEMU's own header for
+ * plugins is not always installed, so what is used of it is declared here.
  */
 #include <inttypes.h>
 #include <stdint.h>
@@ -9,6 +11,7 @@
 
 typedef uint64_t qemu_plugin_id_t;
 struct qemu_plugin_tb;
+struct qemu_plugin_insn;
 struct qemu_info;
 enum { INLINE_ADD = 0, GETPRIORITY = 140, MARK = 77 };
 
@@ -17,7 +20,8 @@ typedef void call_callback(qemu_plugin_id_t, unsigned, int64_t, uint64_t, uint64
                            uint64_t);
 
 void qemu_plugin_register_vcpu_tb_trans_cb(qemu_plugin_id_t, block_callback *);
-void qemu_plugin_register_vcpu_tb_exec_inline(struct qemu_plugin_tb *, int, void *, uint64_t);
+struct qemu_plugin_insn *qemu_plugin_tb_get_insn(const struct qemu_plugin_tb *, size_t);
+void qemu_plugin_register_vcpu_insn_exec_inline(struct qemu_plugin_insn *, int, void *, uint64_t);
 size_t qemu_plugin_tb_n_insns(const struct qemu_plugin_tb *);
 void qemu_plugin_register_vcpu_syscall_cb(qemu_plugin_id_t, call_callback *);
 
@@ -27,7 +31,8 @@ static uint64_t count, last;
 static void translated(qemu_plugin_id_t id, struct qemu_plugin_tb *block)
 {
     (void)id;
-    qemu_plugin_register_vcpu_tb_exec_inline(block, INLINE_ADD, &count, qemu_plugin_tb_n_insns(block));
+    for (size_t k = 0; k < qemu_plugin_tb_n_insns(block); k++)
+        qemu_plugin_register_vcpu_insn_exec_inline(qemu_plugin_tb_get_insn(block, k), INLINE_ADD, &count, 1);
 }
 
 static void called(qemu_plugin_id_t id, unsigned processor, int64_t number, uint64_t a, uint64_t b, uint64_t c, uint64_t d, uint64_t e,

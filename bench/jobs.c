@@ -74,14 +74,24 @@ void start_at_end(const struct side *side)
     at_record(128 * last_extent() + last_entry()[15] - 1);
 }
 
-// The sequential position of the sixteenth record from the end of the last file.
-void start_at_sixteen(const struct side *side)
+// The sequential position of the record so many before the last of the last file.
+static void start_before_end(const struct side *side, uint32_t records)
 {
     start_at_end(side);
-    uint32_t n = desk.fcb[33] + 256u * desk.fcb[34] - (SEVERAL - 1);
+    uint32_t n = desk.fcb[33] + 256u * desk.fcb[34] - records;
     desk.fcb[12] = n / 128 % 32;
     desk.fcb[14] = (uint8_t)(n / 128 / 32);
     desk.fcb[32] = n % 128;
+}
+
+void start_at_position(const struct side *side)
+{
+    start_before_end(side, 0);
+}
+
+void start_at_sixteen(const struct side *side)
+{
+    start_before_end(side, SEVERAL - 1);
 }
 
 // Sixteen records by one call, and by sixteen calls; the position is put back each time.
@@ -139,7 +149,7 @@ void taking_job(const struct side *side, unsigned times)
     while (times-- > 0) {
         memcpy(desk.drive, drive_before, sizeof desk.drive);
         memcpy(last_entry(), entry_before, ENTRY);
-        sink += side->call(34, 0, desk.drive, drive_bytes(&work), work.volume, work.bytes, desk.fcb, sizeof desk.fcb,
+        sink += side->call(job_function, 0, desk.drive, drive_bytes(&work), work.volume, work.bytes, desk.fcb, sizeof desk.fcb,
                            desk.buffer, sizeof desk.buffer);
     }
 }

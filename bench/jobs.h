@@ -25,9 +25,9 @@ void call_job(const struct side *side, unsigned times);
 void sixteen_job(const struct side *side, unsigned times);
 void singles_job(const struct side *side, unsigned times);
 
-// A write that takes a block: for this place of the last entry, or for its last one if it has not so many, whose map has nothing else but, in a lower place (none where it
-// is the same), the block that it began with or the highest of the disk, which has no free one above it; on the nearly full
-// disk, or where no other entry has a block.
+// A write that takes a block: for this place of the last entry, or for its last one if it has not so many, whose map has nothing else
+// but, in a lower place (none where it is the same), the block that it began with or the highest of the disk, which has no free one
+// above it; on the nearly full disk, or where no other entry has a block.
 struct taking {
     uint32_t place, lower;
     int highest, alone;
@@ -38,6 +38,7 @@ void taking_job(const struct side *side, unsigned times);
 // What goes before: the volume as it was laid out, logged in, and a control block for the call.
 void start_anew(const struct side *side);
 void start_at_end(const struct side *side);
+void start_at_position(const struct side *side);
 void start_at_sixteen(const struct side *side);
 void start_at_nothing(const struct side *side);
 void start_taking(const struct side *side);

@@ -5,7 +5,7 @@
 #include <stdbool.h>
 #include <string.h>
 
-enum { FCB = 36, RECORD = 128, ENTRY = 32, NAME = 11, MAP_BYTES = 16, EMPTY = 0xE5, ANY = 0x3F };
+enum { FCB = 36, RECORD = 128, RECORDS_MOST = 16, ENTRY = 32, NAME = 11, MAP_BYTES = 16, EMPTY = 0xE5, ANY = 0x3F };
 
 // The most blocks whose numbers take one byte, and bytes of a drive and of its held bits up to so many blocks and above.
 enum { NARROW = 256, DRIVE = 64, WIDE_DRIVE = 544, HELD = 32, WIDE_HELD = 512 };
@@ -39,6 +39,7 @@ enum {
     EXISTS = 43,
     BAD_USER = 44,
     UNTYPEABLE = 45,
+    BAD_COUNT = 46,
     NO_MATCH = 255
 };
 
@@ -739,6 +740,25 @@ static uint32_t write_record(const struct work *w, bool sequential, bool fills)
     return 0;
 }
 
+// k single calls, each with its own piece of the buffer, up to the first that is refused; how many were done is the value. It is called, and
+// not in the dispatcher's own code, so that the single calls stay as short as they are without it.
+__attribute__((noinline)) static uint32_t several_records(const struct work *lent, uint32_t k, bool writes)
+{
+    struct work pieces = *lent, *w = &pieces;
+    uint32_t why = test_lent(w, VOLUME_LENT | FCB_LENT), done = 0;
+    if (why != 0)
+        return why;
+    if (k < 1 || k > RECORDS_MOST)
+        return BAD_COUNT;
+    if (w->buffer_bytes != k * RECORD)
+        return BUFFER_LENGTH;
+    w->buffer_bytes = RECORD;
+    for (; done < k; done++, w->buffer += RECORD)
+        if ((why = writes ? write_record(w, true, false) : read_record(w, true)) != 0)
+            break;
+    return why | done << 16;
+}
+
 static uint32_t file_size(const struct work *w)
 {
     uint32_t why = test_named(w, VOLUME_LENT | FCB_LENT, false);
@@ -816,6 +836,6 @@ uint32_t plain_call(uint8_t function, uint8_t parameter, uint8_t *drive, size_t 
     case 35: return file_size(&w);
     case 36: return set_random_record(&w);
     case 40: return write_record(&w, false, true);
-    default: return NOT_SERVED;
+    default: return function == 220 || function == 221 ? several_records(&w, parameter, function == 221) : NOT_SERVED;
     }
 }

@@ -1,44 +1,16 @@
-// A chapter of 1,000 records whose siglum is replaced: by the desk in one call, and by the reads and writes that it needs through the
-// same seam: its contents and each record read once, and each that matches written once.
+// A chapter of 1,000 records whose siglum is replaced: by the desk in one call, and by reads and writes through the same seam.
 #include "sigla.h"
 
-#include "churawel.h"
-#include "jobs.h"
+#include "calls.h"
 
-#include <stdio.h>
-#include <stdlib.h>
 #include <string.h>
 
 enum { RECORDS = 1000, CHAPTER = 5, OLD = 'A' + 256 * ' ', NEW = 'C' + 256 * ' ', DELETE = 19, MAKE = 22, READ = 33, WRITE = 34 };
 
 static const char collation[] = "COLLATIOTXT";
 
-static uint32_t ask(uint8_t function)
-{
-    return churawel_call(function, 0, desk.drive, drive_bytes(&work), work.volume, work.bytes, desk.fcb, sizeof desk.fcb, desk.buffer,
-                         sizeof desk.buffer);
-}
-
-static void must(int good, const char *what)
-{
-    if (!good) {
-        printf("%s is refused\n", what);
-        exit(1);
-    }
-}
-
-static void log_in(void)
-{
-    uint32_t answer = churawel_log_in(work.block, work.total, work.directory, work.placing, work.volume, work.bytes, desk.drive, drive_bytes(&work));
-    must(CHURAWEL_NUMBER(answer) == 0, "the volume");
-}
-
-static void at(unsigned n)
-{
-    desk.fcb[33] = (uint8_t)n;
-    desk.fcb[34] = (uint8_t)(n >> 8);
-    desk.fcb[35] = 0;
-}
+// How many records of the chapter match.
+static unsigned matching;
 
 // Record n: the contents, or a reading.
 static void lay_record(unsigned n, unsigned one_in)
@@ -64,10 +36,9 @@ static void exchange(uint32_t one, uint32_t other)
     memcpy(entry_at(other), entry, ENTRY);
 }
 
-// The file's entries go to the first slot and to the last.
-static void spread(void)
+// The file's entries go to these slots.
+static void place_entries(const uint32_t to[2])
 {
-    uint32_t to[] = {0, work.slots - 1};
     size_t found = 0;
     for (uint32_t slot = 0; slot < work.slots && found < 2; slot++)
         if (memcmp(entry_at(slot) + 1, collation, NAME) == 0)
@@ -75,11 +46,12 @@ static void spread(void)
     must(found == 2, "a file in two entries");
 }
 
-void lay_chapter(unsigned one_in)
+void lay_chapter(unsigned one_in, const uint32_t slots[2])
 {
     work = full;
+    matching = RECORDS / one_in;
     memset(&desk, 0, sizeof desk);
-    log_in();
+    log_in_proved();
     for (unsigned file = FILES - 1; file <= FILES; file++) {
         band_name(desk.fcb + 1, file);
         must(ask(DELETE) == 0, "delete");
@@ -91,23 +63,56 @@ void lay_chapter(unsigned one_in)
         at(n);
         must(ask(WRITE) == 0, "a write");
     }
-    spread();
-    log_in();
+    place_entries(slots);
+    log_in_proved();
 }
 
 void replace_by_desk(void)
 {
-    sink += churawel_replace_siglum(desk.drive, drive_bytes(&work), work.volume, work.bytes, desk.fcb, sizeof desk.fcb, CHAPTER, OLD, NEW);
+    uint32_t answer = churawel_replace_siglum(desk.drive, drive_bytes(&work), work.volume, work.bytes, desk.fcb, sizeof desk.fcb, CHAPTER, OLD, NEW);
+    must(answer == matching << 16, "the replacement");
+}
+
+static void read_record(unsigned n)
+{
+    at(n);
+    sink += ask(READ);
+}
+
+static int matches(unsigned n)
+{
+    read_record(n);
+    return n > 0 && memcmp(desk.buffer, "A ", 2) == 0;
+}
+
+// The record that was read last is written with the new siglum.
+static void rewrite(void)
+{
+    desk.buffer[0] = 'C';
+    sink += ask(WRITE);
+}
+
+static uint8_t marks[RECORDS + 1];
+
+static void mark_matching(void)
+{
+    for (unsigned n = 0; n <= RECORDS; n++)
+        marks[n] = (uint8_t)matches(n);
 }
 
 void replace_by_calls(void)
 {
-    for (unsigned n = 0; n <= RECORDS; n++) {
-        at(n);
-        sink += ask(READ);
-        if (n > 0 && memcmp(desk.buffer, "A ", 2) == 0) {
-            desk.buffer[0] = 'C';
-            sink += ask(WRITE);
+    mark_matching();
+    for (unsigned n = 0; n <= RECORDS; n++)
+        if (marks[n]) {
+            read_record(n);
+            rewrite();
         }
-    }
+}
+
+void replace_untested(void)
+{
+    for (unsigned n = 0; n <= RECORDS; n++)
+        if (matches(n))
+            rewrite();
 }

@@ -1,7 +1,8 @@
 """The tables of counted instructions: table.py LABELS MARKS [markdown] reads what count.c printed and the marks of the plugin, and
 holds each ratio to its aim. One table is of volumes up to 256 blocks, one of hard disks, one of the eight-inch floppy beside the
-straight volume of the same numbers, one of a volume put on a shelf beside its own log-in, and one of a chapter's siglum replaced. The
-exit status is 1 where an aim is missed. With `markdown` they are printed as docs/SPEED.md has them."""
+straight volume of the same numbers, one of a volume put on a shelf beside its own log-in, one of cuts and a load beside the calls that
+they need, which have no aim, and one of a chapter's siglum replaced. The exit status is 1 where an aim is missed. With `markdown` they
+are printed as docs/SPEED.md has them."""
 import sys
 
 # The pass up to 256 blocks has an aim of its own, and so has a fresh disk.
@@ -11,7 +12,10 @@ FRESH_AIM = 20
 FLOPPY_AIM = 1.5
 SHELF_AIM = 2.0
 NARROW = 256
-DESK = ("desk", "calls")
+# What is done through the seam, and the calls beside it; and a replacement by the desk, by calls that test everything first, and by
+# calls that read each record once.
+BESIDE = ("proved", "calls")
+DESK = ("desk", "tested", "once")
 
 
 def counts(named, marked):
@@ -31,17 +35,21 @@ def counts(named, marked):
 
 
 def chapters(found, markdown):
-    """a chapter's siglum replaced by the desk, beside the reads and writes that it needs; which of them missed the aim"""
+    """a chapter's siglum replaced by the desk, beside the reads and writes of a caller who tests everything first, to which the aim is held,
+    and beside each record read once; which missed the aim"""
     missed = []
-    print("| records that match | instructions | aim |\n|---|---|---|" if markdown else "Instructions of a replacement in a chapter of 1,000 records, "
-          "and the ratio to the reads and writes that it needs\n")
-    row = "| {} | {:,} ({:.2f}) | {} |" if markdown else "{:<30}{:>16,} {:5.2f}  {:5.1f}"
+    head, row = ("| records that match | entries | instructions | tested first | each read once | aim |\n|---|---|---|---|---|---|",
+                 "| {} | {} | {:,} | {:.2f} | {:.2f} | {} |") if markdown else \
+        (f"{'a siglum replaced':<20}{'entries':<20}{'instructions':>16}  tested first  each read once    aim",
+         "{:<20}{:<20}{:>16,}{:>14.2f}{:>16.2f}{:>7.1f}")
+    print(head)
     for work, by_shape in found.items():
+        match, entries = work.replace("-", " ").split(":")
         for sides in by_shape.values():
-            ours, calls = (sides[side] for side in DESK)
-            print(row.format(work.replace("-", " "), ours, ours / calls, AIM))
-            if ours > AIM * calls:
-                missed.append(work)
+            ours, tested, once = (sides[side] for side in DESK)
+            print(row.format(match, entries, ours, ours / tested, ours / once, AIM))
+            if ours > AIM * tested:
+                missed.append(f"{match}, {entries}")
     print()
     return missed
 
@@ -68,21 +76,19 @@ def show_floppy(found, markdown):
     return missed
 
 
-def show_shelf(found, markdown):
-    """a volume put on a shelf beside its own log-in; what misses its aim"""
+def show_beside(found, title, heads, aim, markdown):
+    """what is done through the seam, by its name and its heading, beside the calls that it needs; what misses its aim, where it has one"""
     missed = []
-    shelved = {work: by_shape for work, by_shape in found.items() if work.startswith("shelf-")}
-    heads = [work.removeprefix("shelf-").replace("-", " ") for work in shelved]
     if markdown:
-        print(f"| blocks | slots | {' | '.join(heads)} |\n|---|---|{'---|' * len(heads)}")
+        print(f"| blocks | slots | {' | '.join(heads.values())} |\n|---|---|{'---|' * len(heads)}")
     else:
-        print(f"{'a shelf: blocks':<20}{'slots':>8}" + "".join(f"{head:>22}" for head in heads))
-    for blocks, slots in next(iter(shelved.values())):
+        print(f"{title + ': blocks':<20}{'slots':>8}" + "".join(f"{head:>22}" for head in heads.values()))
+    for blocks, slots in found[next(iter(heads))]:
         cells = []
-        for work, by_shape in shelved.items():
-            sides = by_shape[blocks, slots]
-            cells.append((sides["shelf"], sides["shelf"] / sides["log-in"]))
-            if sides["shelf"] > SHELF_AIM * sides["log-in"]:
+        for work in heads:
+            ours, calls = (found[work][blocks, slots][side] for side in BESIDE)
+            cells.append((ours, ours / calls))
+            if aim and ours > aim * calls:
                 missed.append(f"{work} at {blocks:,} blocks and {slots:,} slots")
         if markdown:
             print(f"| {blocks:,} | {slots:,} | {' | '.join(f'{cost:,} ({ratio:.2f})' for cost, ratio in cells)} |")
@@ -90,6 +96,13 @@ def show_shelf(found, markdown):
             print(f"{blocks:<20,}{slots:>8,}" + "".join(f"{cost:>16,} {ratio:5.2f}" for cost, ratio in cells))
     print()
     return missed
+
+
+def show_all_beside(found, markdown):
+    """a volume put on a shelf beside its own log-in, which has an aim; cuts beside the writes, and a load beside its size and reads"""
+    shelved = {"shelf-full": "full", "shelf-empty": "empty", "shelf-long-files": "long files"}
+    others = {"cut-write": "cut of a write", "cut-write-block": "of one with a block", "load": "load"}
+    return show_beside(found, "a shelf", shelved, SHELF_AIM, markdown) + show_beside(found, "no aim", others, None, markdown)
 
 
 def compared(found, shapes):
@@ -139,11 +152,11 @@ def main():
         show_markdown(found, narrow)
         show_markdown(found, wide)
         show_floppy(found, True)
-        show_shelf(found, True)
+        show_all_beside(found, True)
         chapters(desk, True)
         return 0
     print("Instructions of the proved calls, and the ratio to those of plain C (gcc -O2)\n")
-    missed = show(found, narrow) + show(found, wide) + show_floppy(found, False) + show_shelf(found, False) + chapters(desk, False)
+    missed = show(found, narrow) + show(found, wide) + show_floppy(found, False) + show_all_beside(found, False) + chapters(desk, False)
     print("All aims are met." if not missed else "MISSED: " + "; ".join(missed))
     return len(missed) > 0
 

@@ -1,4 +1,4 @@
-// Which sizes a disk has: said by -g, by the environment, or known by the image's length.
+// Which sizes a disk has: known by the image's length, or said by -g and -f or by the environment.
 #include "tool.h"
 
 #include <inttypes.h>
@@ -70,18 +70,23 @@ static bool is_said(const struct options *options, struct geometry *geometry)
     return true;
 }
 
-// By -g and -f, by the environment or by the length; false, and V's, where none of them says it.
+// By the length where it is a floppy's, which no other disk has, whatever is said; else by -g and -f, by the environment or by V's
+// length. False, and V's, where none of them says it.
 static bool is_known(const struct options *options, uint64_t image_bytes, struct geometry *geometry)
 {
-    *geometry = image_bytes == bytes_of(&FLOPPY) ? FLOPPY : V;
-    return is_said(options, geometry) || image_bytes == bytes_of(geometry);
+    *geometry = V;
+    bool known = is_said(options, geometry);
+    if (image_bytes == FLOPPY_BYTES)
+        *geometry = FLOPPY;
+    return known || image_bytes == bytes_of(geometry);
 }
 
-struct geometry geometry_or_v(const struct options *options, uint64_t image_bytes)
+bool geometry_of_one(const struct options *options, uint64_t image_bytes, struct geometry *geometry)
 {
-    struct geometry geometry;
-    is_known(options, image_bytes, &geometry);
-    return geometry;
+    bool known = is_known(options, image_bytes, geometry);
+    if (image_bytes != bytes_of(geometry) && image_bytes == bytes_of(&V))
+        *geometry = V;
+    return known;
 }
 
 struct geometry geometry_of_image(const struct options *options, const char *image, uint64_t image_bytes)

@@ -16,11 +16,13 @@ const struct command COMMANDS[] = {
     {"who", "SIGLUM OWN [HOUSE]", "gfh", 2, 3, false,
      "Says which manuscript a siglum means, by the edition's own list or, if that lacks it, by the house list.\n"
      "A list is a file of this machine, or IMAGE:FILE on a disk. Its lines have 32 bytes, two of siglum and thirty of name; the\n"
-     "first that has the siglum counts. A siglum of one character has a blank behind it.",
+     "first that has the siglum counts. A siglum of one character has a blank behind it; one that can't be typed is 0x and its two\n"
+     "bytes in hex, as in 0xFF01.",
      who},
     {"replace", "IMAGE FILE CHAPTER OLD NEW", "gfh", 5, 5, true,
      "Replaces one siglum by another in one chapter of a collation file, and says how many records had it.\n"
-     "Nothing but the siglum of these records is changed, and nothing at all where a record that the contents list can't be read.",
+     "Nothing but the siglum of these records is changed, and nothing at all where a record that the contents list can't be read.\n"
+     "OLD and NEW are typed as the SIGLUM of who.",
      replace_siglum},
     {"list", "IMAGE [PATTERN]", "gfuh", 1, 2, false,
      "Lists the files of every user: user, name, records, bytes, blocks, attributes; then the free blocks.\n"
@@ -31,7 +33,9 @@ const struct command COMMANDS[] = {
     {"shelf", "IMAGE ..", "gfh", 1, INT_MAX, false,
      "Says what many disks hold together: refused disks; of the others files, entries, records, blocks held and free, waste.\n"
      "Waste is how many more records their blocks have room for. Then for each refused disk why it is refused.\n"
-     "An image that can't be read is not counted, and the exit status is then 1.",
+     "The disks may be of several kinds: -g is for those whose length it fits, or that are not known by their length.\n"
+     "An image that can't be read is not counted, nor is one behind the 65535th, and the exit status is then 1. A refused disk is\n"
+     "counted as such, and leaves it 0.",
      shelf},
     {"get", "IMAGE FILE [OUT]", "gftRGh", 2, 3, false,
      "Copies a file of the disk to a file of this machine.\n"

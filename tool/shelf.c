@@ -42,9 +42,16 @@ static void clear_progress(void)
 
 // ---- the images
 
+// An image, and whether its geometry is said or known by its length.
+struct next {
+    struct disk disk;
+    bool known;
+};
+
 // Reads an image into the disk's room; false, and said, where it can't be read.
-static bool read_next(const struct options *options, const char *path, struct disk *disk)
+static bool read_next(const struct options *options, const char *path, struct next *next)
 {
+    struct disk *disk = &next->disk;
     disk->path = path;
     const char *why = read_into(path, &disk->volume, VOLUME_MOST + 1, &disk->original.state);
     if (why != NULL) {
@@ -52,13 +59,14 @@ static bool read_next(const struct options *options, const char *path, struct di
         note("%s %s; it is not counted", path, why);
         return false;
     }
-    disk->geometry = geometry_or_v(options, (uint64_t)disk->original.state.st_size);
+    next->known = geometry_of_one(options, (uint64_t)disk->original.state.st_size, &disk->geometry);
     return true;
 }
 
 // Puts the volume on the shelf; why log-in refuses it goes to `refusals`. False where the shelf is full.
-static bool put_on(uint8_t *figures, struct disk *disk, FILE *refusals)
+static bool put_on(uint8_t *figures, struct next *next, FILE *refusals)
 {
+    struct disk *disk = &next->disk;
     const struct geometry *g = &disk->geometry;
     uint32_t answer = churawel_shelf(figures, CHURAWEL_SHELF_BYTES, g->block_bytes, g->blocks, g->directory_blocks,
                                      g->placing, disk->volume.at, disk->volume.count);
@@ -69,14 +77,14 @@ static bool put_on(uint8_t *figures, struct disk *disk, FILE *refusals)
         return false;
     }
     if (CHURAWEL_VALUE(answer) != 0)
-        fprintf(refusals, "%s: %s\n", disk->path, inspect(disk));
+        fprintf(refusals, "%s: %s%s\n", disk->path, inspect(disk), next->known ? "" : "; say its own by -g");
     return true;
 }
 
 void shelf(const struct options *options, char **operands, int count)
 {
     uint8_t figures[CHURAWEL_SHELF_BYTES] = {0};
-    struct disk disk = {.volume = {room_for(VOLUME_MOST + 1), 0}};
+    struct next next = {.disk = {.volume = {room_for(VOLUME_MOST + 1), 0}}};
     char *why = NULL;
     size_t why_bytes = 0;
     FILE *refusals = open_memstream(&why, &why_bytes);
@@ -85,8 +93,8 @@ void shelf(const struct options *options, char **operands, int count)
         refuse("there is not enough memory");
     for (int k = 0; k < count && room; k++) {
         show_progress(k + 1, count);
-        bool readable = read_next(options, operands[k], &disk);
-        room = !readable || put_on(figures, &disk, refusals);
+        bool readable = read_next(options, operands[k], &next);
+        room = !readable || put_on(figures, &next, refusals);
         all = all && readable && room;
     }
     clear_progress();

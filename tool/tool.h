@@ -69,10 +69,11 @@ struct geometry {
 };
 
 struct options;
-// By -g and -f, else by the environment, else by the image's length.
+// A floppy's by its length; else by -g and -f, by the environment, or V's by its length.
 struct geometry geometry_of_image(const struct options *options, const char *image, uint64_t image_bytes);
-// The same, and V's for an image of another length, which log-in then refuses.
-struct geometry geometry_or_v(const struct options *options, uint64_t image_bytes);
+// The same for one image of many, whose geometries may differ: what is said counts where the image has that length, or no known one.
+// False, and V's, which log-in then refuses, where nothing is said and the length is not known.
+bool geometry_of_one(const struct options *options, uint64_t image_bytes, struct geometry *geometry);
 // By -g and -f, else by the environment, else V's.
 struct geometry geometry_of_new(const struct options *options);
 // The length of an image.

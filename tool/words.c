@@ -138,7 +138,7 @@ static const char GENERAL[] =
     "A file on a disk is typed as SIGLA.TXT, or 3:SIGLA.TXT for user 3, in small or capital letters.\n"
     "\n"
     "The geometry is said by -g, or by -f eight-inch, or else by CHURAWEL_GEOMETRY in the environment. Without them an image of 40960\n"
-    "bytes is 1024,40,1, and one of 256256 bytes an eight-inch floppy.\n"
+    "bytes is 1024,40,1. One of 256256 bytes is an eight-inch floppy, whatever they say, as no other disk has this length.\n"
     LAWFUL_WORDS ".\n"
     "\n"
     "An image is changed as a whole or not at all. Exit status: 0 done, 1 refused, 2 wrong use.\n";

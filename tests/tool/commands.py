@@ -253,6 +253,26 @@ def hard_disks(tally, geometry):
     desk.refused("check of a block beyond the last", "check", "A.IMG", said="", out=f"A.IMG: the disk is not sound (36): {said}".encode())
 
 
+def beside_other_disks(desk, noise):
+    """A.IMG is a floppy by its length where another geometry is said, as by whoever works on hard disks too"""
+    laid = bytearray(desk.read("A.VOL"))
+    listed = desk.run("list", "A.IMG")[1]
+    for text in ("2048,4096,16", "1024,40,1", "1024,243,2", "1024,250,2", "4096,63,1", "1000,40,1"):
+        desk.done(f"a floppy with CHURAWEL_GEOMETRY {text}", "list", "A.IMG", out=listed, environment={"CHURAWEL_GEOMETRY": text})
+        desk.done(f"a floppy with -g {text}", "list", "-g", text, "A.IMG", out=listed)
+    desk.done("rename on it", "rename", "A.IMG", "a.txt", "z.txt", environment={"CHURAWEL_GEOMETRY": "2048,4096,16"})
+    for at in range(0, FLOPPY[0] * FLOPPY[2], 32):
+        if laid[at:at + 12] == b"\0A       TXT":
+            laid[at + 1] = ord("Z")
+    desk.same("rename on it: every byte", desk.read("A.IMG"), bytes(skewed(laid, noise)))
+    desk.wrong_use("a wrong CHURAWEL_GEOMETRY is one beside a floppy too", "list", "A.IMG", said="CHURAWEL_GEOMETRY takes",
+                   environment={"CHURAWEL_GEOMETRY": "V"})
+    for length in (FLOPPY_BYTES - 128, FLOPPY_BYTES + 128):
+        desk.write("NEAR.IMG", bytes(length))
+        desk.refused(f"no floppy: {length} bytes", "-g", "2048,257,1", "list", "NEAR.IMG", said=f"(33): {length} bytes, 2048,257,1\n")
+    desk.path("NEAR.IMG").unlink()
+
+
 def floppies(tally):
     """eight-inch floppies: every command does to an image what it does to the unskewed volume, and nothing else"""
     desk = Desk(tally, "eight-inch floppy")
@@ -275,6 +295,7 @@ def floppies(tally):
         desk.same(f"{' '.join(words)}: what it leaves", desk.read("A.IMG"), bytes(skewed(desk.read("A.VOL"), noise)))
     desk.same("the volume is read back", unskewed(desk.read("A.IMG")), desk.read("A.VOL"))
     desk.done("-f says it too", "list", "-f", "eight-inch", "A.IMG", out=desk.run("list", "A.IMG")[1])
+    beside_other_disks(desk, noise)
     image = bytearray(desk.read("A.IMG"))
     image[start(1)] = 16
     desk.write("A.IMG", image)

@@ -101,6 +101,12 @@ def refusals(desk, page):
     desk.same("the page has the same sentences", tagged(page, "REFUSALS"), {numbers[name]: sentence for name, sentence in table})
 
 
+def environment(desk, page):
+    """CHURAWEL_GEOMETRY counts behind every option that says a geometry, and the page names them"""
+    text = tagged(page, "ENVIRONMENT")["CHURAWEL_GEOMETRY"]
+    desk.same("the page says what counts before CHURAWEL_GEOMETRY", [option for option in ("-g", "-f", "256256") if option not in text], [])
+
+
 def version(desk, page):
     number = (ROOT / "tool/VERSION").read_text().strip()
     desk.done("--version", "--version", out=f"churawel {number}\n".encode())
@@ -128,5 +134,6 @@ def run(tally):
     desk, page = Desk(tally, "manual"), PAGE.read_text()
     help_of_all(desk, page, help_of_commands(desk, page))
     refusals(desk, page)
+    environment(desk, page)
     version(desk, page)
     readme(desk)

@@ -51,7 +51,7 @@ def other_geometry(desk):
     desk.done("4,096 bytes a block, by -g", "shelf", "-g", "4096,256,2", "LARGE.IMG", out=expected)
     environment = {"CHURAWEL_GEOMETRY": "4096,256,2"}
     desk.done("4,096 bytes a block, by the environment", "shelf", "LARGE.IMG", out=expected, environment=environment)
-    length = b"LARGE.IMG: the image's length is not that of its geometry (33): 1048576 bytes, 1024,40,1\n"
+    length = b"LARGE.IMG: the image's length is not that of its geometry (33): 1048576 bytes, 1024,40,1; say its own by -g\n"
     desk.done("a length that is not known", "shelf", "LARGE.IMG", out=shown(1, 0, 0, 0, 0, 0, 0) + length)
 
 
@@ -59,6 +59,14 @@ def hard_disk(desk):
     """block numbers of two bytes: 16 + 8 records in two of 256 data blocks"""
     desk.write("HARD.IMG", volume(HARD, {5: entry(user=1, rc=40, blocks=[256, 0, 1], geometry=HARD)}))
     desk.done("a hard disk, by -g", "shelf", "-g", "2048,257,1", "HARD.IMG", out=shown(0, 1, 1, 24, 2, 254, 8))
+    both = shown(0, 2, 3, 38, 5, 290, 18)
+    desk.done("a hard disk beside one of V's length", "shelf", "-g", "2048,257,1", "THREE.IMG", "HARD.IMG", out=both)
+    other = b"SHORT.IMG: the image's length is not that of its geometry (33): 40959 bytes, 2048,257,1\n"
+    expected = shown(1, 1, 1, 24, 2, 254, 8) + other
+    desk.done("a hard disk beside one of no known length", "shelf", "-g", "2048,257,1", "SHORT.IMG", "HARD.IMG", out=expected)
+    twenty = b"THREE.IMG: the disk is not sound (36)"
+    printed = desk.run("shelf", "-g", "2048,20,1", "THREE.IMG")[1]
+    desk.same("-g counts where the length fits it", printed.startswith(shown(1, 0, 0, 0, 0, 0, 0) + twenty), True)
 
 
 def floppy(desk):
@@ -69,16 +77,19 @@ def floppy(desk):
     desk.done("an eight-inch floppy", "shelf", "FLOPPY.IMG", out=alone)
     desk.done("an eight-inch floppy, by -f", "shelf", "-f", "eight-inch", "FLOPPY.IMG", out=alone)
     desk.done("an eight-inch floppy beside another kind of disk", "shelf", "THREE.IMG", "FLOPPY.IMG", out=beside)
+    desk.done("an eight-inch floppy beside a hard disk", "shelf", "-g", "2048,257,1", "HARD.IMG", "FLOPPY.IMG", out=shown(0, 2, 2, 33, 4, 493, 15))
+    environment = {"CHURAWEL_GEOMETRY": "2048,257,1"}
+    desk.done("the same by the environment", "shelf", "FLOPPY.IMG", "HARD.IMG", out=shown(0, 2, 2, 33, 4, 493, 15), environment=environment)
 
 
 def refused_images(desk):
     bad = f"BAD.IMG: the disk is not sound (36): slot 4 (16:SIGLA.TXT): {BAD['user']}\n".encode()
-    short = b"SHORT.IMG: the image's length is not that of its geometry (33): 40959 bytes, 1024,40,1\n"
-    lawless = b"BAD.IMG: no disk has this geometry (32): 40960 bytes, 1000,40,1; B is 1024, 2048 or 4096"
+    short = b"SHORT.IMG: the image's length is not that of its geometry (33): 40959 bytes, 1024,40,1; say its own by -g\n"
+    lawless = b"SHORT.IMG: no disk has this geometry (32): 40959 bytes, 1000,40,1; B is 1024, 2048 or 4096"
     desk.done("a bad disk, and why", "shelf", "BAD.IMG", out=shown(1, 0, 0, 0, 0, 0, 0) + bad)
     expected = shown(3, 1, 2, 14, 3, 36, 10) + short + bad + short
     desk.done("refused disks in their order", "shelf", "SHORT.IMG", "BAD.IMG", "THREE.IMG", "SHORT.IMG", out=expected)
-    printed = desk.run("shelf", "-g", "1000,40,1", "BAD.IMG")[1]
+    printed = desk.run("shelf", "-g", "1000,40,1", "SHORT.IMG")[1]
     desk.same("a geometry that no disk has", printed.startswith(shown(1, 0, 0, 0, 0, 0, 0) + lawless), True)
     desk.wrong_use("no image", "shelf", said="it is: churawel shelf IMAGE ..")
 
@@ -102,7 +113,7 @@ def many(desk):
     out = shown(0, 3000, 6000, 42000, 9000, 108000, 30000)
     desk.done("3,000 images", "shelf", *["THREE.IMG"] * 3000, out=out, preexec_fn=few_files)
     desk.write("0", b"")
-    why = b"0: the image's length is not that of its geometry (33): 0 bytes, 1024,40,1\n"
+    why = b"0: the image's length is not that of its geometry (33): 0 bytes, 1024,40,1; say its own by -g\n"
     said = "THREE.IMG: no more than 65535 disks are counted together (47); neither this image nor any behind it is counted\n"
     out = shown(65535, 0, 0, 0, 0, 0, 0) + 65535 * why
     desk.leaves("65,536 images and one more", 1, "shelf", *["0"] * 65535, "THREE.IMG", "0", said=said, out=out)
