@@ -2,5 +2,6 @@
 pub mod ColumnsHold
 pub mod MixedHolds
 pub mod ColumnsAtSeamHold
+pub mod MixedAtSeamHolds
 pub mod WrongDesksFail
 pub mod Examples

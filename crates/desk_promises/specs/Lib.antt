@@ -2,4 +2,5 @@
 pub mod Columns
 pub mod Mixed
 pub mod ColumnsAtSeam
+pub mod MixedAtSeam
 pub mod WrongDesks
