@@ -25,7 +25,7 @@ use Rattle.disk_geometry.specs.Geometry.{recordBytes, slots, recordStart}
 use Rattle.disk_volume.specs.Name.{nameOf}
 use Rattle.disk_volume.specs.Directory.{slotAt}
 use Rattle.disk_volume.specs.Record.{present}
-use Rattle.disk_stores.specs.Stores.{cut}
+use Rattle.disk_stores.specs.Stores.{Store, cut}
 use Rattle.disk_rules.specs.GoodSlot.{lowestBad}
 use Rattle.call_read.specs.Read.{readBlock, readBytes}
 use Rattle.call_answers.specs.declared.Answer.the-variants.{Done}
@@ -35,7 +35,7 @@ use Rattle.desk_contents.specs.Contents.{firstAt, countAt, chapterPlace}
 use Rattle.desk.specs.declared.Why.{Why}
 use Rattle.desk.specs.declared.Answer.the-variants.{Matching, Refused}
 use Rattle.desk.specs.Records.{recordShown, bears, withSiglum, written}
-use Rattle.desk.specs.Replace.{rewriteAll, replacement}
+use Rattle.desk.specs.Replace.{Desk, rewriteAll, replacement}
 use Rattle.desk.specs.Stores.{replacementStores}
 
 -- ---- what the statement is written with
@@ -87,19 +87,31 @@ abbrev pub writeOf : Drive → List ℕ → List ℕ → ℕ → ℕ → Outcome
 writeOf d v fcb new n = written d v fcb n (withSiglum new (recordShown d v fcb n))
 
 -- ---- a replacement in the state d on the volume v, altered volumes among them
-pub record Replaces (d : Drive) (v fcb : List ℕ) (chapter old new : ℕ) : Type 0 where
-  pub refused-keeps : (why : Why) → replacement d v fcb chapter old new .answer ≡ Refused why → replacement d v fcb chapter old new .volume ≡ v
-  pub altered : (c : ℕ) → replacement d v fcb chapter old new .answer ≡ Matching c
-      → Altered d v fcb (Matches d v fcb chapter old) new (replacement d v fcb chapter old new .volume)
-  pub counts : (c : ℕ) → replacement d v fcb chapter old new .answer ≡ Matching c
+-- a desk: state, volume, control block, chapter, old and new siglum to all that it leaves, and to the stores that it makes
+abbrev pub Way : Type 0
+Way = Drive → List ℕ → List ℕ → ℕ → ℕ → ℕ → Desk
+
+abbrev pub Storing : Type 0
+Storing = Drive → List ℕ → List ℕ → ℕ → ℕ → ℕ → List Store
+
+-- what is said of a desk
+pub record ReplacesBy (way : Way) (stores : Storing) (d : Drive) (v fcb : List ℕ) (chapter old new : ℕ) : Type 0 where
+  pub refused-keeps : (why : Why) → way d v fcb chapter old new .answer ≡ Refused why → way d v fcb chapter old new .volume ≡ v
+  pub altered : (c : ℕ) → way d v fcb chapter old new .answer ≡ Matching c
+      → Altered d v fcb (Matches d v fcb chapter old) new (way d v fcb chapter old new .volume)
+  pub counts : (c : ℕ) → way d v fcb chapter old new .answer ≡ Matching c
       → c ≡ countFrom (bears d v fcb old) (bodyFirst d v fcb chapter) (bodyCount d v fcb chapter)
-  pub state-stays : replacement d v fcb chapter old new .drive ≡ d
-  pub each-write : (c : ℕ) → replacement d v fcb chapter old new .answer ≡ Matching c → (n : ℕ) → Matches d v fcb chapter old n
+  pub state-stays : way d v fcb chapter old new .drive ≡ d
+  pub each-write : (c : ℕ) → way d v fcb chapter old new .answer ≡ Matching c → (n : ℕ) → Matches d v fcb chapter old n
       → (writeOf d (atTurn d v fcb chapter old new n) fcb new n .answer ≡ Done 0)
       × (writeOf d (atTurn d v fcb chapter old new n) fcb new n .drive ≡ d)
-  pub cut-short : (k : ℕ) → CutShort d v fcb chapter old new (cut (d .geometry) v k (replacementStores d v fcb chapter old new))
-  pub enough : (k : ℕ) → length (replacementStores d v fcb chapter old new) ≤ k
-      → cut (d .geometry) v k (replacementStores d v fcb chapter old new) ≡ replacement d v fcb chapter old new .volume
+  pub cut-short : (k : ℕ) → CutShort d v fcb chapter old new (cut (d .geometry) v k (stores d v fcb chapter old new))
+  pub enough : (k : ℕ) → length (stores d v fcb chapter old new) ≤ k
+      → cut (d .geometry) v k (stores d v fcb chapter old new) ≡ way d v fcb chapter old new .volume
+
+-- and of ours
+abbrev pub Replaces : Drive → List ℕ → List ℕ → ℕ → ℕ → ℕ → Type 0
+Replaces = ReplacesBy replacement replacementStores
 
 -- the new siglum was not in the chapter; "a replacement of a by b .. followed by b by a gives the old bytes"
 abbrev pub NotInChapter : Drive → List ℕ → List ℕ → ℕ → ℕ → Type 0
@@ -111,5 +123,8 @@ ThereAndBack d v fcb chapter old new =
     → replacement d (replacement d v fcb chapter old new .volume) fcb chapter new old .volume ≡ v
 
 -- on any volume of bytes, altered ones and refused calls among them
+abbrev pub OnAnyVolumeBy : Way → Storing → Type 0
+OnAnyVolumeBy way stores = (d : Drive) (v fcb : List ℕ) (chapter old new : ℕ) → Bytes v → new < 65536 → ReplacesBy way stores d v fcb chapter old new
+
 abbrev pub OnAnyVolume : Type 0
-OnAnyVolume = (d : Drive) (v fcb : List ℕ) (chapter old new : ℕ) → Bytes v → new < 65536 → Replaces d v fcb chapter old new
+OnAnyVolume = OnAnyVolumeBy replacement replacementStores

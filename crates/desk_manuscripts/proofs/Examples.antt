@@ -18,8 +18,17 @@ abbrev pub house : List ℕ
 house = line 66 32 ++ line 67 32
 
 abbrev pub answers : List Where
-answers = whereOf 8258 own house ∷ whereOf 8259 own house ∷ whereOf 8260 own house ∷ whereOf 8258 own (66 ∷ house) ∷ []
+answers = whereOf 8258 own house ∷ whereOf 8259 own house ∷ whereOf 8260 own house ∷ []
 
-pub explained : answers ≡ Own 1 ∷ House 1 ∷ Neither ∷ Lists ∷ []
+pub explained : answers ≡ Own 1 ∷ House 1 ∷ Neither ∷ []
 unfolding whereOf lineOf lowFrom
 explained = refl
+
+-- a byte too much in the house list or in the own list: 52 before what the own list explains, and before 51
+abbrev pub unevenAnswers : List Where
+unevenAnswers =
+    whereOf 8258 own (66 ∷ house) ∷ whereOf 8260 own (66 ∷ house) ∷ whereOf 8259 (own ++ 66 ∷ []) house ∷ whereOf 8260 (66 ∷ own) house ∷ []
+
+pub uneven-first : unevenAnswers ≡ Lists ∷ Lists ∷ Lists ∷ Lists ∷ []
+unfolding whereOf lineOf lowFrom
+uneven-first = refl

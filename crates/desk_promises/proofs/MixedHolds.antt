@@ -45,10 +45,10 @@ use Rattle.desk_keeps.proofs.OfFiles.{bytes-length}
 use Rattle.desk_keeps.proofs.ReplacesHolds as sigla
 
 -- ---- one deed
-record DeedKeeps (g : Geometry) (x : Deed) (d : Drive) (v : List ℕ) : Type 0 where
-  consistent : Consistent (driveAfter g x d v) (volumeAfter g x d v)
-  geometry : driveAfter g x d v .geometry ≡ d .geometry
-  others : (u : ℕ) (name : List ℕ) → u ≤ 15 → (wasDone g x d v && names x d u name) ≡ false → Leaves (d .geometry) v (volumeAfter g x d v) u name
+pub record DeedKeeps (g : Geometry) (x : Deed) (d : Drive) (v : List ℕ) : Type 0 where
+  pub consistent : Consistent (driveAfter g x d v) (volumeAfter g x d v)
+  pub geometry : driveAfter g x d v .geometry ≡ d .geometry
+  pub others : (u : ℕ) (name : List ℕ) → u ≤ 15 → (wasDone g x d v && names x d u name) ≡ false → Leaves (d .geometry) v (volumeAfter g x d v) u name
 
 -- entries that are the same
 same-directory : (g : Geometry) (e e′ : Directory) → ((i : ℕ) → i < slots g → e′ i ≡ e i) → Changed g e e′
@@ -89,7 +89,7 @@ module _ (d : Drive) (v fcb : List ℕ) (chapter old new : ℕ) (w : List ℕ) (
       hit : u ≡ d .user → name ≡ nameOf fcb → (eqb u (d .user) && same name (nameOf fcb)) ≡ true
       hit x y = rw (eq-eqb u (d .user) x, y) (same-refl (nameOf fcb))
 
-deed-keeps : (g : Geometry) (x : Deed) (d : Drive) (v : List ℕ) → d .geometry ≡ g → Consistent d v → LentTo x v → DeedKeeps g x d v
+pub deed-keeps : (g : Geometry) (x : Deed) (d : Drive) (v : List ℕ) → d .geometry ≡ g → Consistent d v → LentTo x v → DeedKeeps g x d v
 deed-keeps g (calls call) d v is-g c small =
     let k = step-keeps g call d v is-g c small in
     record { consistent = k .consistent; geometry = k .geometry; others = k .others }
@@ -114,7 +114,7 @@ deed-keeps g (replaces fcb chapter old new) d v is-g c small = go (replacement d
         }
 
 -- ---- a run from a consistent state
-runs : (g : Geometry) (xs : List Deed) (d : Drive) (v : List ℕ) → d .geometry ≡ g → Consistent d v → AllLent g xs d v
+pub runs : (g : Geometry) (xs : List Deed) (d : Drive) (v : List ℕ) → d .geometry ≡ g → Consistent d v → AllLent g xs d v
     → MixedKept g v (ending g xs d v) (namedIn g xs d v)
 unfolding ending namedIn AllLent
 runs g [] d v is-g c small = record {
@@ -150,14 +150,14 @@ stays g (x ∷ xs) d v is-g c small =
     stays g xs (driveAfter g x d v) (volumeAfter g x d v) (keeps .geometry ∙ is-g) (keeps .consistent) (small .1)
 
 -- ---- log-in first
--- files that are named by something else too
-named-more : {g : Geometry} {v w : List ℕ} {hit : ℕ → List ℕ → Bool} (more : ℕ → List ℕ → Bool) → MixedKept g v w hit
-    → MixedKept g v w (λ u name. more u name || hit u name)
-named-more {hit = hit} more k = record {
+-- files that are named by more
+pub kept-by-more : {g : Geometry} {v w : List ℕ} {hit more : ℕ → List ℕ → Bool} → ((u : ℕ) (name : List ℕ) → more u name ≡ false → hit u name ≡ false)
+    → MixedKept g v w hit → MixedKept g v w more
+kept-by-more wider k = record {
   length-kept = k .length-kept;
   inspected = k .inspected;
-  others-present = λ u name u15 h. k .others-present u name u15 (or-parts (more u name) (hit u name) h .1);
-  others-bytes = λ u name u15 h. k .others-bytes u name u15 (or-parts (more u name) (hit u name) h .1);
+  others-present = λ u name u15 h. k .others-present u name u15 (wider u name h);
+  others-bytes = λ u name u15 h. k .others-bytes u name u15 (wider u name h);
 }
 
 pub mixed-runs : MixedRuns
@@ -166,7 +166,7 @@ mixed-runs g law v size ok login first xs d small =
     subst (λ (o : Outcome). AllLent g xs (o .drive) (o .volume)
     → MixedKept g v (ending g xs (o .drive) (o .volume)) (λ u name. (succeeded (o .answer) && touches login d u name) || namedIn g xs (o .drive) (o .volume) u name))
     (sym (starts g law v size ok login first d))
-    (λ lent. named-more (λ u name. succeeded (ready g law v size ok login first .answer) && touches login d u name)
+    (λ lent. kept-by-more (λ u name. λ h. or-parts (succeeded (ready g law v size ok login first .answer) && touches login d u name) _ h .1)
     (runs g xs (loggedIn g (heldOf g v)) v refl (logged-in g law v size (accepted-sound g v ok)) lent))
     (small .1)
 

@@ -11,7 +11,6 @@ use Rattle.disk_geometry.specs.Geometry.{blocks, directoryBlocks}
 use Rattle.disk_held.specs.Held.{freeCount}
 use Rattle.disk_rules.specs.Named.{heldOf}
 use Rattle.call_answers.specs.declared.Answer.the-variants.{Ready}
-use Rattle.call_served.specs.Asked.{Asked}
 use Rattle.drive_bytes.specs.Layout.{driveBytes, decoded}
 use Rattle.desk.specs.Answer.{numberOf, valueOf}
 use Rattle.desk.specs.Replace.{Desk, replacement}
@@ -21,24 +20,24 @@ use Rattle.seam_desk.specs.Sigla.{Replaced, replaced, replaceAtSeam}
 use Rattle.demands.specs.AtSeam.{volumeLeft, driveLeft, OverSeamRuns}
 use Rattle.desk_promises.specs.Columns.{ByColumn}
 
--- after the run of the calls cs: what the exported function leaves, and the replacement in the drive's state
-module _ (g : Geometry) (v s : List ℕ) (cs : List Asked) (fcb : List ℕ) (chapter old new : ℕ) where
+-- what the exported function leaves, and the replacement in the drive's state: by the drive's bytes s, on the volume w
+module _ (s w fcb : List ℕ) (chapter old new : ℕ) where
   abbrev pub replacesAtSeam : Replaced
-  replacesAtSeam = replaceAtSeam (driveLeft g v s cs) (volumeLeft g v s cs) fcb chapter old new
+  replacesAtSeam = replaceAtSeam s w fcb chapter old new
 
   abbrev pub replacesInState : Desk
-  replacesInState = replacement (decoded (driveLeft g v s cs)) (volumeLeft g v s cs) fcb chapter old new
+  replacesInState = replacement (decoded s) w fcb chapter old new
 
-pub record ByColumnAtSeam (g : Geometry) (v s : List ℕ) (cs : List Asked) (fcb : List ℕ) (chapter old new : ℕ) : Type 0 where
-  pub leaves : replacesAtSeam g v s cs fcb chapter old new
-      ≡ replaced (numberOf (replacesInState g v s cs fcb chapter old new .answer) + 65536 * valueOf (replacesInState g v s cs fcb chapter old new .answer))
-      (replacesInState g v s cs fcb chapter old new .volume)
-  pub by-column : ByColumn (decoded (driveLeft g v s cs)) (volumeLeft g v s cs) fcb chapter old new
+pub record ByColumnAtSeam (g : Geometry) (s w fcb : List ℕ) (chapter old new : ℕ) : Type 0 where
+  pub leaves : replacesAtSeam s w fcb chapter old new
+      ≡ replaced (numberOf (replacesInState s w fcb chapter old new .answer) + 65536 * valueOf (replacesInState s w fcb chapter old new .answer))
+      (replacesInState s w fcb chapter old new .volume)
+  pub by-column : ByColumn (decoded s) w fcb chapter old new
   pub accepts-again : (t : List ℕ) → length t ≡ driveBytes (blocks g)
-      → logInAtSeam g (replacesAtSeam g v s cs fcb chapter old new .volume) t .answer
-      ≡ answered (Ready (freeCount (heldOf g (replacesAtSeam g v s cs fcb chapter old new .volume)) (directoryBlocks g) (blocks g)))
+      → logInAtSeam g (replacesAtSeam s w fcb chapter old new .volume) t .answer
+      ≡ answered (Ready (freeCount (heldOf g (replacesAtSeam s w fcb chapter old new .volume)) (directoryBlocks g) (blocks g)))
 
 abbrev pub ColumnsAtSeam : Type 0
 ColumnsAtSeam =
     OverSeamRuns (λ g v s cs. Bytes (volumeLeft g v s cs) → (fcb : List ℕ) (chapter old new : ℕ) → old < 65536 → new < 65536
-    → ByColumnAtSeam g v s cs fcb chapter old new)
+    → ByColumnAtSeam g (driveLeft g v s cs) (volumeLeft g v s cs) fcb chapter old new)
