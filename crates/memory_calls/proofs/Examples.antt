@@ -2,13 +2,16 @@
 -- paragraphs at 100H; its last 200H are freed (from 500H on: the manual's 700H is the end of the region), and a region beside it stays.
 use mathlib.Core.Path.{_≡_, refl}
 use mathlib.Core.Bool.{false}
-use mathlib.Core.List.{List, [], _∷_}
+use mathlib.Core.List.{List, [], _∷_, _++_}
 use Prim.Native.Nat.{ℕ}
 use lib.ListN.{length}
 use Rattle.memory_spans.specs.declared.Span.{Span}
 use Rattle.memory_spans.specs.Span.{span, covers, overlap, liesIn, anyOf, allOf, mostOf}
 use Rattle.memory_spans.specs.Rules.{apart, lawful}
 use Rattle.memory_spans.specs.Room.{taken, freeIn, run, room, hasRoom}
+use Rattle.memory_room.specs.Starts.{lowestStart, longest}
+use Rattle.memory_room.specs.Candidates.{roomBelow}
+use Rattle.memory_room.proofs.CandidateLaws.{lowerOf, lowest-by, longest-is}
 use Rattle.memory_regions.specs.Places.{padded}
 use Rattle.memory_regions.specs.Freeing.{edge, freeable, left, freed}
 use Rattle.memory_calls.specs.declared.Table.{Table}
@@ -16,7 +19,7 @@ use Rattle.memory_calls.specs.declared.Mcb.{Mcb}
 use Rattle.memory_calls.specs.declared.Refusal.the-variants.{NotServed, Rules, NoPlace, NoRoom, BadFree}
 use Rattle.memory_calls.specs.declared.Answer.the-variants.{Done}
 use Rattle.memory_calls.specs.Table.{withinRules}
-use Rattle.memory_calls.specs.Calls.{refused, tested, grantedAt, freeing, freeingPart, serve, memoryCall}
+use Rattle.memory_calls.specs.Calls.{refused, longestRun, tested, granted, grantedAt, freeing, freeingPart, serve, memoryCall}
 
 abbrev table : List Span → Table
 table l = record { pieces = padded 8 (span 256 1792 ∷ []); used = 1; regions = padded 8 l; granted = length l }
@@ -70,6 +73,56 @@ beside = refl
 taken-there : memoryCall 54 32768 (table (span 256 16 ∷ [])) (mcb 271 8 9) ≡ refused NoRoom (table (span 256 16 ∷ [])) (mcb 271 8 9)
 unfolding memoryCall serve tested hasRoom room run freeIn taken covers mostOf padded withinRules lawful apart overlap liesIn anyOf allOf
 taken-there = refl
+
+-- four regions that leave runs of 8, 16 and 16 free paragraphs, from 110H, 128H and 148H on
+abbrev gaps : List Span
+gaps = span 256 16 ∷ span 280 16 ∷ span 312 16 ∷ span 344 1704 ∷ []
+
+longest-gap : longest (span 256 1792 ∷ []) gaps ≡ 16
+unfolding roomBelow room run freeIn taken covers anyOf mostOf
+longest-gap = longest-is (span 256 1792 ∷ []) gaps
+
+longest-at : lowestStart (span 256 1792 ∷ []) gaps 16 ≡ 296
+unfolding lowerOf hasRoom room run freeIn taken covers anyOf mostOf
+longest-at = lowest-by (span 256 1792 ∷ []) gaps 16
+
+-- 53 asked for 4 paragraphs: the longest run, lowest of equals, and of it just 4; M-Ext becomes 0, and the M-Base asked is not looked at
+longest-4 : memoryCall 53 32768 (table gaps) (mcb 5 4 7) ≡ record { answer = Done; table = table gaps; mcb = mcb 296 4 0 }
+unfolding memoryCall serve longestRun padded withinRules lawful apart overlap liesIn anyOf allOf
+longest-4 = rw (longest-gap, longest-at)
+
+-- asked for 40: all of it
+longest-40 : memoryCall 53 32768 (table gaps) (mcb 5 40 7) ≡ record { answer = Done; table = table gaps; mcb = mcb 296 16 0 }
+unfolding memoryCall serve longestRun padded withinRules lawful apart overlap liesIn anyOf allOf
+longest-40 = rw (longest-gap, longest-at)
+
+-- asked for 0, and with no free paragraph: 62
+longest-0 : memoryCall 53 32768 (table gaps) (mcb 5 0 7) ≡ refused NoRoom (table gaps) (mcb 5 0 7)
+unfolding memoryCall serve longestRun padded withinRules lawful apart overlap liesIn anyOf allOf
+longest-0 = refl
+
+longest-of-none : memoryCall 53 32768 (table (span 256 1792 ∷ [])) (mcb 5 4 7) ≡ refused NoRoom (table (span 256 1792 ∷ [])) (mcb 5 4 7)
+unfolding memoryCall serve longestRun padded withinRules lawful apart overlap liesIn anyOf allOf roomBelow room run freeIn taken covers mostOf
+longest-of-none = rw (longest-is (span 256 1792 ∷ []) (span 256 1792 ∷ []))
+
+-- 55 of 4 and of 12 paragraphs: at the lowest start with room, as many as asked, behind the other regions
+lowest-4 : memoryCall 55 32768 (table gaps) (mcb 5 4 7) ≡ record { answer = Done; table = table (gaps ++ (span 272 4 ∷ [])); mcb = mcb 272 4 0 }
+unfolding memoryCall serve granted padded withinRules lawful apart overlap liesIn anyOf allOf lowerOf hasRoom room run freeIn taken covers mostOf
+lowest-4 = rw (lowest-by (span 256 1792 ∷ []) gaps 4)
+
+lowest-12 : memoryCall 55 32768 (table gaps) (mcb 5 12 7)
+    ≡ record { answer = Done; table = table (gaps ++ (span 296 12 ∷ [])); mcb = mcb 296 12 0 }
+unfolding memoryCall serve granted padded withinRules lawful apart overlap liesIn anyOf allOf lowerOf hasRoom room run freeIn taken covers mostOf
+lowest-12 = rw (lowest-by (span 256 1792 ∷ []) gaps 12)
+
+-- of 17, and of 0: 62
+lowest-17 : memoryCall 55 32768 (table gaps) (mcb 5 17 7) ≡ refused NoRoom (table gaps) (mcb 5 17 7)
+unfolding memoryCall serve granted padded withinRules lawful apart overlap liesIn anyOf allOf lowerOf hasRoom room run freeIn taken covers mostOf
+lowest-17 = rw (lowest-by (span 256 1792 ∷ []) gaps 17)
+
+lowest-0 : memoryCall 55 32768 (table gaps) (mcb 5 0 7) ≡ refused NoRoom (table gaps) (mcb 5 0 7)
+unfolding memoryCall serve granted padded withinRules lawful apart overlap liesIn anyOf allOf lowerOf hasRoom
+lowest-0 = rw (lowest-by (span 256 1792 ∷ []) gaps 0)
 
 -- the memory is a byte too short: 65 in every call, 58 too; and a function that is none of them
 short : memoryCall 58 32767 (table two) (mcb 0 0 0) ≡ refused Rules (table two) (mcb 0 0 0)
