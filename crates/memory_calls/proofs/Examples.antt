@@ -21,8 +21,11 @@ use Rattle.memory_calls.specs.declared.Answer.the-variants.{Done}
 use Rattle.memory_calls.specs.Table.{withinRules}
 use Rattle.memory_calls.specs.Calls.{refused, longestRun, tested, granted, grantedAt, freeing, freeingPart, serve, memoryCall}
 
+abbrev pieces : List Span
+pieces = span 256 1792 ∷ []
+
 abbrev table : List Span → Table
-table l = record { pieces = padded 8 (span 256 1792 ∷ []); used = 1; regions = padded 8 l; granted = length l }
+table l = record { pieces = padded 8 pieces; used = 1; regions = padded 8 l; granted = length l }
 
 abbrev mcb : ℕ → ℕ → ℕ → Mcb
 mcb base length ext = record { base = base; length = length; ext = ext }
@@ -78,13 +81,13 @@ taken-there = refl
 abbrev gaps : List Span
 gaps = span 256 16 ∷ span 280 16 ∷ span 312 16 ∷ span 344 1704 ∷ []
 
-longest-gap : longest (span 256 1792 ∷ []) gaps ≡ 16
+longest-gap : longest pieces gaps ≡ 16
 unfolding roomBelow room run freeIn taken covers anyOf mostOf
-longest-gap = longest-is (span 256 1792 ∷ []) gaps
+longest-gap = longest-is pieces gaps
 
-longest-at : lowestStart (span 256 1792 ∷ []) gaps 16 ≡ 296
+longest-at : lowestStart pieces gaps 16 ≡ 296
 unfolding lowerOf hasRoom room run freeIn taken covers anyOf mostOf
-longest-at = lowest-by (span 256 1792 ∷ []) gaps 16
+longest-at = lowest-by pieces gaps 16
 
 -- 53 asked for 4 paragraphs: the longest run, lowest of equals, and of it just 4; M-Ext becomes 0, and the M-Base asked is not looked at
 longest-4 : memoryCall 53 32768 (table gaps) (mcb 5 4 7) ≡ record { answer = Done; table = table gaps; mcb = mcb 296 4 0 }
@@ -108,21 +111,21 @@ longest-of-none = rw (longest-is (span 256 1792 ∷ []) (span 256 1792 ∷ []))
 -- 55 of 4 and of 12 paragraphs: at the lowest start with room, as many as asked, behind the other regions
 lowest-4 : memoryCall 55 32768 (table gaps) (mcb 5 4 7) ≡ record { answer = Done; table = table (gaps ++ (span 272 4 ∷ [])); mcb = mcb 272 4 0 }
 unfolding memoryCall serve granted padded withinRules lawful apart overlap liesIn anyOf allOf lowerOf hasRoom room run freeIn taken covers mostOf
-lowest-4 = rw (lowest-by (span 256 1792 ∷ []) gaps 4)
+lowest-4 = rw (lowest-by pieces gaps 4)
 
 lowest-12 : memoryCall 55 32768 (table gaps) (mcb 5 12 7)
     ≡ record { answer = Done; table = table (gaps ++ (span 296 12 ∷ [])); mcb = mcb 296 12 0 }
 unfolding memoryCall serve granted padded withinRules lawful apart overlap liesIn anyOf allOf lowerOf hasRoom room run freeIn taken covers mostOf
-lowest-12 = rw (lowest-by (span 256 1792 ∷ []) gaps 12)
+lowest-12 = rw (lowest-by pieces gaps 12)
 
 -- of 17, and of 0: 62
 lowest-17 : memoryCall 55 32768 (table gaps) (mcb 5 17 7) ≡ refused NoRoom (table gaps) (mcb 5 17 7)
 unfolding memoryCall serve granted padded withinRules lawful apart overlap liesIn anyOf allOf lowerOf hasRoom room run freeIn taken covers mostOf
-lowest-17 = rw (lowest-by (span 256 1792 ∷ []) gaps 17)
+lowest-17 = rw (lowest-by pieces gaps 17)
 
 lowest-0 : memoryCall 55 32768 (table gaps) (mcb 5 0 7) ≡ refused NoRoom (table gaps) (mcb 5 0 7)
 unfolding memoryCall serve granted padded withinRules lawful apart overlap liesIn anyOf allOf lowerOf hasRoom
-lowest-0 = rw (lowest-by (span 256 1792 ∷ []) gaps 0)
+lowest-0 = rw (lowest-by pieces gaps 0)
 
 -- the memory is a byte too short: 65 in every call, 58 too; and a function that is none of them
 short : memoryCall 58 32767 (table two) (mcb 0 0 0) ≡ refused Rules (table two) (mcb 0 0 0)
@@ -146,7 +149,7 @@ unfolding memoryCall serve tested hasRoom room run freeIn taken covers mostOf pa
 asks-no-place = refl
 
 -- nine regions are not within the rules
-nine : withinRules 32768 (record { pieces = padded 8 (span 256 1792 ∷ []); used = 1; regions = padded 8 []; granted = 9 }) ≡ false
+nine : withinRules 32768 (record { pieces = padded 8 pieces; used = 1; regions = padded 8 []; granted = 9 }) ≡ false
 unfolding withinRules
 nine = refl
 
