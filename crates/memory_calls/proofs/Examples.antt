@@ -24,8 +24,11 @@ use Rattle.memory_calls.specs.Calls.{refused, longestRun, tested, grante
 abbrev pieces : List Span
 pieces = span 256 1792 ∷ []
 
+abbrev over : List Span → List Span → Table
+over p l = record { pieces = padded 8 p; used = length p; regions = padded 8 l; granted = length l }
+
 abbrev table : List Span → Table
-table l = record { pieces = padded 8 pieces; used = 1; regions = padded 8 l; granted = length l }
+table l = over pieces l
 
 abbrev mcb : ℕ → ℕ → ℕ → Mcb
 mcb base length ext = record { base = base; length = length; ext = ext }
@@ -104,9 +107,9 @@ longest-0 : memoryCall 53 32768 (table gaps) (mcb 5 0 7) ≡ refused NoRoom (tab
 unfolding memoryCall serve longestRun padded withinRules lawful apart overlap liesIn anyOf allOf
 longest-0 = refl
 
-longest-of-none : memoryCall 53 32768 (table (span 256 1792 ∷ [])) (mcb 5 4 7) ≡ refused NoRoom (table (span 256 1792 ∷ [])) (mcb 5 4 7)
+longest-of-none : memoryCall 53 32768 (table pieces) (mcb 5 4 7) ≡ refused NoRoom (table pieces) (mcb 5 4 7)
 unfolding memoryCall serve longestRun padded withinRules lawful apart overlap liesIn anyOf allOf roomBelow room run freeIn taken covers mostOf
-longest-of-none = rw (longest-is (span 256 1792 ∷ []) (span 256 1792 ∷ []))
+longest-of-none = rw (longest-is pieces pieces)
 
 -- 55 of 4 and of 12 paragraphs: at the lowest start with room, as many as asked, behind the other regions
 lowest-4 : memoryCall 55 32768 (table gaps) (mcb 5 4 7) ≡ record { answer = Done; table = table (gaps ++ (span 272 4 ∷ [])); mcb = mcb 272 4 0 }
@@ -127,14 +130,50 @@ lowest-0 : memoryCall 55 32768 (table gaps) (mcb 5 0 7) ≡ refused NoRoom (tabl
 unfolding memoryCall serve granted padded withinRules lawful apart overlap liesIn anyOf allOf lowerOf hasRoom
 lowest-0 = rw (lowest-by pieces gaps 0)
 
--- the memory is a byte too short: 65 in every call, 58 too; and a function that is none of them
-short : memoryCall 58 32767 (table two) (mcb 0 0 0) ≡ refused Rules (table two) (mcb 0 0 0)
+-- 65, in a memory of so many bytes: of 58 too, which looks at nothing else
+abbrev AgainstRules : ℕ → Table → Type 0
+AgainstRules bytes t = memoryCall 58 bytes t (mcb 0 0 0) ≡ refused Rules t (mcb 0 0 0)
+
+-- the memory is a byte too short; and a function that is none of 53 to 58
+short : AgainstRules 32767 (table two)
 unfolding memoryCall serve padded withinRules lawful apart overlap liesIn anyOf allOf
 short = refl
 
 other : memoryCall 59 32768 (table two) (mcb 0 0 0) ≡ refused NotServed (table two) (mcb 0 0 0)
 unfolding memoryCall
 other = refl
+
+-- pieces that have paragraph 13FH both; regions that have 11FH both, with another between them in the table, and one within another: 65
+pieces-overlap : AgainstRules 32768 (over (span 256 64 ∷ span 319 1 ∷ []) [])
+unfolding memoryCall padded withinRules lawful apart overlap liesIn anyOf allOf
+pieces-overlap = refl
+
+regions-overlap : AgainstRules 32768 (table (span 272 16 ∷ span 400 1 ∷ span 287 1 ∷ []))
+unfolding memoryCall padded withinRules lawful apart overlap liesIn anyOf allOf
+regions-overlap = refl
+
+region-within : AgainstRules 32768 (table (span 280 2 ∷ span 272 16 ∷ []))
+unfolding memoryCall padded withinRules lawful apart overlap liesIn anyOf allOf
+region-within = refl
+
+-- a region over the seam of two pieces that touch; one that begins before its piece, and one that ends behind it: 65
+in-two-pieces : AgainstRules 32768 (over (span 256 64 ∷ span 320 64 ∷ []) (span 310 20 ∷ []))
+unfolding memoryCall padded withinRules lawful apart overlap liesIn anyOf allOf
+in-two-pieces = refl
+
+before-its-piece : AgainstRules 32768 (table (span 255 2 ∷ []))
+unfolding memoryCall padded withinRules lawful apart overlap liesIn anyOf allOf
+before-its-piece = refl
+
+behind-its-piece : AgainstRules 32768 (table (span 2047 2 ∷ []))
+unfolding memoryCall padded withinRules lawful apart overlap liesIn anyOf allOf
+behind-its-piece = refl
+
+-- the same where they only touch
+all-touch : memoryCall 58 32768 (over (span 256 64 ∷ span 320 64 ∷ []) (span 310 10 ∷ span 320 10 ∷ span 330 54 ∷ [])) (mcb 0 0 0)
+    ≡ record { answer = Done; table = over (span 256 64 ∷ span 320 64 ∷ []) []; mcb = mcb 0 0 0 }
+unfolding memoryCall serve padded withinRules lawful apart overlap liesIn anyOf allOf
+all-touch = refl
 
 -- eight regions: 63, whether or not there is room; 53 and 54 never answer it
 abbrev full : Table
@@ -155,13 +194,13 @@ nine = refl
 
 -- a piece may end with paragraph FFFFH, and its region's end may be freed; one paragraph more is 65, whatever the memory
 abbrev high : ℕ → List Span → Table
-high size l = record { pieces = padded 8 (span 65520 size ∷ []); used = 1; regions = padded 8 l; granted = length l }
+high size l = over (span 65520 size ∷ []) l
 
 to-the-end : memoryCall 57 1048832 (high 16 (span 65520 16 ∷ [])) (mcb 65535 1 0)
     ≡ record { answer = Done; table = high 16 (span 65520 15 ∷ []); mcb = mcb 65535 1 0 }
 unfolding memoryCall serve freeing freeingPart freeable freed left edge padded withinRules lawful apart overlap liesIn anyOf allOf
 to-the-end = refl
 
-beyond : memoryCall 58 1048832 (high 17 []) (mcb 0 0 0) ≡ refused Rules (high 17 []) (mcb 0 0 0)
+beyond : AgainstRules 1048832 (high 17 [])
 unfolding memoryCall padded withinRules lawful apart overlap liesIn anyOf allOf
 beyond = refl
