@@ -202,10 +202,14 @@ static void write_program(const char *eleven, const uint8_t *descriptors, size_t
     }
 }
 
-/* A program of code alone, 20H paragraphs with its base page; and one of data, an extra group and code, in this order. */
+/*
+ * A program of code alone, 20H paragraphs with its base page; one of data, an extra group and code, in this order; and one of code, 11H
+ * paragraphs with its base page, and an extra group.
+ */
 static void programs(void)
 {
     static const uint8_t alone[] = {1, 0x20, 0, 0, 0, 0x20, 0, 0x20, 0};
+    static const uint8_t no_data[] = {1, 0x11, 0, 0, 0, 0, 0, 0, 0, 3, 1, 0, 0, 0, 0, 0, 0, 0};
     static const uint8_t three[] = {2, 2, 0, 0, 0, 0x10, 0, 0x10, 0, 3, 1, 0, 0, 0, 0, 0, 0, 0, 1, 1, 0, 0, 0, 0, 0, 0, 0};
     memset(m.table, 0, sizeof m.table);
     m.table[0] = 1;
@@ -235,6 +239,17 @@ static void programs(void)
     expect("with a data group the base page is there", ax(), 0x2120);
     start_program(&m, ax());
     expect("code, data and extra: each register has its group, IP is 0", m.cs == 0x2131 && m.ds == 0x2120 && m.es == 0x2130 && m.ip == 0, 1);
+    m.ds = DS;
+    m.dma_base = DS;
+    m.dma_offset = DMA;
+    write_program("NODATA  CMD", no_data, sizeof no_data, 4);
+    name(1, "NODATA  CMD", 0);
+    int224(59, 0, FCB);
+    expect("without a data group the base page is in the code", ax(), 0x2132);
+    expect("where M80 is 0 beside another group", *at(&m, 0x2132, 5), 0);
+    start_program(&m, ax());
+    expect("code and extra: each register has its group, IP is 100H", m.cs == 0x2132 && m.ds == 0x2132 && m.es == 0x2143 && m.ip == 0x100, 1);
+    expect("where the code is, behind the base page", *at(&m, m.cs, m.ip), 0x93);
     m.ds = DS;
     m.dma_base = DS;
     m.dma_offset = DMA;
