@@ -205,17 +205,18 @@ static uint16_t page_word(struct machine *m, uint16_t page, uint16_t offset)
 
 /*
  * Starts the program of this base page, as the command processor does (000, 3.4 to 3.6, and 59): CS is BC; DS is the base page; ES is BE
- * where there is an extra group, else DS; IP is 100H in the 8080 model, else 0. SS and SP stay where they are, in the caller's own
- * stack, also where there is a stack group; the program is entered by a far call. The DMA address is the base page's 80H.
+ * where there is an extra group, else DS; IP is 100H, behind the base page, where that is in the code group, else 0. SS and SP stay where
+ * they are, in the caller's own stack, also where there is a stack group; the program is entered by a far call. The DMA address is the base
+ * page's 80H.
  */
 void start_program(struct machine *m, uint16_t page)
 {
-    enum { BC = 3, M80 = 5, LE = 12, BE = 15 };
+    enum { BC = 3, LE = 12, BE = 15, PAGE_BYTES = 0x100 };
     int extra = page_word(m, page, LE) != 0 || *at(m, page, LE + 2) != 0;
     m->cs = page_word(m, page, BC);
     m->ds = page;
     m->es = extra ? page_word(m, page, BE) : page;
-    m->ip = *at(m, page, M80) == 1 ? 0x100 : 0;
+    m->ip = m->cs == page ? PAGE_BYTES : 0;
     m->dma_base = page;
     m->dma_offset = 0x80;
 }

@@ -202,11 +202,53 @@ static void write_program(const char *eleven, const uint8_t *descriptors, size_t
     }
 }
 
-/* A program of code alone, 20H paragraphs with its base page; and one of data, an extra group and code, in this order. */
-static void programs(void)
+/* 59 of a file on A; what it answers in AX. */
+static uint16_t load_named(const char *eleven)
+{
+    name(1, eleven, 0);
+    int224(59, 0, FCB);
+    return ax();
+}
+
+/* Starts what was loaded: has each register its group? The caller's own registers stand again afterwards, but CS and IP. */
+static int starts(uint16_t cs, uint16_t ds, uint16_t es, uint16_t ip)
+{
+    start_program(&m, ax());
+    int right = m.cs == cs && m.ds == ds && m.es == es && m.ip == ip && m.dma_base == ds && m.dma_offset == 0x80;
+    m.ds = DS;
+    m.dma_base = DS;
+    m.dma_offset = DMA;
+    return right;
+}
+
+/*
+ * A program of code alone, 20H paragraphs with its base page; one of data, an extra group and code, in this order; and one of code, 11H
+ * paragraphs with its base page, and an extra group.
+ */
+static void starting(void)
 {
     static const uint8_t alone[] = {1, 0x20, 0, 0, 0, 0x20, 0, 0x20, 0};
     static const uint8_t three[] = {2, 2, 0, 0, 0, 0x10, 0, 0x10, 0, 3, 1, 0, 0, 0, 0, 0, 0, 0, 1, 1, 0, 0, 0, 0, 0, 0, 0};
+    static const uint8_t no_data[] = {1, 0x11, 0, 0, 0, 0, 0, 0, 0, 3, 1, 0, 0, 0, 0, 0, 0, 0};
+    write_program("ALONE   CMD", alone, sizeof alone, 5);
+    expect("59 answers the paragraph of the base page in AX", load_named("ALONE   CMD"), 0x2100);
+    expect("and in BX", m.bx, 0x2100);
+    expect("the image stands behind the base page's 30H bytes", *at(&m, 0x2100, 0x30), 0x91);
+    expect("code alone starts at 100H of its region, with the DMA address in its base page", starts(0x2100, 0x2100, 0x2100, 0x100), 1);
+    write_program("THREE   CMD", three, sizeof three, 2);
+    expect("with a data group the base page is there", load_named("THREE   CMD"), 0x2120);
+    expect("code, data and extra: each register has its group, IP is 0", starts(0x2131, 0x2120, 0x2130, 0), 1);
+    write_program("NODATA  CMD", no_data, sizeof no_data, 4);
+    expect("without a data group the base page is in the code", load_named("NODATA  CMD"), 0x2132);
+    expect("where M80 is 0 beside another group", *at(&m, 0x2132, 5), 0);
+    expect("code and extra: each register has its group, IP is 100H", starts(0x2132, 0x2132, 0x2143, 0x100), 1);
+    expect("where the code is, behind the base page", *at(&m, m.cs, m.ip), 0x93);
+    expect("59 of no such file is FFFFH", load_named("NOTHING CMD"), 0xFFFF);
+}
+
+/* The memory calls, and programs loaded and started. */
+static void programs(void)
+{
     memset(m.table, 0, sizeof m.table);
     m.table[0] = 1;
     m.table[3] = 0x20; /* one piece, from paragraph 2000H to 2FFFH */
@@ -217,30 +259,7 @@ static void programs(void)
     expect("56 grants a region", int224(56, 0, 0x300), 0);
     expect("and M-Ext becomes 0", *at(&m, DS, 0x304), 0);
     expect("56 of the same region is refused", int224(56, 0, 0x300), 255);
-    write_program("ALONE   CMD", alone, sizeof alone, 5);
-    name(1, "ALONE   CMD", 0);
-    int224(59, 0, FCB);
-    expect("59 answers the paragraph of the base page in AX", ax(), 0x2100);
-    expect("and in BX", m.bx, 0x2100);
-    expect("the image stands behind the base page's 30H bytes", *at(&m, 0x2100, 0x30), 0x91);
-    start_program(&m, ax());
-    expect("code alone starts at 100H of its region", m.cs == 0x2100 && m.ds == 0x2100 && m.es == 0x2100 && m.ip == 0x100, 1);
-    expect("with the DMA address in its base page", m.dma_base == 0x2100 && m.dma_offset == 0x80, 1);
-    m.ds = DS;
-    m.dma_base = DS;
-    m.dma_offset = DMA;
-    write_program("THREE   CMD", three, sizeof three, 2);
-    name(1, "THREE   CMD", 0);
-    int224(59, 0, FCB);
-    expect("with a data group the base page is there", ax(), 0x2120);
-    start_program(&m, ax());
-    expect("code, data and extra: each register has its group, IP is 0", m.cs == 0x2131 && m.ds == 0x2120 && m.es == 0x2130 && m.ip == 0, 1);
-    m.ds = DS;
-    m.dma_base = DS;
-    m.dma_offset = DMA;
-    name(1, "NOTHING CMD", 0);
-    int224(59, 0, FCB);
-    expect("59 of no such file is FFFFH", ax(), 0xFFFF);
+    starting();
     expect("58 frees all", int224(58, 0, 0), 0);
     expect("so that the table has no region", m.table[1], 0);
 }

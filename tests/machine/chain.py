@@ -70,9 +70,9 @@ def make_volume(image, words):
     return (FOLDER / image).read_bytes()
 
 
-def run_machine(image, geometry, placing, out, stores="all", tail=TAIL):
+def run_machine(image, geometry, placing, out, stores="all", tail=TAIL, program=PROGRAM):
     """what the program prints, how the machine ended, after how many calls, and the image that it leaves"""
-    words = [image, *geometry, placing, out, stores, PROGRAM, tail]
+    words = [image, *geometry, placing, out, stores, program, tail]
     ran = subprocess.run([*MACHINE, *map(str, words)], cwd=FOLDER, capture_output=True, timeout=SECONDS)
     ended = re.fullmatch(r"(ended|closed) after (\d+) calls\n", ran.stderr.decode())
     if ran.returncode != 0 or not ended:

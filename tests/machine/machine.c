@@ -27,10 +27,9 @@ enum {
     BASE_FCB = 0x5C, /* in the base page */
     BASE_TAIL = 0x80,
     BASE_CODE = 3,   /* where the code group begins, its paragraph */
-    BASE_8080 = 5,   /* 1: code alone */
     LAST_EXTRA = 12, /* the extra group's last byte, zeros where there is none */
     BASE_EXTRA = 15,
-    START_8080 = 0x100,
+    BASE_BYTES = 0x100,
     NAME_BYTES = 8,
     TYPE_BYTES = 3,
     TEXT_END = '$',
@@ -272,7 +271,7 @@ static void run(uint16_t base)
         void *pointer;
     } on_interrupt = {interrupt};
     uint16_t code = word_at(base, BASE_CODE), stack = STACK_BASE, top = STACK_BYTES, extra = base;
-    uint32_t start = *at(base, BASE_8080) == 1 ? START_8080 : 0;
+    uint32_t start = code == base ? BASE_BYTES : 0;
     if (word_at(base, LAST_EXTRA) != 0 || *at(base, LAST_EXTRA + 2) != 0)
         extra = word_at(base, BASE_EXTRA);
     lay_return();

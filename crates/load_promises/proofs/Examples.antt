@@ -19,7 +19,7 @@ use Rattle.loading.specs.declared.LoadAnswer.{LoadAnswer}
 use Rattle.loading.specs.declared.LoadRefusal.the-variants.{Rules, Header, Image, NoPlace, NoRoom}
 use Rattle.loading.specs.declared.LoadAnswer.the-variants.{Loaded, Refused}
 use Rattle.loading.specs.Page.{pageStart}
-use Rattle.loading.specs.Load.{loaded, placed}
+use Rattle.loading.specs.Load.{after, loaded, placed}
 
 abbrev header : ℕ → List ℕ
 header form = form ∷ 0x04 ∷ 0 ∷ 0x20 ∷ 0 ∷ 0x10 ∷ 0 ∷ 0 ∷ 0 ∷ replicate 119 0
@@ -58,3 +58,22 @@ then-62 = refl
 then-done : answer 0x01 1 (table 0x10 []) ≡ Loaded 0x20
 unfolding placed loaded pageStart withinRules lawful apart overlap liesIn anyOf allOf padded goodHeader goodGroup groups typeAt placeOf pagePlace lowFrom anyFrom everyFrom imageStart grants followed grantOf grantAt hasRoom room run freeIn taken covers mostOf
 then-done = refl
+
+-- "A load grants all groups or none": code of four paragraphs at 20H, and data of one that needs 10H, at 24H
+abbrev both : List ℕ
+both = 0x01 ∷ 0x04 ∷ 0 ∷ 0x20 ∷ 0 ∷ 0 ∷ 0 ∷ 0 ∷ 0 ∷ 0x02 ∷ 0x01 ∷ 0 ∷ 0x24 ∷ 0 ∷ 0x10 ∷ 0 ∷ 0 ∷ 0 ∷ replicate 110 0
+
+-- there is room for both; with a paragraph less code has room and data has none: 62, and neither the table nor a byte of the memory is altered
+all-granted : placed both 1 [] (table 0x14 []) (replicate 0x340 0xAA) .reply
+    ≡ record { answer = Loaded 0x24; table = table 0x14 (span 0x20 0x04 ∷ span 0x24 0x10 ∷ []) }
+unfolding placed loaded pageStart withinRules lawful apart overlap liesIn anyOf allOf padded goodHeader goodGroup groups typeAt placeOf pagePlace lowFrom anyFrom everyFrom imageStart grants followed grantOf grantAt hasRoom room run freeIn taken covers mostOf
+all-granted = refl
+
+none-granted : placed both 1 [] (table 0x13 []) (replicate 0x340 0xAA) ≡ after (record { answer = Refused NoRoom; table = table 0x13 [] }) (replicate 0x340 0xAA)
+unfolding placed withinRules lawful apart overlap liesIn anyOf allOf padded goodHeader goodGroup groups typeAt placeOf pagePlace lowFrom anyFrom everyFrom imageStart grants followed grantOf grantAt hasRoom room run freeIn taken covers mostOf
+none-granted = refl
+
+-- the first group does have that room
+code-granted : grants both (span 0x20 0x13 ∷ []) [] 0 2 ≡ span 0x20 0x04 ∷ []
+unfolding grants followed grantOf grantAt hasRoom room run freeIn taken covers anyOf mostOf
+code-granted = refl
