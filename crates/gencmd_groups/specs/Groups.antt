@@ -51,9 +51,13 @@ paragraphBytes = 16
 abbrev pub pageParagraphs : ℕ
 pageParagraphs = 16
 
--- "rounded up to whole paragraphs", to at least so many; a group that no line gives a byte is not there
+-- "rounded up to whole paragraphs"
+abbrev pub rounded : ℕ → ℕ
+rounded reach = (reach + paragraphBytes - 1) / paragraphBytes
+
+-- to at least so many; a group that no line gives a byte is not there
 abbrev pub paragraphs : ℕ → ℕ → ℕ
-paragraphs least reach = cond (eqb reach 0) 0 (max least ((reach + paragraphBytes - 1) / paragraphBytes))
+paragraphs least reach = cond (eqb reach 0) 0 (max least (rounded reach))
 
 -- "the base page's group to at least 16": the data group, or else the code group
 unfoldable pub sizesOf : Groups → Groups
