@@ -7,12 +7,14 @@ use native.Mathlib.Omega.{arith}
 use lib.Dec.{leb, ltb, eqb}
 use borrow.Author.Tests.{ne-eqb, eqb-true}
 use Rattle.lists.proofs.BoolLaws.{and-left}
+use Rattle.memory_spans.specs.Span.{paragraphBytes}
+use Rattle.load_header.specs.Header.{CODE, DATA, EXTRA, STACK, pageParagraphs}
 use Rattle.gencmd_lines.specs.declared.Refusal.the-variants.{None}
 use Rattle.gencmd_lines.specs.Refusal.{isNone}
-use Rattle.gencmd_lines.specs.Line.{Line, countOf, addressOf, groupOf, isEnd, lineRefusal, CODE, DATA, EXTRA, STACK}
+use Rattle.gencmd_lines.specs.Line.{Line, countOf, addressOf, groupOf, isEnd, lineRefusal}
 use Rattle.gencmd_lines.specs.Lines.{linesRefusal, dataLines}
 use Rattle.gencmd_lines.proofs.RefusalLaws.{first-parts, OfEach, line-by}
-use Rattle.gencmd_groups.specs.Groups.{gives, given, reachOf, reaches, paragraphBytes, pageParagraphs, paragraphs, sizesOf}
+use Rattle.gencmd_groups.specs.Groups.{gives, given, reachOf, reaches, paragraphs, sizesOf}
 use Rattle.gencmd_groups.specs.HighestByte.{Covers, Enough}
 use Rattle.gencmd_groups.proofs.ReachLaws.{highest-byte}
 

@@ -5,10 +5,11 @@ use mathlib.Core.Bool.{Bool, true, false, cond, not, false≢true}
 use Prim.Native.Nat.{ℕ, _+_, _≤_}
 use lib.Dec.{eqb, ltb}
 use borrow.Author.Tests.{eqb-false, ltb-false}
+use Rattle.load_header.specs.Header.{CODE, DATA, EXTRA, STACK}
 use Rattle.gencmd_lines.specs.declared.Refusal.{Refusal}
 use Rattle.gencmd_lines.specs.declared.Refusal.the-variants.{None, Digits, Sum, OtherType, Beyond}
 use Rattle.gencmd_lines.specs.Refusal.{isNone, first, refusing}
-use Rattle.gencmd_lines.specs.Line.{Line, addresses, countOf, addressOf, isSpelled, sumOf, CODE, DATA, EXTRA, STACK, groupOfType, groupOf, isEnd, dataRefusal, lineRefusal}
+use Rattle.gencmd_lines.specs.Line.{Line, addresses, countOf, addressOf, isSpelled, sumOf, groupOfType, groupOf, isEnd, dataRefusal, lineRefusal}
 
 pub first-parts : (a b : Refusal) → isNone (first a b) ≡ true → (isNone a ≡ true) × (isNone b ≡ true)
 first-parts a b e = go (isNone a) refl e

@@ -8,8 +8,9 @@ use borrow.Author.Tests.{ne-eqb}
 use lib.Dec.{eqb}
 use lib.ListN.{length, getD}
 use Rattle.memory_spans.specs.Span.{paragraphBytes}
+use Rattle.load_header.specs.Header.{CODE, DATA, EXTRA, STACK}
 use Rattle.gencmd_lines.specs.Refusal.{isNone}
-use Rattle.gencmd_lines.specs.Line.{Line, CODE, DATA, EXTRA, STACK}
+use Rattle.gencmd_lines.specs.Line.{Line}
 use Rattle.gencmd_lines.specs.Lines.{linesRefusal, dataLines}
 use Rattle.gencmd_lines.proofs.RefusalLaws.{OfEach}
 use Rattle.gencmd_groups.specs.declared.Groups.{Groups}

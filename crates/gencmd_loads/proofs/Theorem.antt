@@ -16,7 +16,7 @@ use Rattle.memory_spans.specs.Span.{places, paragraphBytes, none}
 use Rattle.memory_calls.specs.declared.Table.{Table}
 use Rattle.memory_calls.specs.Table.{piecesOf, regionsOf}
 use Rattle.memory_calls.proofs.CallLaws.{within-facts}
-use Rattle.load_header.specs.Header.{lengthAt, leastAt, mostAt, need, groups, pagePlace, imageStart, goodHeader}
+use Rattle.load_header.specs.Header.{CODE, lengthAt, leastAt, mostAt, need, groups, pagePlace, imageStart, goodHeader}
 use Rattle.load_records.specs.Records as records
 use Rattle.load_records.proofs.RecordLaws.{record-length}
 use Rattle.load_records.proofs.ImageLaws.{image-length}
@@ -25,7 +25,6 @@ use Rattle.loading.specs.Load.{grantsOf, imageShort, loaded, placed, load}
 use Rattle.loading.proofs.LoadLaws.{good-facts, page-below}
 use Rattle.gencmd_lines.specs.declared.Refusal.the-variants.{NoCode}
 use Rattle.gencmd_lines.specs.Refusal.{isNone, refusing}
-use Rattle.gencmd_lines.specs.Line.{CODE}
 use Rattle.gencmd_lines.specs.Lines.{linesOf, linesIn, linesRefusal}
 use Rattle.gencmd_lines.proofs.RefusalLaws.{first-parts}
 use Rattle.gencmd_groups.specs.Groups.{reachOf, reaches}

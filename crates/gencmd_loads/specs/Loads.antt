@@ -15,12 +15,12 @@ use Rattle.memory_spans.specs.declared.Span.{Span}
 use Rattle.memory_spans.specs.Span.{places, paragraphBytes, none}
 use Rattle.memory_calls.specs.declared.Table.{Table}
 use Rattle.memory_calls.specs.Table.{regionsOf, withRegions, withinRules}
-use Rattle.load_header.specs.Header.{lengthAt, baseAt, leastAt, mostAt, groups, typeAt, pagePlace}
+use Rattle.load_header.specs.Header.{CODE, DATA, EXTRA, STACK, lengthAt, baseAt, leastAt, mostAt, groups, typeAt, pagePlace}
 use Rattle.load_records.specs.Records.{recordOf, image, readWhy}
 use Rattle.loading.specs.Page.{pageBytes}
 use Rattle.loading.specs.Load.{After, numberOf, grantsOf, load}
 use Rattle.gencmd_lines.specs.Refusal.{isNone}
-use Rattle.gencmd_lines.specs.Line.{Line, CODE, DATA, EXTRA, STACK}
+use Rattle.gencmd_lines.specs.Line.{Line}
 use Rattle.gencmd_lines.specs.Lines.{linesIn}
 use Rattle.gencmd_groups.specs.declared.Groups.{Groups}
 use Rattle.gencmd_groups.specs.Groups.{given, byteAt, reaches, sizesOf}
