@@ -1,5 +1,6 @@
 // Reads a hex text from standard input and writes its CMD file to standard output. A text that is refused, or that has more
-// bytes than the program has room for, is a line on standard error, and nothing is written.
+// bytes than the program has room for, is a line on standard error, and nothing is written. A file that standard output does not take
+// whole is a line there too.
 ghost use Prim.Native.Nat.{_≤_};
 ghost use lib.ListN.{length};
 ghost use Rattle.gencmd_file.specs.Longest.{longest};
@@ -42,14 +43,22 @@ fn refuse_length() {
     complain(&line, c);
 }
 
+// The file, on standard output, or a line that tells that not all of it was taken.
+fn deliver(file: &[u8]) {
+    if !io::write_all(STDOUT_FILENO, file) {
+        io::write_all(
+            STDERR_FILENO,
+            b"NOT WRITTEN: standard output did not take the whole file\n",
+        );
+    }
+}
+
 // The file of a text, or why there is none. There is room for every file.
 fn convert(text: &[u8], out: &mut [u8])
     requires { ⌜ longest ≤ length (now out) ⌝ }
 {
     match gencmd_file::gencmd(text, out) {
-        Answer::Written(n) => {
-            io::write_all(STDOUT_FILENO, &out[0..n]);
-        }
+        Answer::Written(n) => deliver(&out[0..n]),
         Answer::Refused(why) => refuse(why),
     }
 }

@@ -11,9 +11,11 @@ use Rattle.lists.specs.Bytes.{put}
 use Rattle.numbers.specs.Numbers.{bytesOf}
 use Rattle.text.specs.Text.{Text, text, puts}
 use Rattle.text.proofs.TextLaws.{puts-room}
-use Rattle.gencmd_lines.specs.Line.{Line, CODE, DATA, EXTRA, STACK}
+use Rattle.memory_spans.specs.Span.{paragraphBytes}
+use Rattle.load_header.specs.Header.{CODE, DATA, EXTRA, STACK}
+use Rattle.gencmd_lines.specs.Line.{Line}
 use Rattle.gencmd_groups.specs.declared.Groups.{Groups}
-use Rattle.gencmd_groups.specs.Groups.{groupBytes, paragraphBytes}
+use Rattle.gencmd_groups.specs.Groups.{groupBytes}
 use Rattle.gencmd_groups.proofs.ListLaws.{length-list}
 use Rattle.gencmd_file.specs.File.{headerBytes, descriptor, descriptors, header, image, imageEnd, fileLength, fileWith}
 use Rattle.gencmd_file.specs.CodePlan.{imageOf}

@@ -6,9 +6,11 @@ use native.Mathlib.Omega.{arith}
 use lib.ListN.{length, replicate, length-append}
 use lib.Seq.{take-at, drop-at}
 use Rattle.lists.specs.Bytes.{part}
-use Rattle.gencmd_lines.specs.Line.{Line, CODE, DATA, EXTRA, STACK}
+use Rattle.memory_spans.specs.Span.{paragraphBytes}
+use Rattle.load_header.specs.Header.{CODE, DATA, EXTRA, STACK}
+use Rattle.gencmd_lines.specs.Line.{Line}
 use Rattle.gencmd_groups.specs.declared.Groups.{Groups}
-use Rattle.gencmd_groups.specs.Groups.{byteAt, groupBytes, paragraphBytes}
+use Rattle.gencmd_groups.specs.Groups.{byteAt, groupBytes}
 use Rattle.gencmd_groups.proofs.ListLaws.{length-list}
 use Rattle.gencmd_file.specs.File.{headerBytes, header, image, fileLength, fileWith}
 use Rattle.gencmd_file.specs.Parts.{Parts}

@@ -7,10 +7,11 @@ use native.Mathlib.Omega.{arith}
 use lib.Dec.{eqb, ltb}
 use lib.ListN.{length, drop, length-append, length-drop}
 use borrow.Author.Tests.{ltb-true, ltb-false, le-ltb}
+use Rattle.load_header.specs.Header.{CODE}
 use Rattle.gencmd_lines.specs.declared.Refusal.{Refusal}
 use Rattle.gencmd_lines.specs.declared.Refusal.the-variants.{None, NoCode, Room}
 use Rattle.gencmd_lines.specs.Refusal.{isNone, first, refusing}
-use Rattle.gencmd_lines.specs.Line.{Line, CODE}
+use Rattle.gencmd_lines.specs.Line.{Line}
 use Rattle.gencmd_lines.specs.Lines.{linesOf, linesRefusal, linesIn}
 use Rattle.gencmd_lines.proofs.RefusalLaws.{first-parts}
 use Rattle.gencmd_groups.specs.declared.Groups.{Groups}

@@ -7,9 +7,11 @@ use lib.Dec.{eqb}
 use lib.ListN.{length, replicate}
 use Rattle.numbers.specs.Numbers.{bytesOf}
 use Rattle.disk_geometry.specs.Geometry.{recordBytes}
-use Rattle.gencmd_lines.specs.Line.{Line, CODE, DATA, EXTRA, STACK}
+use Rattle.memory_spans.specs.Span.{paragraphBytes}
+use Rattle.load_header.specs.Header.{CODE, DATA, EXTRA, STACK}
+use Rattle.gencmd_lines.specs.Line.{Line}
 use Rattle.gencmd_groups.specs.declared.Groups.{Groups}
-use Rattle.gencmd_groups.specs.Groups.{groupBytes, reaches, paragraphBytes, sizesOf}
+use Rattle.gencmd_groups.specs.Groups.{groupBytes, reaches, sizesOf}
 
 abbrev pub headerBytes : ℕ
 headerBytes = 128

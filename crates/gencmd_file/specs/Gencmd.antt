@@ -4,10 +4,10 @@ use mathlib.Core.List.{List, _++_}
 use Prim.Native.Nat.{ℕ}
 use lib.Dec.{eqb, ltb}
 use lib.ListN.{length, drop}
+use Rattle.load_header.specs.Header.{CODE}
 use Rattle.gencmd_lines.specs.declared.Refusal.{Refusal}
 use Rattle.gencmd_lines.specs.declared.Refusal.the-variants.{NoCode, Room}
 use Rattle.gencmd_lines.specs.Refusal.{refusalNumber, isNone, first, refusing}
-use Rattle.gencmd_lines.specs.Line.{CODE}
 use Rattle.gencmd_lines.specs.Lines.{linesOf, linesRefusal, linesIn}
 use Rattle.gencmd_groups.specs.Groups.{reachOf}
 use Rattle.gencmd_file.specs.declared.Answer.{Answer}

@@ -4,9 +4,11 @@ use mathlib.Core.Path.{_≡_}
 use mathlib.Core.List.{List}
 use Prim.Native.Nat.{ℕ, _+_, _*_}
 use Rattle.lists.specs.Bytes.{part}
-use Rattle.gencmd_lines.specs.Line.{Line, CODE, DATA, EXTRA, STACK}
+use Rattle.memory_spans.specs.Span.{paragraphBytes}
+use Rattle.load_header.specs.Header.{CODE, DATA, EXTRA, STACK}
+use Rattle.gencmd_lines.specs.Line.{Line}
 use Rattle.gencmd_groups.specs.declared.Groups.{Groups}
-use Rattle.gencmd_groups.specs.Groups.{groupBytes, paragraphBytes}
+use Rattle.gencmd_groups.specs.Groups.{groupBytes}
 use Rattle.gencmd_file.specs.File.{headerBytes, header, fileWith}
 
 -- n paragraphs of the image, behind so many others

@@ -7,10 +7,10 @@ ghost use Rattle.text.specs.Text.{text, puts};
 ghost use Rattle.numbers.specs.Numbers.{bytesOf};
 ghost use Rattle.gencmd_file.specs.File.{headerBytes, descriptor, header};
 use gencmd_groups::Groups;
-use gencmd_lines::CODE;
-use gencmd_lines::DATA;
-use gencmd_lines::EXTRA;
-use gencmd_lines::STACK;
+use load_header::CODE;
+use load_header::DATA;
+use load_header::EXTRA;
+use load_header::STACK;
 
 // How many bytes the header has.
 pub(crate) const HEADER_BYTES: usize = 128;

@@ -15,11 +15,11 @@ use crate::header::put_header;
 use disk_geometry::Geometry;
 use gencmd_groups::Groups;
 use gencmd_groups::laying::lay_group;
-use gencmd_groups::sizing::PARAGRAPH_BYTES;
-use gencmd_lines::CODE;
-use gencmd_lines::DATA;
-use gencmd_lines::EXTRA;
-use gencmd_lines::STACK;
+use load_header::CODE;
+use load_header::DATA;
+use load_header::EXTRA;
+use load_header::STACK;
+use memory_spans::PARAGRAPH_BYTES;
 
 // n bytes of a group at a place of the file.
 fn put_group(out: &mut [u8], at: usize, n: usize, text: &[u8], group: usize)

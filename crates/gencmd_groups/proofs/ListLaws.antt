@@ -13,7 +13,7 @@ unfolding listFrom
 length-list f i zero = refl
 length-list f i (suc k) = ap suc (length-list f (suc i) k)
 
-byte-list : (f : ℕ → ℕ) (i k a : ℕ) → a < k → byte (listFrom f i k) a ≡ f (i + a)
+pub byte-list : (f : ℕ → ℕ) (i k a : ℕ) → a < k → byte (listFrom f i k) a ≡ f (i + a)
 unfolding listFrom
 byte-list f i zero a h = absurd (omega arith)
 byte-list f i (suc k) zero h = let z : i + 0 ≡ i = omega arith in rw z

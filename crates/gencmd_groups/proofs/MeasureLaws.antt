@@ -5,10 +5,11 @@ use mathlib.Core.List.{List, [], _∷_}
 use Prim.Native.Nat.{ℕ, _<_, _≤_, max}
 use native.Mathlib.Omega.{arith}
 use lib.ListN.{length}
+use Rattle.load_header.specs.Header.{CODE, DATA, EXTRA, STACK}
 use Rattle.gencmd_lines.specs.declared.Refusal.{Refusal}
 use Rattle.gencmd_lines.specs.declared.Refusal.the-variants.{NoEnd}
 use Rattle.gencmd_lines.specs.Refusal.{isNone}
-use Rattle.gencmd_lines.specs.Line.{Line, isEnd, lineRefusal, CODE, DATA, EXTRA, STACK}
+use Rattle.gencmd_lines.specs.Line.{Line, isEnd, lineRefusal}
 use Rattle.gencmd_lines.specs.Lines.{linesOf, linesRefusal, dataLines}
 use Rattle.gencmd_lines.specs.CodeWalk.{nextColon, nextLine}
 use Rattle.gencmd_lines.proofs.LinesLaws.{Walk, linesAt, lentLine, lines-here, lines-end, lines-next-colon, next-colon-walk, next-line-walk}

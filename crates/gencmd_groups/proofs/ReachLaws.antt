@@ -8,13 +8,15 @@ use native.Mathlib.Omega.{arith}
 use lib.Dec.{leb, ltb, eqb}
 use borrow.Author.Tests.{ltb-true, leb-true, lt-ltb, le-leb}
 use Rattle.lists.proofs.BoolLaws.{and-left, and-right}
+use Rattle.memory_spans.specs.Span.{paragraphBytes}
+use Rattle.load_header.specs.Header.{CODE, DATA, EXTRA, STACK, pageParagraphs}
 use Rattle.gencmd_lines.specs.declared.Refusal.the-variants.{None}
 use Rattle.gencmd_lines.specs.Refusal.{isNone}
-use Rattle.gencmd_lines.specs.Line.{Line, addresses, countOf, addressOf, groupOf, isEnd, lineRefusal, CODE, DATA, EXTRA, STACK}
+use Rattle.gencmd_lines.specs.Line.{Line, addresses, countOf, addressOf, groupOf, isEnd, lineRefusal}
 use Rattle.gencmd_lines.specs.Lines.{linesRefusal, dataLines}
 use Rattle.gencmd_lines.proofs.RefusalLaws.{first-parts, line-within}
 use Rattle.gencmd_groups.specs.declared.Groups.{Groups}
-use Rattle.gencmd_groups.specs.Groups.{gives, given, endOf, reachOf, reaches, paragraphBytes, pageParagraphs, paragraphs, sizesOf}
+use Rattle.gencmd_groups.specs.Groups.{gives, given, endOf, reachOf, reaches, rounded, paragraphs, sizesOf}
 use Rattle.gencmd_groups.specs.CodeMeasure.{ReachWithin, SizeWithin}
 use Rattle.gencmd_groups.specs.HighestByte.{HighestByte}
 
@@ -100,7 +102,7 @@ reaches-within ls e =
 paragraphs-within : (least reach : ℕ) → least ≤ pageParagraphs → reach ≤ addresses → paragraphs least reach ≤ addresses / paragraphBytes
 paragraphs-within least reach h k = go (eqb reach 0)
   where
-    go : (t : Bool) → cond t 0 (max least ((reach + paragraphBytes - 1) / paragraphBytes)) ≤ addresses / paragraphBytes
+    go : (t : Bool) → cond t 0 (max least (rounded reach)) ≤ addresses / paragraphBytes
     go true = omega arith
     go false = omega arith
 

@@ -2,13 +2,15 @@
 use mathlib.Core.Bool.{cond}
 use mathlib.Core.List.{List}
 use Prim.Native.Nat.{ℕ, _/_, _≤_, max}
+use Rattle.memory_spans.specs.Span.{paragraphBytes}
+use Rattle.load_header.specs.Header.{CODE, DATA, EXTRA, STACK}
 use Rattle.gencmd_lines.specs.Refusal.{isNone}
-use Rattle.gencmd_lines.specs.Line.{Line, addresses, CODE, DATA, EXTRA, STACK}
+use Rattle.gencmd_lines.specs.Line.{Line, addresses}
 use Rattle.gencmd_lines.specs.Lines.{linesRefusal, dataLines}
 use Rattle.gencmd_groups.specs.declared.Groups.{Groups}
 use Rattle.gencmd_groups.specs.declared.Measured.{Measured}
 use Rattle.gencmd_groups.specs.declared.Measured.the-variants.{Refused, Reached}
-use Rattle.gencmd_groups.specs.Groups.{endOf, reaches, paragraphBytes}
+use Rattle.gencmd_groups.specs.Groups.{endOf, reaches}
 
 abbrev pub measured : List Line → Measured
 measured ls = cond (isNone (linesRefusal ls)) (Reached (reaches (dataLines ls))) (Refused (linesRefusal ls))

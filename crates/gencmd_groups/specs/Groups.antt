@@ -4,7 +4,9 @@ use mathlib.Core.Bool.{Bool, false, cond, _&&_, _||_}
 use mathlib.Core.List.{List, [], _∷_}
 use Prim.Native.Nat.{ℕ, zero, suc, _+_, _-_, _/_, max}
 use lib.Dec.{leb, ltb, eqb}
-use Rattle.gencmd_lines.specs.Line.{Line, countOf, addressOf, dataOf, groupOf, CODE, DATA, EXTRA, STACK}
+use Rattle.memory_spans.specs.Span.{paragraphBytes}
+use Rattle.load_header.specs.Header.{CODE, DATA, EXTRA, STACK, pageParagraphs}
+use Rattle.gencmd_lines.specs.Line.{Line, countOf, addressOf, dataOf, groupOf}
 use Rattle.gencmd_groups.specs.declared.Groups.{Groups}
 
 -- a line gives the byte at address a of group g
@@ -44,16 +46,13 @@ reachOf (l ∷ ls) g = max (endOf l g) (reachOf ls g)
 abbrev pub reaches : List Line → Groups
 reaches ls = record { code = reachOf ls CODE; «data» = reachOf ls DATA; extra = reachOf ls EXTRA; stack = reachOf ls STACK }
 
-abbrev pub paragraphBytes : ℕ
-paragraphBytes = 16
+-- "rounded up to whole paragraphs"
+abbrev pub rounded : ℕ → ℕ
+rounded reach = (reach + paragraphBytes - 1) / paragraphBytes
 
--- a base page has 100H bytes (000, 3.7)
-abbrev pub pageParagraphs : ℕ
-pageParagraphs = 16
-
--- "rounded up to whole paragraphs", to at least so many; a group that no line gives a byte is not there
+-- to at least so many; a group that no line gives a byte is not there
 abbrev pub paragraphs : ℕ → ℕ → ℕ
-paragraphs least reach = cond (eqb reach 0) 0 (max least ((reach + paragraphBytes - 1) / paragraphBytes))
+paragraphs least reach = cond (eqb reach 0) 0 (max least (rounded reach))
 
 -- "the base page's group to at least 16": the data group, or else the code group
 unfoldable pub sizesOf : Groups → Groups

@@ -6,13 +6,13 @@ ghost use Rattle.gencmd_lines.specs.Lines.{linesOf};
 ghost use Rattle.gencmd_groups.specs.CodeMeasure.{reachOver, measured};
 use crate::Groups;
 use crate::Measured;
-use gencmd_lines::CODE;
-use gencmd_lines::DATA;
-use gencmd_lines::EXTRA;
 use gencmd_lines::Refusal;
-use gencmd_lines::STACK;
 use gencmd_lines::line;
 use gencmd_lines::walk;
+use load_header::CODE;
+use load_header::DATA;
+use load_header::EXTRA;
+use load_header::STACK;
 
 // The larger of two numbers, where the second counts.
 fn larger(old: usize, here: bool, n: usize) -> usize

@@ -3,16 +3,13 @@ ghost use mathlib.Core.Path.{_≡_};
 ghost use mathlib.Core.Bool.{cond};
 ghost use Prim.Native.Nat.{_≤_};
 ghost use lib.Dec.{eqb};
+ghost use Rattle.load_header.specs.Header.{pageParagraphs};
 ghost use Rattle.gencmd_lines.specs.Line.{addresses};
-ghost use Rattle.gencmd_groups.specs.Groups.{pageParagraphs, paragraphs, sizesOf};
+ghost use Rattle.gencmd_groups.specs.Groups.{paragraphs, sizesOf};
 ghost use Rattle.gencmd_groups.specs.CodeMeasure.{ReachWithin};
 use crate::Groups;
-
-// How many bytes a paragraph has.
-pub const PARAGRAPH_BYTES: usize = 16;
-
-// How many paragraphs a base page has.
-const PAGE_PARAGRAPHS: usize = 16;
+use load_header::PAGE_PARAGRAPHS;
+use memory_spans::PARAGRAPH_BYTES;
 
 // How many paragraphs a group has that reaches so far, at least so many.
 fn paragraphs_of(least: usize, reach: usize) -> usize

@@ -7,6 +7,7 @@ use lib.Dec.{leb, ltb, eqb}
 use lib.ListN.{length}
 use Rattle.lists.specs.Bytes.{byte}
 use Rattle.lists.specs.Bounded.{every}
+use Rattle.load_header.specs.Header.{CODE, DATA, EXTRA, STACK}
 use Rattle.gencmd_lines.specs.declared.Refusal.{Refusal}
 use Rattle.gencmd_lines.specs.declared.Refusal.the-variants.{None, Digits, Sum, OtherType, Beyond}
 use Rattle.gencmd_lines.specs.Refusal.{first, refusing}
@@ -58,20 +59,8 @@ sumFrom f i (suc k) = f i + sumFrom f (suc i) k
 unfoldable pub sumOf : Line → ℕ
 sumOf l = sumFrom (lineByte l) 0 (bytesIn l) % 256
 
--- the groups, by the type of their descriptor (000, table 3)
-abbrev pub CODE : ℕ
-CODE = 1
-
-abbrev pub DATA : ℕ
-DATA = 2
-
-abbrev pub EXTRA : ℕ
-EXTRA = 3
-
-abbrev pub STACK : ℕ
-STACK = 4
-
--- "type 00 (as code), 01 (the end), and 81 to 84", which are code, data, stack and extra (000, table 2); 0: no group
+-- "type 00 (as code), 01 (the end), and 81 to 84", which are code, data, stack and extra (000, table 2): the group by the type of its
+-- descriptor; 0: no group
 unfoldable pub groupOfType : ℕ → ℕ
 groupOfType t =
     cond (eqb t 0x00) CODE

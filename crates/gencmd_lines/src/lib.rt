@@ -7,15 +7,6 @@ mod digits;
 pub mod line;
 pub mod walk;
 
-// The groups, by the type of their descriptor (000, table 3).
-pub const CODE: usize = 1;
-
-pub const DATA: usize = 2;
-
-pub const EXTRA: usize = 3;
-
-pub const STACK: usize = 4;
-
 // Why a text is refused, in the order of the tests; None is no refusal.
 pub enum Refusal {
     None,

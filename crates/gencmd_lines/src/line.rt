@@ -3,14 +3,14 @@ ghost use mathlib.Core.Path.{_≡_};
 ghost use Prim.Native.Nat.{_*_, _≤_, _<_};
 ghost use Rattle.gencmd_lines.specs.Line.{addresses, dataMost, countOf, addressOf, dataOf, digitsIn, isSpelled, sumOf, groupOfType, groupOf, isEnd, dataRefusal, lineRefusal};
 ghost use Rattle.gencmd_lines.specs.CodeWalk.{mostBytes};
-use crate::CODE;
-use crate::DATA;
-use crate::EXTRA;
 use crate::Refusal;
-use crate::STACK;
 use crate::digits::is_digit;
 use crate::digits::line_byte;
 use lists::wide;
+use load_header::CODE;
+use load_header::DATA;
+use load_header::EXTRA;
+use load_header::STACK;
 
 // Where a line has its fields (000, table 2), and how many bytes it has beside its data: ll, aaaa, tt and cc.
 const AT_COUNT: usize = 0;

@@ -6,7 +6,7 @@ use Prim.Native.Nat.{ℕ, zero, suc, _+_, _≤_, _<_}
 use native.Mathlib.Omega.{arith}
 use lib.Dec.{eqb}
 use lib.ListN.{length, getD}
-use Rattle.gencmd_lines.specs.Line.{CODE, DATA, EXTRA, STACK}
+use Rattle.load_header.specs.Header.{CODE, DATA, EXTRA, STACK}
 use Rattle.gencmd_groups.specs.declared.Groups.{Groups}
 use Rattle.gencmd_groups.specs.CodeMeasure.{SizeWithin}
 use Rattle.gencmd_loads.specs.Loads.{Group, nobody, there, groupsOf}

@@ -2,7 +2,7 @@
 use mathlib.Core.Path.{_≡_, refl, sym, ap, _∙_}
 use mathlib.Core.Bool.{Bool, true, false, cond}
 use mathlib.Core.List.{List, [], _∷_, _++_}
-use Prim.Native.Nat.{ℕ, zero, suc, _+_, _-_, _/_, _≤_, _<_, max}
+use Prim.Native.Nat.{ℕ, zero, suc, _+_, _≤_, _<_, max}
 use native.Mathlib.Omega.{arith}
 use native.Mathlib.Decide.{decLt}
 use borrow.Author.Tests.{ne-eqb, eq-eqb, le-leb, lt-ltb, le-ltb, eqb-true, eqb-false}
@@ -12,7 +12,7 @@ use Rattle.lists.specs.Bounded.{any, every}
 use Rattle.lists.proofs.BoundedLaws.{low-is, low-no, any-none, every-intro}
 use Rattle.load_header.specs.Header.{CODE, DATA, pageParagraphs, lengthAt, leastAt, groups, typeAt, need, goodGroup, placeOf, has, pagePlace, goodHeader}
 use Rattle.gencmd_groups.specs.declared.Groups.{Groups}
-use Rattle.gencmd_groups.specs.Groups.{paragraphBytes, paragraphs, sizesOf}
+use Rattle.gencmd_groups.specs.Groups.{rounded, sizesOf}
 use Rattle.gencmd_groups.specs.CodeMeasure.{SizeWithin}
 use Rattle.gencmd_file.specs.File.{header}
 use Rattle.gencmd_loads.specs.Loads.{Group, nobody, there, groupsOf, Says}
@@ -34,13 +34,11 @@ paged r h =
       alone = λ k. rw (ne-eqb (r .code) 0 (λ e. omega arith)) (none (eqb (r .«data») 0) k);
     }
   where
-    some : (t : Bool) → 0 < cond t 0 (max pageParagraphs ((r .«data» + paragraphBytes - 1) / paragraphBytes))
-        → pageParagraphs ≤ cond t 0 (max pageParagraphs ((r .«data» + paragraphBytes - 1) / paragraphBytes))
+    some : (t : Bool) → 0 < cond t 0 (max pageParagraphs (rounded (r .«data»))) → pageParagraphs ≤ cond t 0 (max pageParagraphs (rounded (r .«data»)))
     some true k = absurd (omega arith)
     some false k = omega arith
 
-    none : (t : Bool) → cond t 0 (max pageParagraphs ((r .«data» + paragraphBytes - 1) / paragraphBytes)) ≡ 0
-        → pageParagraphs ≤ max (cond t pageParagraphs 0) ((r .code + paragraphBytes - 1) / paragraphBytes)
+    none : (t : Bool) → cond t 0 (max pageParagraphs (rounded (r .«data»))) ≡ 0 → pageParagraphs ≤ max (cond t pageParagraphs 0) (rounded (r .code))
     none true k = omega arith
     none false k = absurd (omega arith)
 

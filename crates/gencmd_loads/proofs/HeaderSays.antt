@@ -12,8 +12,7 @@ use Rattle.lists.specs.Bytes.{byte}
 use Rattle.lists.specs.Bounded.{lowFrom}
 use Rattle.lists.proofs.BoundedLaws.{low-is}
 use Rattle.numbers.specs.Numbers.{bytesOf, two}
-use Rattle.load_header.specs.Header.{descriptors as places, descriptorBytes, formAt, lengthAt, baseAt, leastAt, mostAt, groups, typeAt}
-use Rattle.gencmd_lines.specs.Line.{CODE, DATA, EXTRA, STACK}
+use Rattle.load_header.specs.Header.{CODE, DATA, EXTRA, STACK, descriptors as places, descriptorBytes, formAt, lengthAt, baseAt, leastAt, mostAt, groups, typeAt}
 use Rattle.gencmd_groups.specs.declared.Groups.{Groups}
 use Rattle.gencmd_groups.specs.CodeMeasure.{SizeWithin}
 use Rattle.gencmd_file.specs.File.{headerBytes, descriptor, descriptors, header}

@@ -9,20 +9,14 @@ use lib.Dec.{eqb}
 use lib.ListN.{length, getD, length-append, List·getD-append}
 use lib.Seq.{getD-append-add}
 use Rattle.lists.specs.Bytes.{byte}
-use Rattle.load_header.specs.Header.{lengthAt, groups, typeAt, imageStart}
-use Rattle.gencmd_lines.specs.Line.{Line, CODE, DATA, EXTRA, STACK}
+use Rattle.memory_spans.specs.Span.{paragraphBytes}
+use Rattle.load_header.specs.Header.{CODE, DATA, EXTRA, STACK, lengthAt, groups, typeAt, imageStart}
+use Rattle.gencmd_lines.specs.Line.{Line}
 use Rattle.gencmd_groups.specs.declared.Groups.{Groups}
-use Rattle.gencmd_groups.specs.Groups.{byteAt, listFrom, groupBytes, paragraphBytes}
-use Rattle.gencmd_groups.proofs.ListLaws.{length-list}
+use Rattle.gencmd_groups.specs.Groups.{byteAt, listFrom, groupBytes}
+use Rattle.gencmd_groups.proofs.ListLaws.{length-list, byte-list}
 use Rattle.gencmd_file.specs.File.{image}
 use Rattle.gencmd_loads.specs.Loads.{Group, nobody, there, groupsOf, Says}
-
--- a byte of a list of so many numbers
-byte-list : (f : ℕ → ℕ) (i k a : ℕ) → a < k → byte (listFrom f i k) a ≡ f (i + a)
-unfolding listFrom
-byte-list f i zero a h = absurd (omega arith)
-byte-list f i (suc k) zero h = let z : i + 0 ≡ i = omega arith in rw z
-byte-list f i (suc k) (suc a) h = let z : suc i + a ≡ i + suc a = omega arith in byte-list f (suc i) k a (omega arith) ∙ ap f z
 
 -- how many paragraphs stand before group i
 abbrev before : ℕ → List Group → ℕ

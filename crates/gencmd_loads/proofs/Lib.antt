@@ -2,6 +2,7 @@
 pub mod GroupLaws
 pub mod HeaderSays
 pub mod HeaderGood
+pub mod HeaderHolds
 pub mod ImageHas
 pub mod GrantsExact
 pub mod PutsLaws

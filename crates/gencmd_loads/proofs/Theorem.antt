@@ -16,7 +16,7 @@ use Rattle.memory_spans.specs.Span.{places, paragraphBytes, none}
 use Rattle.memory_calls.specs.declared.Table.{Table}
 use Rattle.memory_calls.specs.Table.{piecesOf, regionsOf}
 use Rattle.memory_calls.proofs.CallLaws.{within-facts}
-use Rattle.load_header.specs.Header.{lengthAt, leastAt, mostAt, need, groups, pagePlace, imageStart, goodHeader}
+use Rattle.load_header.specs.Header.{CODE, lengthAt, leastAt, mostAt, need, groups, pagePlace, imageStart, goodHeader}
 use Rattle.load_records.specs.Records as records
 use Rattle.load_records.proofs.RecordLaws.{record-length}
 use Rattle.load_records.proofs.ImageLaws.{image-length}
@@ -25,7 +25,6 @@ use Rattle.loading.specs.Load.{grantsOf, imageShort, loaded, placed, load}
 use Rattle.loading.proofs.LoadLaws.{good-facts, page-below}
 use Rattle.gencmd_lines.specs.declared.Refusal.the-variants.{NoCode}
 use Rattle.gencmd_lines.specs.Refusal.{isNone, refusing}
-use Rattle.gencmd_lines.specs.Line.{CODE}
 use Rattle.gencmd_lines.specs.Lines.{linesOf, linesIn, linesRefusal}
 use Rattle.gencmd_lines.proofs.RefusalLaws.{first-parts}
 use Rattle.gencmd_groups.specs.Groups.{reachOf, reaches}
@@ -37,12 +36,14 @@ use Rattle.gencmd_file.proofs.FileLaws.{length-header}
 use Rattle.gencmd_loads.specs.Loads.{groupsOf, Says, OnVolume, HasRoom, regionAt, Leaves, sizesIn, headerOf, FileLoads}
 use Rattle.gencmd_loads.proofs.HeaderSays.{header-says}
 use Rattle.gencmd_loads.proofs.HeaderGood.{Paged, paged, header-good}
+use Rattle.gencmd_loads.proofs.HeaderHolds.{header-holds}
 use Rattle.gencmd_loads.proofs.ImageHas.{image-long, image-has}
 use Rattle.gencmd_loads.proofs.GrantsExact.{grants-most, grants-apart}
 use Rattle.gencmd_loads.proofs.MemoryHas.{memory-has}
 
 -- ---- a text that is not refused
 record Taken (text : List ℕ) : Type 0 where
+  pub lines : isNone (linesRefusal (linesOf text)) ≡ true
   pub within : SizeWithin (sizesIn text)
   pub pages : Paged (sizesIn text)
 
@@ -52,7 +53,11 @@ taken text room e =
     let a = first-parts (linesRefusal (linesOf text)) _ e in
     let b = first-parts (refusing NoCode (eqb (reachOf (linesIn text) CODE) 0)) _ (a .1) in
     let c = eqb-false (reachOf (linesIn text) CODE) 0 (unmet (eqb (reachOf (linesIn text) CODE) 0) (b .0)) in
-    record { within = sizes-within (reaches (linesIn text)) (reaches-within (linesOf text) (a .0)); pages = paged (reaches (linesIn text)) (some (reachOf (linesIn text) CODE) c) }
+    record {
+      lines = a .0;
+      within = sizes-within (reaches (linesIn text)) (reaches-within (linesOf text) (a .0));
+      pages = paged (reaches (linesIn text)) (some (reachOf (linesIn text) CODE) c);
+    }
   where
     unmet : (met : Bool) → isNone (refusing NoCode met) ≡ true → met ≡ false
     unmet true e = absurd (false≢true e)
@@ -127,6 +132,7 @@ module _ (text : List ℕ) (d : Drive) (v f : List ℕ) (t : Table) (memory : Li
         answer = refl;
         table = refl;
         size = exact;
+        whole = header-holds (linesOf text) h (k .lines) says;
         memory = λ i x l m q.
             memory-has h (grantsOf h t) (records.image d v f) memory whole law
             (grants-apart (length memory) h (piecesOf t) (regionsOf t) (groups h) (within-facts (length memory) t (r .rules) .law) (r .all))

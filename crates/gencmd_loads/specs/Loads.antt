@@ -1,7 +1,7 @@
 -- "Where (vi) has room and region places, the file written loads with those bytes outside the base page."
 -- For every text that gencmd does not refuse, wherever its file stands on a volume: load answers 0, each group is granted just its
--- paragraphs, and the memory has at every offset the byte that the last line gave, or 0; but for the base page's offsets 0 to
--- 2FH, which are load's own.
+-- paragraphs, every byte that a line gives lies in them, and the memory has at every offset the byte that the last line gave, or 0;
+-- but for the base page's offsets 0 to 2FH, which are load's own.
 use mathlib.Core.Path.{_≡_}
 use mathlib.Core.Bool.{true, cond}
 use mathlib.Core.List.{List, [], _∷_, _++_}
@@ -15,15 +15,15 @@ use Rattle.memory_spans.specs.declared.Span.{Span}
 use Rattle.memory_spans.specs.Span.{places, paragraphBytes, none}
 use Rattle.memory_calls.specs.declared.Table.{Table}
 use Rattle.memory_calls.specs.Table.{regionsOf, withRegions, withinRules}
-use Rattle.load_header.specs.Header.{lengthAt, baseAt, leastAt, mostAt, groups, typeAt, pagePlace}
+use Rattle.load_header.specs.Header.{CODE, DATA, EXTRA, STACK, lengthAt, baseAt, leastAt, mostAt, groups, typeAt, pagePlace}
 use Rattle.load_records.specs.Records.{recordOf, image, readWhy}
 use Rattle.loading.specs.Page.{pageBytes}
 use Rattle.loading.specs.Load.{After, numberOf, grantsOf, load}
 use Rattle.gencmd_lines.specs.Refusal.{isNone}
-use Rattle.gencmd_lines.specs.Line.{Line, CODE, DATA, EXTRA, STACK}
+use Rattle.gencmd_lines.specs.Line.{Line}
 use Rattle.gencmd_lines.specs.Lines.{linesIn}
 use Rattle.gencmd_groups.specs.declared.Groups.{Groups}
-use Rattle.gencmd_groups.specs.Groups.{byteAt, reaches, sizesOf}
+use Rattle.gencmd_groups.specs.Groups.{given, byteAt, reaches, sizesOf}
 use Rattle.gencmd_file.specs.File.{header, fileOf}
 use Rattle.gencmd_file.specs.Gencmd.{refusalOf}
 
@@ -66,10 +66,18 @@ pub record HasRoom (bytes : ℕ) (h : List ℕ) (t : Table) : Type 0 where
 abbrev pub regionAt : List ℕ → Table → ℕ → Span
 regionAt h t i = getD (grantsOf h t) i none
 
+-- address a of group g lies in a group of the header
+pub record Holds (h : List ℕ) (g a : ℕ) : Type 0 where
+  pub place : ℕ
+  pub below : place < groups h
+  pub type : typeAt h place ≡ g
+  pub inside : a < paragraphBytes * lengthAt h place
+
 pub record Leaves (ls : List Line) (h : List ℕ) (t : Table) (after : After) : Type 0 where
   pub answer : numberOf (after .reply .answer) ≡ 0
   pub table : after .reply .table ≡ withRegions t (regionsOf t ++ grantsOf h t)
   pub size : (i : ℕ) → i < groups h → regionAt h t i .length ≡ lengthAt h i
+  pub whole : (g a : ℕ) → given ls g a ≡ true → Holds h g a
   pub memory : (i x : ℕ) → i < groups h → x < paragraphBytes * lengthAt h i → (i ≡ pagePlace h → pageBytes ≤ x)
       → byte (after .memory) (paragraphBytes * regionAt h t i .start + x) ≡ byteAt ls (typeAt h i) x
 

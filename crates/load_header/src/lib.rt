@@ -19,17 +19,21 @@ const G_MIN: usize = 5;
 
 const G_MAX: usize = 7;
 
-// The types of a group that the rules name.
+// The types of a group (000, table 3): four with a name, and the last of the auxiliary ones.
 pub const CODE: usize = 1;
 
 pub const DATA: usize = 2;
+
+pub const EXTRA: usize = 3;
+
+pub const STACK: usize = 4;
 
 pub const LAST_AUX: usize = 8;
 
 const SHARED_CODE: usize = 9;
 
 // How many paragraphs a base page has.
-const PAGE_PARAGRAPHS: usize = 16;
+pub const PAGE_PARAGRAPHS: usize = 16;
 
 // The form byte of descriptor i.
 fn form_at(h: &[u8], i: usize) -> usize

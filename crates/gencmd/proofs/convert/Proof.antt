@@ -12,21 +12,21 @@ gencmd-requires c κs = search needs
 enum-known-n : tie.Need-enum-known-n
 enum-known-n c = search needs
 
-sub-write-all : tie.Need-sub-write-all
-sub-write-all c = search needs
+sub-deliver : tie.Need-sub-deliver
+sub-deliver c = search needs
 
-part-write-all-start : tie.Need-part-write-all-start
-part-write-all-start c = search needs
+part-deliver-start : tie.Need-part-deliver-start
+part-deliver-start c = search needs
 
-part-write-all-end : tie.Need-part-write-all-end
-part-write-all-end c =
+part-deliver-end : tie.Need-part-deliver-end
+part-deliver-end c =
     let a = c .before .before .before .before .before .before .before .before .before .before .args in
     let made = c .before .before .before .before .before .before .gencmd in
     let h = written-within (now (a .text)) (now (a .out)) (c .before .before .n .given .1) (made .ensures) in
     omega (arith, h, made .kept .1 .0)
 
-write-all-requires : tie.Need-write-all-requires
-write-all-requires c κs = search needs
+deliver-requires : tie.Need-deliver-requires
+deliver-requires c κs = search needs
 
 enum-known-why : tie.Need-enum-known-why
 enum-known-why c = search needs
@@ -52,10 +52,10 @@ convert-spec =
     (tie.spec
     gencmd-requires
     enum-known-n
-    sub-write-all
-    part-write-all-start
-    part-write-all-end
-    write-all-requires
+    sub-deliver
+    part-deliver-start
+    part-deliver-end
+    deliver-requires
     enum-known-why
     refuse-requires
     same-length

@@ -1,7 +1,7 @@
 -- Four descriptors, one after the other, over zeros.
+use Rattle.load_header.specs.Header.{CODE, DATA, EXTRA, STACK}
 use Rattle.gencmd_file.proofs.FileLaws.{header-is}
 use Rattle.gencmd_file.specs.File.{descriptor, descriptors}
-use Rattle.gencmd_lines.specs.Line.{CODE, DATA, EXTRA, STACK}
 use Rattle.text.proofs.TextLaws.{wrote, then}
 use lib.ListN.{replicate}
 use Prim.Native.Nat.{ℕ}

@@ -1,8 +1,8 @@
 -- Four groups, each behind the one before.
+use Rattle.load_header.specs.Header.{CODE, DATA, EXTRA, STACK}
 use Rattle.gencmd_file.proofs.FileLaws.{put-one, and-put, image-is}
 use Rattle.gencmd_groups.proofs.ListLaws.{length-list}
 use Rattle.gencmd_lines.specs.Lines.{linesIn}
-use Rattle.gencmd_lines.specs.Line.{CODE, DATA, EXTRA, STACK}
 use Rattle.gencmd_groups.specs.Groups.{byteAt, groupBytes}
 use lib.ListN.{length}
 use denote.Ref.{now}

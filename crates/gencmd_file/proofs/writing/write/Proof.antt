@@ -4,8 +4,8 @@ use Prim.Native.Nat.{_*_, _-_}
 use native.Mathlib.Omega.{arith}
 use lib.ListN.{replicate, length-replicate}
 use denote.Ref.{now}
+use Rattle.memory_spans.specs.Span.{paragraphBytes}
 use Rattle.gencmd_lines.specs.Lines.{linesIn}
-use Rattle.gencmd_groups.specs.Groups.{paragraphBytes}
 use Rattle.gencmd_file.proofs.FileLaws.{put-one, and-put, length-header, length-image, sized, file-is}
 use borrow.Author.Needs.{needs}
 use Rattle.gencmd_file.proofs.writing.write.Statement.{statement}
