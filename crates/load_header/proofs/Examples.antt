@@ -6,7 +6,7 @@ use mathlib.Core.List.{List, [], _∷_, _++_}
 use Prim.Native.Nat.{ℕ}
 use lib.ListN.{replicate}
 use Rattle.lists.specs.Bounded.{lowFrom, anyFrom, everyFrom}
-use Rattle.load_header.specs.Header.{CODE, DATA, EXTRA, lengthAt, baseAt, mostAt, groups, typeAt, need, goodGroup, placeOf, pagePlace, goodHeader, imageStart}
+use Rattle.load_header.specs.Header.{CODE, DATA, lengthAt, baseAt, mostAt, groups, typeAt, need, goodGroup, placeOf, pagePlace, goodHeader, imageStart}
 
 -- a descriptor by its form, length, base, least and most; each number is below 100H but for most, which is given by its two bytes
 abbrev descriptor : ℕ → ℕ → ℕ → ℕ → ℕ → List ℕ
