@@ -63,3 +63,4 @@ pub mod EightInchAtSeamHolds
 pub mod WrongWaysFail
 pub mod WrongOrdersFail
 pub mod WrongPlacingsFail
+pub mod EightInchExamples
