@@ -104,6 +104,36 @@ static void by_hand(void)
     copies("the copy copied: the same bytes, whatever stood there", d, d.bytes, d.bytes, 0, 2);
 }
 
+// Extent 32 has s2 1 and ex 0. Its entry stands below that of extent 5, which goes first all the same.
+static void by_extent_and_not_by_ex(void)
+{
+    static const uint8_t blocks[] = {2, 4, 6, EMPTY, EMPTY, EMPTY, EMPTY};
+    struct disk d = straight(1024, 8, 1);
+    numbered_blocks(d);
+    LAY(worn, &d, 0, 0, SIGLA, 32, 9, 6, 0, 0);
+    LAY(worn, &d, 1, 0, SIGLA, 5, 128, 2, 0, 4);
+    other_bytes(d.bytes);
+    blank(should, d.bytes);
+    LAY(should, &d, 0, 0, SIGLA, 5, 128, 1, 0, 2);
+    LAY(should, &d, 1, 0, SIGLA, 32, 9, 3, 0, 0);
+    for (size_t b = 0; b < COUNT(blocks); b++)
+        memset(should + (b + 1) * 1024, blocks[b], 1024);
+    copies("extent 5 goes before extent 32, whose ex is 0", d, d.bytes, d.bytes, 0, 4);
+}
+
+// The marks of bytes 9 and 10 are top bits of the type: T and X.
+static void marks_kept(void)
+{
+    struct disk d = straight(1024, 8, 1);
+    numbered_blocks(d);
+    LAY(worn, &d, 3, 7, "SIGLA   \xD4\xD8T", 0, 128, 5, 0, 0);
+    other_bytes(d.bytes);
+    blank(should, d.bytes);
+    LAY(should, &d, 0, 7, "SIGLA   \xD4\xD8T", 0, 128, 1, 0, 0);
+    memset(should + 1024, 5, 1024);
+    copies("a read-only system file of user 7 stays one", d, d.bytes, d.bytes, 0, 6);
+}
+
 static void refused(void)
 {
     struct disk d = straight(1024, 8, 1), outside = straight(1024, 8, 8);
@@ -238,6 +268,8 @@ static void on_a_floppy(void)
 void fresh_disks(void)
 {
     by_hand();
+    by_extent_and_not_by_ex();
+    marks_kept();
     refused();
     by_the_words();
     on_a_floppy();

@@ -1,6 +1,6 @@
 -- The copy of a worn disk and its refusals in their order, evaluated on the disks of `fresh_volume/proofs/Examples`.
 use mathlib.Core.Path.{_≡_, refl}
-use mathlib.Core.List.{List, [], _++_}
+use mathlib.Core.List.{List, [], _∷_, _++_}
 use lib.ListN.{take}
 use Prim.Native.Nat.{ℕ}
 use Rattle.lists.specs.Bounded.{lowFrom, anyFrom, everyFrom, countFrom, fold}
@@ -23,7 +23,7 @@ use Rattle.fresh_volume.proofs.Examples.{G, SIGLA, COLLA, entry, gone, director
 use Rattle.fresh_copy.specs.FreshCopy.{copied, freshCopy}
 
 -- block 5 belongs to slot 0 and to slot 2
-abbrev twice : List ℕ
+abbrev pub twice : List ℕ
 twice = directory (entry SIGLA 1 4 5 0 ++ gone ++ entry COLLA 0 21 3 5) ++ seven 1 2 3 4 5 6 7
 
 pub record Examples : Type 0 where
@@ -34,7 +34,8 @@ pub record Examples : Type 0 where
   pub first-short : freshCopy G (take 100 worn) [] ≡ copied (Refused VolumeLength) (take 100 worn) []
   pub bad-slot : freshCopy G twice [] ≡ copied (BadSlot 2) twice []
   pub second-short : freshCopy G worn (take 100 second) ≡ copied (Refused VolumeLength) worn (take 100 second)
+  pub second-long : freshCopy G worn (second ++ (0 ∷ [])) ≡ copied (Refused VolumeLength) worn (second ++ (0 ∷ []))
 
 pub examples : Examples
 unfolding freshCopy logIn logInTests refusedLogIn firstMet lawful bytes heldOf named wordsOf wordsFrom wordOf freeCount holds digit order enter putBefore goesBefore fileSlot fresh laidOut putBlock copiedRecord copiedEntry blocksBefore numbered numberPlace blocksBelow findSlot slotAt putSlot recordAt putRecord lowestBad goodSlot goodFields goodTopBits inPlaces namesBlock namedBelow goodPlace seenBelow lowFrom anyFrom everyFrom countFrom fold part put all start slotStart recordStart groupOf inside places strip nameAt same goodName blockIn withBlock ofFile ofGroup
-examples = record { done = refl; no-geometry = refl; first-short = refl; bad-slot = refl; second-short = refl }
+examples = record { done = refl; no-geometry = refl; first-short = refl; bad-slot = refl; second-short = refl; second-long = refl }

@@ -34,6 +34,7 @@ alike copy g v w is size h =
     record {
       same-present = λ u name n low. rw (is w size) (h .same-present u name n low);
       same-bytes = λ u name n low there. rw (is w size) (h .same-bytes u name n low there);
+      same-heads = λ k low. rw (is w size) (h .same-heads k low);
       passes = rw (is w size) (h .passes);
       as-many-free = rw (is w size) (h .as-many-free);
       again = rw (is w size) (h .again);

@@ -14,7 +14,7 @@ use Rattle.fresh_volume.specs.Copy.{copiedEntry, copiedRecord, fresh}
 use Rattle.fresh_volume.proofs.LaidLaws.{same-part, laid-spare}
 use Rattle.fresh_volume.proofs.Copied.{fresh-laid, fresh-size, free-and-moved}
 use Rattle.fresh_holds.specs.Holds.{Worn, FreshHolds, SpareKept}
-use Rattle.fresh_holds.proofs.Passes.{fresh-passes}
+use Rattle.fresh_holds.proofs.Passes.{fresh-passes, fresh-head}
 use Rattle.fresh_holds.proofs.Records.{present-same, bytes-same}
 use Rattle.fresh_holds.proofs.Again.{again-on, again-volume, again-all, moved-again}
 
@@ -25,6 +25,7 @@ fresh-holds g v w k =
     record {
       same-present = λ u name n low. present-same g v (k .law) (k .size) (k .ok) w (k .second) u name low n;
       same-bytes = λ u name n low. bytes-same g v (k .law) (k .size) (k .ok) w (k .second) u name low n;
+      same-heads = λ i low. fresh-head g v (k .law) (k .size) (k .ok) w (k .second) i low;
       passes = passes;
       as-many-free =
           omega (arith, free-and-moved g v (k .law) (k .size) (k .ok), free-and-moved g (fresh g v w) (k .law) size passes, moved-again g v (k .law) (k .size) (k .ok) w (k .second));

@@ -6,15 +6,17 @@ use mathlib.Core.Path.{_≡_}
 use mathlib.Core.Bool.{true}
 use mathlib.Core.List.{List}
 use Prim.Native.Nat.{ℕ, _*_, _≤_, _<_}
-use lib.ListN.{length}
+use lib.ListN.{length, take, getD}
 use Rattle.lists.specs.Bytes.{part}
 use Rattle.disk_geometry.specs.declared.Geometry.{Geometry}
 use Rattle.disk_geometry.specs.EightInch.{trackRecords, reservedBytes}
 use Rattle.disk_geometry.specs.Geometry.{recordBytes, straight, blocks, placing, floppy, lawful, bytes, records, start, slots}
+use Rattle.disk_volume.specs.Fields.{MAP}
 use Rattle.disk_volume.specs.Directory.{slotAt}
 use Rattle.disk_volume.specs.Record.{recordSlot, recordBlock, present, recordAt}
 use Rattle.disk_rules.specs.GoodSlot.{lowestBad}
 use Rattle.disk_rules.specs.Named.{freeOf}
+use Rattle.fresh_order.specs.Order.{order}
 use Rattle.fresh_volume.specs.Copy.{fresh}
 
 -- the bytes of record n of a file, where it is present
@@ -33,6 +35,9 @@ pub record HoldsOf (copy : Geometry → List ℕ → List ℕ → List ℕ) (g :
   -- "Each file has the same records present with the same bytes": each user 0..15 and each name
   pub same-present : (u : ℕ) (name : List ℕ) (n : ℕ) → u ≤ 15 → present g (copy g v w) u name n ≡ present g v u name n
   pub same-bytes : (u : ℕ) (name : List ℕ) (n : ℕ) → u ≤ 15 → present g v u name n ≡ true → fileRecord g (copy g v w) u name n ≡ fileRecord g v u name n
+  -- "entries keep all but their map": slot k has the bytes before the map of entry k in order, so no file is left out, whether it has
+  -- records or none, and none loses a mark
+  pub same-heads : (k : ℕ) → k < length (order g v) → take MAP (slotAt g (copy g v w) k) ≡ take MAP (slotAt g v (getD (order g v) k 0))
   -- "the copy passes inspection, has as many free blocks"
   pub passes : lowestBad g (copy g v w) ≡ slots g
   pub as-many-free : freeOf g (copy g v w) ≡ freeOf g v

@@ -58,6 +58,19 @@ worn = directory (entry SIGLA 1 4 5 0 ++ gone ++ entry COLLA 0 21 3 2 ++ entry S
 abbrev pub good : List ℕ
 good = directory (entry SIGLA 0 128 1 2 ++ entry SIGLA 1 4 3 0 ++ entry COLLA 0 21 4 5) ++ seven 7 4 5 3 2 229 229
 
+-- extent 32 of SIGLA.TXT (s2 1, ex 0), marked read-only, stands in slot 0 and has block b; its extent 5 has blocks b and c
+abbrev pub late : ℕ → Entry
+late b = set (set (entry SIGLA 0 9 b 0) 14 1) 9 212
+
+abbrev pub early : ℕ → ℕ → Entry
+early b c = entry SIGLA 5 128 b c
+
+abbrev pub deep : List ℕ
+deep = directory (late 6 ++ early 2 4) ++ seven 1 2 3 4 5 6 7
+
+abbrev pub good-deep : List ℕ
+good-deep = directory (early 1 2 ++ late 3) ++ seven 2 4 6 229 229 229 229
+
 -- the same onto a second disk that has other bytes
 abbrev pub second : List ℕ
 second = replicate 8192 170
@@ -79,6 +92,10 @@ by-slot = directory (entry SIGLA 1 4 1 0 ++ entry COLLA 0 21 2 3 ++ entry SIGLA 
 abbrev pub leaves : List ℕ
 leaves = directory (entry SIGLA 0 128 1 2 ++ entry SIGLA 1 4 3 0 ++ entry COLLA 0 21 4 5) ++ seven 7 4 5 3 2 6 7
 
+-- the mark is lost
+abbrev pub unmarked : List ℕ
+unmarked = directory (early 1 2 ++ set (late 3) 9 84) ++ seven 2 4 6 229 229 229 229
+
 -- (xi): with T 512 a block number takes two bytes: blocks 300 and 511 in places 0 and 2
 abbrev wide : Geometry
 wide = geometryOf 2048 512 1
@@ -91,6 +108,10 @@ pub record Examples : Type 0 where
   pub fresh-disk : fresh G worn second ≡ good
   pub passes : lowestBad G good ≡ 32
   pub again : fresh G good second ≡ good
+  -- extent 5 before extent 32, whose ex is 0; the mark stays where it was
+  pub deep-passes : lowestBad G deep ≡ 32
+  pub deep-in-order : order G deep ≡ 1 ∷ 0 ∷ []
+  pub fresh-deep : fresh G deep second ≡ good-deep
   pub two-bytes : numbered wide 255 (long (44 ∷ 1 ∷ 0 ∷ 0 ∷ 255 ∷ 1 ∷ [])) ≡ long (255 ∷ 0 ∷ 0 ∷ 0 ∷ 0 ∷ 1 ∷ [])
   -- a record of COLLA.TXT is there, with its bytes: block 2 in place 2; and in the copy
   pub there : present G worn 0 (name COLLA) 16 ≡ true
@@ -111,6 +132,9 @@ examples = record {
   fresh-disk = refl;
   passes = refl;
   again = refl;
+  deep-passes = refl;
+  deep-in-order = refl;
+  fresh-deep = refl;
   two-bytes = refl;
   there = refl;
   there-fresh = refl;

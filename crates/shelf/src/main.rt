@@ -36,7 +36,8 @@ fn add(shelf: Shelf, seen: usize, volume: &[u8]) -> Shelf
     next
 }
 
-// One volume after another, to the end of the input or to the 65,536th; a short last one is refused. `volume` has room for one.
+// One volume after another, to the end of the input, to a short one, which is the last and is refused, or to the 65,536th. `volume` has
+// room for one.
 fn read_volumes(volume: &mut [u8]) -> Shelf
     ensures { λ r. ⌜ OfVolumes r ⌝ }
 {
@@ -49,6 +50,9 @@ fn read_volumes(volume: &mut [u8]) -> Shelf
         }
         shelf = add(shelf, seen, &volume[..n]);
         seen += 1;
+        if n < volume.len() {
+            return shelf;
+        }
         n = io::read_full(STDIN_FILENO, volume);
     }
     shelf

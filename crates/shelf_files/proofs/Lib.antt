@@ -1,2 +1,3 @@
--- Laws of the chains.
-pub mod ChainLaws
+-- Laws of the tree, and of a walk in it.
+pub mod TreeLaws
+pub mod WalkLaws

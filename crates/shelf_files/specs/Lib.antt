@@ -1,2 +1,2 @@
--- The chains of the slots passed so far.
-pub mod CodeChains
+-- The tree of the files passed so far.
+pub mod CodeTree

@@ -1,4 +1,5 @@
--- The figures evaluated: on V when it is empty, after 01's writes, and with a file of another user; on a hard disk and on a floppy.
+-- The figures evaluated: on V when it is empty, after 01's writes, and with a file of another user; on a hard disk, on a floppy, and with
+-- four extents to an entry.
 use mathlib.Core.Path.{_≡_, refl, ap, _∙_}
 use mathlib.Core.Bool.{true}
 use mathlib.Core.List.{List, [], _∷_, _++_}
@@ -28,6 +29,10 @@ sizes = geometryOf 1024 40 1
 abbrev hard : Geometry
 hard = geometryOf 2048 257 1
 
+-- four extents to an entry
+abbrev large : Geometry
+large = geometryOf 4096 4 1
+
 -- an entry of SIGLA.TXT of a user, in extent ex, that counts rc records, with these first six bytes of its map
 abbrev withMap : ℕ → ℕ → ℕ → ℕ → ℕ → ℕ → ℕ → ℕ → ℕ → Entry
 withMap user ex rc b₀ b₁ b₂ b₃ b₄ b₅ =
@@ -56,6 +61,10 @@ bad = sigla 16 0 0 0 0
 abbrev hardDisk : List ℕ
 hardDisk = withMap 1 0 40 0 1 0 0 1 0 ++ replicate (2048 - 32) 229
 
+-- the directory of a disk of large blocks: extent 1 counts 7 records, and places 0 and 4 have blocks
+abbrev largeDisk : List ℕ
+largeDisk = withMap 0 1 7 1 0 0 0 2 0 ++ replicate (4096 - 32) 229
+
 -- a floppy's image to the end of track 2 with one entry, in the first slot of logical record 1: sector 7 of that track
 abbrev image : List ℕ
 image = replicate 7424 229 ++ sigla 0 0 21 2 242 ++ replicate (9984 - 7456) 229
@@ -80,6 +89,7 @@ record Evaluated : Type 0 where
   two-files : Figures sizes (volume another) (figures 2 3 14 3 36 10)
   hard-disk : Figures hard hardDisk (figures 1 1 24 2 254 8)
   on-floppy : Figures floppy image (figures 1 1 13 2 239 3)
+  four-extents : Figures large largeDisk (figures 1 1 39 2 1 25)
   bad-slot : lowestBad sizes (volume bad) ≡ 0
 
 evaluated : Evaluated
@@ -91,6 +101,7 @@ evaluated =
       two-files = record { law = refl; accepted = refl; files-are = refl; entries-are = refl; records-are = refl; held-are = refl; free-are = refl; waste-is = refl };
       hard-disk = record { law = refl; accepted = refl; files-are = refl; entries-are = refl; records-are = refl; held-are = refl; free-are = refl; waste-is = refl };
       on-floppy = record { law = refl; accepted = refl; files-are = refl; entries-are = refl; records-are = refl; held-are = refl; free-are = refl; waste-is = refl };
+      four-extents = record { law = refl; accepted = refl; files-are = refl; entries-are = refl; records-are = refl; held-are = refl; free-are = refl; waste-is = refl };
       bad-slot = refl;
     }
 
@@ -111,6 +122,8 @@ pub record Examples : Type 0 where
   pub hard-disk : holdings hard hardDisk ≡ figures 1 1 24 2 254 8
   -- records 0 to 7 and 16 to 20
   pub on-floppy : holdings floppy image ≡ figures 1 1 13 2 239 3
+  -- records 0 to 31 of extent 0, which counts whole, and 128 to 134
+  pub four-extents : holdings large largeDisk ≡ figures 1 1 39 2 1 25
   -- which of them inspection accepts
   pub good-slots : lowestBad sizes (volume written) ≡ 32
   pub bad-slot : lowestBad sizes (volume bad) ≡ 0
@@ -123,6 +136,7 @@ examples =
       two-files = so sizes (volume another) _ (evaluated .two-files);
       hard-disk = so hard hardDisk _ (evaluated .hard-disk);
       on-floppy = so floppy image _ (evaluated .on-floppy);
+      four-extents = so large largeDisk _ (evaluated .four-extents);
       good-slots = evaluated .three-writes .accepted;
       bad-slot = evaluated .bad-slot;
     }

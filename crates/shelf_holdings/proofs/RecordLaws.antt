@@ -62,6 +62,11 @@ group-below x n (inl e) h = rw e (omega arith)
 group-below x n (inr (inl e)) h = rw e (omega arith)
 group-below x n (inr (inr e)) h = rw e (omega arith)
 
+group-beyond : (x n : ℕ) → OneTwoFour x → 65536 ≤ n → 512 / x ≤ n / 128 / x
+group-beyond x n (inl e) h = rw e (omega arith)
+group-beyond x n (inr (inl e)) h = rw e (omega arith)
+group-beyond x n (inr (inr e)) h = rw e (omega arith)
+
 module _ (g : Geometry) (law : lawful g ≡ true) (e : Entry) where
   -- record n is in the entry's group and present there
   abbrev here : ℕ → ℕ
@@ -136,6 +141,24 @@ module _ (g : Geometry) (v : List ℕ) (law : lawful g ≡ true) (ok : lowestBad
     -- an entry of the file is in use
     in-use : (j : ℕ) → ofFile u file (slotAt g v j) ≡ true → isEmpty (slotAt g v j) ≡ false
     in-use j h = rw (of-file u file (slotAt g v j) h .user) used
+
+    -- no entry has a group behind the 65,536 records
+    pub none-beyond : 65536 ≤ n → present g v u file n ≡ false
+    unfolding present recordSlot ofGroup groupOf
+    none-beyond far = go (ltb (findSlot g v u file (Group k)) (slots g)) refl
+      where
+        clash : findSlot g v u file (Group k) < slots g → ⊥
+        clash l =
+            let s = findSlot g v u file (Group k) in
+            let x = and-parts (ofFile u file (slotAt g v s)) (eqb (groupOf g (extent (slotAt g v s))) k) (found-fits g v u file (Group k) l) in
+            let f = fields-good (slotAt g v s) (good-entry g v ok s l (in-use s (x .0)) .fields) in
+            let high : extent (slotAt g v s) ≤ 511 = omega (arith, f .ex, f .s2) in
+            absurd (omega (arith, group-lt g law (slotAt g v s) high, eqb-true (groupOf g (extent (slotAt g v s))) k (x .1), group-beyond (extents g) n (extents-are g law) far))
+
+        go : (t : Bool) → ltb (findSlot g v u file (Group k)) (slots g) ≡ t
+            → (ltb (findSlot g v u file (Group k)) (slots g) && counted g (slotAt g v (findSlot g v u file (Group k))) n) ≡ false
+        go true e = absurd (clash (ltb-true (findSlot g v u file (Group k)) (slots g) e))
+        go false e = rw e
 
     two : (i j : ℕ) → i < slots g → j < slots g → ofGroup g u file k (slotAt g v i) ≡ true → ofGroup g u file k (slotAt g v j) ≡ true → i ≡ j
     unfolding ofGroup

@@ -11,11 +11,14 @@ use Rattle.files.specs.Files.{isListed}
 use Rattle.shelf_holdings.specs.Holdings.{isEntry, isFile}
 use Rattle.shelf_holdings.specs.CodeEntries.{entryRecords, slotRecords}
 
+pub not-listed : (g : Geometry) (v : List ℕ) (i : ℕ) → isEmpty (slotAt g v i) ≡ true → isFile g v i ≡ false
+unfolding isListed
+not-listed g v i e = rw e
+
 module _ (g : Geometry) (v : List ℕ) (i n : ℕ) where
   module _ (e : isEmpty (slotAt g v i) ≡ true) where
     pub no-file : n ≡ n + cond (isFile g v i) 1 0
-    unfolding isListed
-    no-file = rw e (omega arith)
+    no-file = rw (not-listed g v i e) (omega arith)
 
     pub no-entry : n ≡ n + cond (isEntry g v i) 1 0
     no-entry = rw e (omega arith)

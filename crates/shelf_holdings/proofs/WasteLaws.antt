@@ -5,6 +5,7 @@ use mathlib.Core.List.{List}
 use Prim.Native.Nat.{ℕ, _+_, _-_, _*_, _≤_, _<_}
 use native.Mathlib.Nat.{mul-le-mul-right}
 use native.Mathlib.Omega.{arith}
+use borrow.Author.Tests.{ne-eqb}
 use Rattle.lists.specs.Bounded.{countFrom}
 use Rattle.lists.proofs.BoundedLaws.{count-ext}
 use Rattle.disk_geometry.specs.declared.Geometry.{Geometry}
@@ -23,7 +24,7 @@ use Rattle.shelf_holdings.specs.Sums.{mostOfVolume, SumsHold}
 use Rattle.sums.proofs.SumLaws.{sum-le, sum-times}
 use Rattle.shelf_holdings.proofs.PlaceLaws.{entry-most}
 use Rattle.shelf_holdings.proofs.BlockLaws.{held-places}
-use Rattle.shelf_holdings.proofs.RecordLaws.{by-entries}
+use Rattle.shelf_holdings.proofs.RecordLaws.{by-entries, none-beyond}
 
 module _ (g : Geometry) (v : List ℕ) where
   pub held-or-free : blocksHeld g v + blocksFree g v ≡ g .blocks - g .«directory_blocks»
@@ -85,4 +86,5 @@ sums-hold g v law ok =
       held-most = omega (arith, b .blocks-high);
       free-most = omega (arith, b .blocks-high);
       waste-most = omega arith;
+      none-beyond = λ u name n low far. none-beyond g v law ok u name (ne-eqb u 229 (omega arith)) n far;
     }

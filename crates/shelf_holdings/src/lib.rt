@@ -6,7 +6,7 @@ ghost use Rattle.disk_geometry.specs.Geometry.{lawful, slots, records, places};
 ghost use Rattle.disk_volume.specs.CodeLent.{IsVolume, IsEntry};
 ghost use Rattle.disk_rules.specs.GoodSlot.{lowestBad};
 ghost use Rattle.disk_rules.specs.Named.{freeOf};
-ghost use Rattle.shelf_files.specs.CodeChains.{Heads, Nexts};
+ghost use Rattle.shelf_files.specs.CodeTree.{Heads, Nodes};
 ghost use Rattle.shelf_holdings.specs.Holdings.{isEntry, entries, isFile, files, holdings};
 ghost use Rattle.shelf_holdings.specs.CodeEntries.{run, placeRecords, entryRecords, slotRecords, recordsByEntries};
 use disk_geometry::Geometry;
@@ -90,18 +90,18 @@ fn add_slot(
     i: usize,
     c: Counts,
     heads: &mut [u16],
-    nexts: &mut [u16],
+    nodes: &mut [u32],
 ) -> Counts
     requires { ⌜ IsVolume g (now volume) ⌝ }
     requires { ⌜ (i < slots g) × ((c .files ≤ i) × ((c .entries ≤ i) × (c .records ≤ 512 * i))) ⌝ }
-    requires { ⌜ Heads g (now volume) (now heads) i × Nexts g (now volume) (now nexts) i ⌝ }
+    requires { ⌜ Heads g (now volume) (now heads) i × Nodes g (now volume) (now nodes) i ⌝ }
     ensures { λ r. ⌜ r .files ≡ c .files + cond (isFile g (now (volume .entry)) i) 1 0 ⌝ }
     ensures { λ r. ⌜ r .entries ≡ c .entries + cond (isEntry g (now (volume .entry)) i) 1 0 ⌝ }
     ensures { λ r. ⌜ r .records ≡ c .records + slotRecords g (now (volume .entry)) i ⌝ }
     ensures { λ r. ⌜ (r .files ≤ i + 1) × ((r .entries ≤ i + 1) × (r .records ≤ 512 * (i + 1))) ⌝ }
     ensures { λ _. ⌜
         Heads g (now (volume .entry)) (now (heads .exit)) (i + 1)
-        × Nexts g (now (volume .entry)) (now (nexts .exit)) (i + 1)
+        × Nodes g (now (volume .entry)) (now (nodes .exit)) (i + 1)
         ⌝ }
 {
     let at = g.slot_start(i);
@@ -109,7 +109,7 @@ fn add_slot(
         return c;
     }
     let e = &volume[at..at + Geometry::ENTRY_BYTES];
-    let first = shelf_files::is_first(g, volume, i, e, heads, nexts);
+    let first = shelf_files::is_first(g, volume, i, e, heads, nodes);
     let files = c.files + one_if(first);
     let entries = c.entries + 1;
     let records = c.records + entry_records(g, e);
@@ -129,7 +129,7 @@ fn count(g: Geometry, volume: &[u8]) -> Counts
 {
     let n = g.slots();
     let mut heads = [0u16; shelf_files::CHAINS];
-    let mut nexts = [0u16; shelf_files::SLOTS];
+    let mut nodes = [0u32; shelf_files::SLOTS];
     let mut c = Counts {
         files: 0,
         entries: 0,
@@ -137,7 +137,7 @@ fn count(g: Geometry, volume: &[u8]) -> Counts
     };
     let mut i = 0;
     while i < n {
-        c = add_slot(g, volume, i, c, &mut heads, &mut nexts);
+        c = add_slot(g, volume, i, c, &mut heads, &mut nodes);
         i += 1;
     }
     c

@@ -1,7 +1,7 @@
 -- The shelf has the figures of the volumes read so far, of which there are at most 65,535.
 use mathlib.Core.Path.{_≡_}
 use mathlib.Core.List.{List}
-use Prim.Native.Nat.{ℕ, _-_, _≤_}
+use Prim.Native.Nat.{ℕ, _+_, _-_, _≤_, _<_}
 use native.Mathlib.Omega.{arith}
 use lib.ListN.{length}
 use Rattle.io.specs.Counts.{Counts}
@@ -32,6 +32,9 @@ none-seen s e = rw e bare-within
 
 of-volumes : (k : ℕ) (s : Shelf) → k ≤ 65535 → Within k s → OfVolumes s
 of-volumes k s few w = record { many = k; few = few; within = w }
+
+one-more : (k : ℕ) (s : Shelf) → k < 65535 → Within (k + 1) s → OfVolumes s
+one-more k s few w = of-volumes (k + 1) s (omega arith) w
 
 bare-requires : tie.Need-bare-requires Inv-loop μ-loop
 bare-requires c κs = search needs
@@ -73,7 +76,13 @@ same-length-2 : tie.Need-same-length-2 Inv-loop μ-loop
 same-length-2 c = search needs
 
 returns-2 : tie.Need-returns-2 Inv-loop μ-loop
-returns-2 c = search (needs, of-volumes)
+returns-2 c = search (needs, one-more)
+
+same-length-3 : tie.Need-same-length-3 Inv-loop μ-loop
+same-length-3 c = search needs
+
+returns-3 : tie.Need-returns-3 Inv-loop μ-loop
+returns-3 c = search (needs, of-volumes)
 
 pub read-volumes-spec : {M : Type 1} → statement M
 read-volumes-spec =
@@ -90,8 +99,10 @@ read-volumes-spec =
     slice-aggregate-add
     add-requires
     add-seen
+    same-length-2
+    returns-2
     read-full-requires-2
     loop-less
     loop-again
-    same-length-2
-    returns-2)
+    same-length-3
+    returns-3)

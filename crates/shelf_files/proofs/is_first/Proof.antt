@@ -1,7 +1,7 @@
--- What is asked along the chain is asked of all lower slots; the entry is then the beginning of its chain.
-use mathlib.Core.Path.{_≡_, sym, ap, _∙_}
-use mathlib.Core.Bool.{false, not}
-use Prim.Native.Nat.{ℕ, _<_}
+-- What is asked along the way is asked of all lower slots; a first entry is then put where its way ended.
+use mathlib.Core.Path.{_≡_, refl, sym, ap, _∙_}
+use mathlib.Core.Bool.{Bool, true, false, not}
+use Prim.Native.Nat.{ℕ, _+_, _*_, _<_}
 use native.Mathlib.Omega.{arith}
 use denote.Ref.{now}
 use borrow.Author.Needs.{needs}
@@ -10,101 +10,138 @@ use Rattle.disk_geometry.proofs.GeometryLaws.{bounds}
 use Rattle.disk_volume.specs.Name.{nameAt}
 use Rattle.disk_volume.specs.Entry.{isEmpty}
 use Rattle.disk_volume.specs.Directory.{slotAt}
-use Rattle.shelf_files.specs.CodeChains.{entryChain, lastBelow}
-use Rattle.shelf_files.proofs.ChainLaws.{heads-more, nexts-more, first-is}
+use Rattle.files.specs.Files.{isListed}
+use Rattle.shelf_files.specs.CodeTree.{entryKey, way, Ended, Heads, Nodes, linkedHeads, linkedNodes}
+use Rattle.shelf_files.proofs.TreeLaws.{heads-still, nodes-still, last-low, last-open, linked-heads, linked-nodes}
+use Rattle.shelf_files.proofs.WalkLaws.{first-is}
 use Rattle.shelf_files.proofs.is_first.Statement.{statement}
 use Rattle.shelf_files.proofs.is_first.Tie as tie
 
--- the slot is not empty, and the chain is its entry's
-used : (c : tie.Start) → (let a = c .args in isEmpty (slotAt (a .g) (now (a .volume)) (a .i)) ≡ false)
-used c = rw (← c .pre .1 .0 .1 .1) (c .pre .1 .1 .0)
-
-own : (c : tie.After-chain-of) → (let a = c .before .before .before .before .before .before .before .args in c .chain-of .result ≡ entryChain (slotAt (a .g) (now (a .volume)) (a .i)))
+-- the key is the entry's
+own : (c : tie.After-key-of) → (let a = c .before .before .before .before .before .before .before .args in c .key-of .result ≡ entryKey (slotAt (a .g) (now (a .volume)) (a .i)))
 unfolding nameAt part
-own c = rw (← c .before .before .before .before .before .before .before .pre .1 .0 .1 .1) (c .chain-of .ensures .0)
+own c = rw (← c .before .before .before .before .before .before .before .pre .1 .0 .1 .1) (c .key-of .ensures .0)
 
--- where the chain begins
-begins : (c : tie.After-chain-of) → (let a = c .before .before .before .before .before .before .before .args in byte (now (a .heads)) (c .chain-of .result) ≡ lastBelow (a .g) (now (a .volume)) (c .chain-of .result) (a .i))
-begins c = c .before .before .before .before .before .before .before .pre .1 .1 .1 .0 .begins (c .chain-of .result) (c .chain-of .ensures .1)
+-- no lower slot has an entry of the file, or one has
+told : (c : tie.After-follow) → (let a = c .before .before .before .before .before .before .before .before .before .before .before .before .args in not (c .follow .result .seen) ≡ isListed (a .g) (now (a .volume)) (now (a .e)) (a .i))
+unfolding nameAt part
+told c =
+    let s = c .before .before .before .before .before .before .before .before .before .before .before .before in
+    let a = s .args in
+    ap not (c .follow .ensures .0) ∙ sym (first-is (a .g) (now (a .volume)) (a .i) (now (a .e)) (s .pre .1 .0 .1 .1) (s .pre .1 .0 .0) (s .pre .1 .1 .0))
+
+-- a first entry, and where the way of its key ended
+listed : (c : tie.Else1) → (let a = c .before .before .before .before .before .before .before .before .before .before .before .before .before .args in isListed (a .g) (now (a .volume)) (slotAt (a .g) (now (a .volume)) (a .i)) (a .i) ≡ true)
+listed c = rw (← c .before .before .before .before .before .before .before .before .before .before .before .before .before .pre .1 .0 .1 .1) (sym (told (c .before)) ∙ ap not (c .if1 .left))
+
+ended : (c : tie.Else1) → (let a = c .before .before .before .before .before .before .before .before .before .before .before .before .before .args in Ended (a .g) (now (a .volume)) (a .i) (entryKey (slotAt (a .g) (now (a .volume)) (a .i))) (c .before .follow .result .last) (c .before .follow .result .bit))
+ended c = rw (own (c .before .before .before .before .before .before)) at (c .before .follow .ensures .1 (c .if1 .left))
+
+few : (c : tie.Start) → c .args .i < 2048
+few c = omega (arith, bounds _ (c .pre .0 .0) .slots-high, c .pre .1 .0 .0)
 
 shared-slice-read-user : tie.Need-shared-slice-read-user
 shared-slice-read-user c = search needs
 
-sub-chain-of : tie.Need-sub-chain-of
-sub-chain-of c = search needs
+sub-key-of : tie.Need-sub-key-of
+sub-key-of c = search needs
 
-part-chain-of-start : tie.Need-part-chain-of-start
-part-chain-of-start c = search needs
+part-key-of-start : tie.Need-part-key-of-start
+part-key-of-start c = search needs
 
-part-chain-of-end : tie.Need-part-chain-of-end
-part-chain-of-end c = search needs
+part-key-of-end : tie.Need-part-key-of-end
+part-key-of-end c = search needs
 
-chain-of-requires : tie.Need-chain-of-requires
-chain-of-requires c κs = search needs
+key-of-requires : tie.Need-key-of-requires
+key-of-requires c κs = search needs
 
-mul-head : tie.Need-mul-head
-mul-head c = search needs
+mul-wide : tie.Need-mul-wide
+mul-wide c = search needs
 
-slice-read-head : tie.Need-slice-read-head
-slice-read-head c = search needs
+slice-read-wide : tie.Need-slice-read-wide
+slice-read-wide c = search needs
 
 wide-requires : tie.Need-wide-requires
 wide-requires c κs = search needs
 
-sub-is-in-chain : tie.Need-sub-is-in-chain
-sub-is-in-chain c = search needs
+sub-follow : tie.Need-sub-follow
+sub-follow c = search needs
 
-part-is-in-chain-start : tie.Need-part-is-in-chain-start
-part-is-in-chain-start c = search needs
+part-follow-start : tie.Need-part-follow-start
+part-follow-start c = search needs
 
-part-is-in-chain-end : tie.Need-part-is-in-chain-end
-part-is-in-chain-end c = search needs
+part-follow-end : tie.Need-part-follow-end
+part-follow-end c = search needs
 
-is-in-chain-requires : tie.Need-is-in-chain-requires
-is-in-chain-requires c κs =
-    let a = c .before .before .before .before .before .before .before .before .before .before .before .args in
-    let s = c .before .before .before .before .before .before .before .before .before .before .before in (
+follow-requires : tie.Need-follow-requires
+follow-requires c κs =
+    let s = c .before .before .before .before .before .before .before .before .before .before .before in
+    let k = c .before .before .before .before .key-of in (
       s .pre .0,
       (
-        (search needs, (search needs, s .pre .1 .1 .0)),
-        (c .before .before .wide .ensures ∙ begins (c .before .before .before .before) ∙ ap (λ (x : ℕ). lastBelow (a .g) (now (a .volume)) x (a .i)) (c .before .before .before .before .chain-of .ensures .0), s .pre .1 .1 .1 .1),
+        (s .pre .1 .0 .0, (search needs, s .pre .1 .1 .0)),
+        ((k .ensures .0, c .before .before .wide .ensures ∙ s .pre .1 .1 .1 .0 .begins (k .result)), s .pre .1 .1 .1 .1),
       ),
     )
-
-mul-nexts : tie.Need-mul-nexts
-mul-nexts c = omega (arith, bounds _ (c .before .before .before .before .before .before .before .before .before .before .before .before .pre .0 .0) .slots-high, c .before .before .before .before .before .before .before .before .before .before .before .before .pre .1 .0 .0)
-
-slice-write-nexts : tie.Need-slice-write-nexts
-slice-write-nexts c = omega (arith, bounds _ (c .before .before .before .before .before .before .before .before .before .before .before .before .pre .0 .0) .slots-high, c .before .before .before .before .before .before .before .before .before .before .before .before .pre .1 .0 .0, c .before .before .before .before .before .before .before .before .before .before .before .before .pre .1 .1 .1 .1 .long)
-
-add-heads : tie.Need-add-heads
-add-heads c = omega (arith, bounds _ (c .before .before .before .before .before .before .before .before .before .before .before .before .pre .0 .0) .slots-high, c .before .before .before .before .before .before .before .before .before .before .before .before .pre .1 .0 .0)
-
-cast-heads : tie.Need-cast-heads
-cast-heads c = omega (arith, bounds _ (c .before .before .before .before .before .before .before .before .before .before .before .before .pre .0 .0) .slots-high, c .before .before .before .before .before .before .before .before .before .before .before .before .pre .1 .0 .0)
-
-mul-heads : tie.Need-mul-heads
-mul-heads c = search needs
-
-slice-write-heads : tie.Need-slice-write-heads
-slice-write-heads c = search needs
 
 same-length : tie.Need-same-length
 same-length c = search needs
 
+returns : tie.Need-returns
+returns c =
+    let s = c .before .before .before .before .before .before .before .before .before .before .before .before .before in
+    let a = s .args in
+    let seen = sym (ap not (c .if1 .taken)) ∙ told (c .before) in
+    let other : isListed (a .g) (now (a .volume)) (slotAt (a .g) (now (a .volume)) (a .i)) (a .i) ≡ false = rw (← s .pre .1 .0 .1 .1) (sym seen) in
+    (seen, (heads-still (a .g) (now (a .volume)) (a .i) other (s .pre .1 .1 .1 .0), nodes-still (a .g) (now (a .volume)) (a .i) other (s .pre .1 .1 .1 .1)))
+
+link-requires : tie.Need-link-requires
+link-requires c κs =
+    let s = c .before .before .before .before .before .before .before .before .before .before .before .before .before .before .before in
+    let a = s .args in
+    let first = listed (c .before .before) in
+    let end = ended (c .before .before) in
+    let way = c .before .before .before .follow .result in (
+      (s .pre .1 .1 .1 .0 .many, s .pre .1 .1 .1 .1 .long),
+      (
+        few s,
+        (
+          last-low (a .g) (now (a .volume)) (a .i) (few s) first (way .last) (way .bit) end,
+          last-open (a .g) (now (a .volume)) (a .i) (few s) first (way .last) (way .bit) end (s .pre .1 .1 .1 .1),
+        ),
+      ),
+    )
+
+mul-nodes : tie.Need-mul-nodes
+mul-nodes c = search needs
+
+cast-nodes : tie.Need-cast-nodes
+cast-nodes c = search needs
+
+mul-nodes-2 : tie.Need-mul-nodes-2
+mul-nodes-2 c = omega (arith, few (c .before .before .before .before .before .before .before .before .before .before .before .before .before .before .before .before .before .before .before .before))
+
+slice-write-nodes : tie.Need-slice-write-nodes
+slice-write-nodes c = omega (arith, few (c .before .before .before .before .before .before .before .before .before .before .before .before .before .before .before .before .before .before .before .before), c .before .before .before .before .before .before .before .before .before .before .before .before .before .before .before .before .before .before .before .before .pre .1 .1 .1 .1 .long)
+
 same-length-2 : tie.Need-same-length-2
 same-length-2 c = search needs
 
-returns : tie.Need-returns
-unfolding nameAt part
-returns c =
-    let a = c .before .before .before .before .before .before .before .before .before .before .before .before .args in
-    let s = c .before .before .before .before .before .before .before .before .before .before .before .before in
-    let few : a .i < 2048 = omega (arith, bounds _ (s .pre .0 .0) .slots-high, s .pre .1 .0 .0) in (
-      ap not (c .is-in-chain .ensures) ∙ sym (first-is (a .g) (now (a .volume)) (a .i) (now (a .e)) (s .pre .1 .0 .1 .1) (s .pre .1 .0 .0) (s .pre .1 .1 .0)),
+same-length-3 : tie.Need-same-length-3
+same-length-3 c = search needs
+
+returns-2 : tie.Need-returns-2
+returns-2 c =
+    let s = c .before .before .before .before .before .before .before .before .before .before .before .before .before .before .before .before .before .before .before .before in
+    let a = s .args in
+    let first = listed (c .before .before .before .before .before .before .before) in
+    let end = ended (c .before .before .before .before .before .before .before) in
+    let way = c .before .before .before .before .before .before .before .before .follow .result in
+    let linked = c .before .before .before .before .link .ensures in (
+      rw (s .pre .1 .0 .1 .1) (sym first),
       (
-        rw (own (c .before .before .before .before .before)) (heads-more (a .g) (now (a .volume)) (a .i) (used s) (s .pre .1 .1 .1 .0)),
-        nexts-more (a .g) (now (a .volume)) (a .i) (used s) _ (s .pre .1 .1 .1 .1) few (begins (c .before .before .before .before .before) ∙ ap (λ (x : ℕ). lastBelow (a .g) (now (a .volume)) x (a .i)) (own (c .before .before .before .before .before))),
+        rw (linked .0, own (c .before .before .before .before .before .before .before .before .before .before .before .before .before)) (linked-heads (a .g) (now (a .volume)) (a .i) (few s) first (way .last) (way .bit) end (s .pre .1 .1 .1 .0)),
+        rw (linked .1, own (c .before .before .before .before .before .before .before .before .before .before .before .before .before)) (linked-nodes (a .g) (now (a .volume)) (a .i) (few s) first (way .last) (way .bit) end (s .pre .1 .1 .1 .1)),
       ),
     )
 
@@ -113,23 +150,24 @@ is-first-spec =
     tie.close
     (tie.spec
     shared-slice-read-user
-    sub-chain-of
-    part-chain-of-start
-    part-chain-of-end
-    chain-of-requires
-    mul-head
-    slice-read-head
+    sub-key-of
+    part-key-of-start
+    part-key-of-end
+    key-of-requires
+    mul-wide
+    slice-read-wide
     wide-requires
-    sub-is-in-chain
-    part-is-in-chain-start
-    part-is-in-chain-end
-    is-in-chain-requires
-    mul-nexts
-    slice-write-nexts
-    add-heads
-    cast-heads
-    mul-heads
-    slice-write-heads
+    sub-follow
+    part-follow-start
+    part-follow-end
+    follow-requires
     same-length
+    returns
+    link-requires
+    mul-nodes
+    cast-nodes
+    mul-nodes-2
+    slice-write-nodes
     same-length-2
-    returns)
+    same-length-3
+    returns-2)

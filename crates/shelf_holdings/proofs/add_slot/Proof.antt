@@ -10,9 +10,9 @@ use Rattle.disk_volume.specs.Directory.{slotAt}
 use Rattle.disk_volume.proofs.EntryLaws.{lent-slot}
 use Rattle.disk_inspection.proofs.SlotLaws.{slot-empty, slot-used}
 use Rattle.files.specs.Files.{isListed}
-use Rattle.shelf_files.proofs.ChainLaws.{heads-empty, nexts-empty}
+use Rattle.shelf_files.proofs.TreeLaws.{heads-still, nodes-still}
 use Rattle.shelf_holdings.specs.CodeEntries.{entryRecords}
-use Rattle.shelf_holdings.proofs.SlotLaws.{no-file, no-entry, no-records, one-entry, its-records}
+use Rattle.shelf_holdings.proofs.SlotLaws.{not-listed, no-file, no-entry, no-records, one-entry, its-records}
 use borrow.Author.Needs.{needs}
 use Rattle.shelf_holdings.proofs.add_slot.Statement.{statement}
 use Rattle.shelf_holdings.proofs.add_slot.Tie as tie
@@ -42,7 +42,7 @@ returns c =
           no-records (a .g) (now (a .volume)) (a .i) (a .c .records) e,
           (
             (omega (arith, s .pre .1 .0), (omega (arith, s .pre .1 .0), omega (arith, s .pre .1 .0))),
-            (heads-empty (a .g) (now (a .volume)) (a .i) (s .pre .1 .1 .0) e, nexts-empty (a .g) (now (a .volume)) (a .i) (s .pre .1 .1 .1) e),
+            (heads-still (a .g) (now (a .volume)) (a .i) (not-listed (a .g) (now (a .volume)) (a .i) e) (s .pre .1 .1 .0), nodes-still (a .g) (now (a .volume)) (a .i) (not-listed (a .g) (now (a .volume)) (a .i) e) (s .pre .1 .1 .1)),
           ),
         ),
       ),

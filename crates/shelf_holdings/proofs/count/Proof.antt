@@ -1,4 +1,4 @@
--- Files, entries and records of the slots passed so far are added up, and their entries are in their chains.
+-- Files, entries and records of the slots passed so far are added up, and their files are in the tree.
 use mathlib.Core.Path.{_≡_, refl, sym, _∙_}
 use mathlib.Core.Bool.{cond}
 use mathlib.Core.List.{List}
@@ -10,15 +10,15 @@ use Rattle.lists.specs.Bytes.{byte}
 use Rattle.sums.proofs.SumLaws.{Summed, summed-start, summed-next, summed-end, count-sum}
 use Rattle.disk_geometry.specs.declared.Geometry.{Geometry}
 use Rattle.disk_geometry.specs.Geometry.{slots}
-use Rattle.shelf_files.specs.CodeChains.{Heads, Nexts}
-use Rattle.shelf_files.proofs.ChainLaws.{no-heads, no-nexts}
+use Rattle.shelf_files.specs.CodeTree.{Heads, Nodes}
+use Rattle.shelf_files.proofs.TreeLaws.{no-heads, no-nodes}
 use Rattle.shelf_holdings.specs.Holdings.{isEntry, entries, isFile, files}
 use Rattle.shelf_holdings.specs.CodeEntries.{slotRecords, recordsByEntries}
 use borrow.Author.Needs.{needs}
 use Rattle.shelf_holdings.proofs.count.Statement.{statement}
 use Rattle.shelf_holdings.proofs.count.Tie as tie
 
-record SoFar (g : Geometry) (v heads nexts : List ℕ) (f e r i : ℕ) : Type 0 where
+record SoFar (g : Geometry) (v heads nodes : List ℕ) (f e r i : ℕ) : Type 0 where
   low : i ≤ slots g
   few-files : f ≤ i
   few-entries : e ≤ i
@@ -27,15 +27,15 @@ record SoFar (g : Geometry) (v heads nexts : List ℕ) (f e r i : ℕ) : Type 0 
   entries-are : Summed (λ j. cond (isEntry g v j) 1 0) (slots g) e i
   records-are : Summed (slotRecords g v) (slots g) r i
   begin : Heads g v heads i
-  go-on : Nexts g v nexts i
+  go-on : Nodes g v nodes i
 
 abbrev Inv-loop : tie.InvT-loop
-Inv-loop g volume n heads₀ nexts₀ c₀ i₀ heads nexts c i = SoFar g volume heads nexts (c .files) (c .entries) (c .records) i
+Inv-loop g volume n heads₀ nodes₀ c₀ i₀ heads nodes c i = SoFar g volume heads nodes (c .files) (c .entries) (c .records) i
 
 abbrev μ-loop : tie.MeasureT-loop
-μ-loop g volume n heads₀ nexts₀ c₀ i₀ heads nexts c i = n - i
+μ-loop g volume n heads₀ nodes₀ c₀ i₀ heads nodes c i = n - i
 
--- no chain has begun
+-- nothing is kept yet
 no-begin : (n c : ℕ) → byte (replicate n 0) c ≡ 0
 no-begin zero c = refl
 no-begin (suc n) zero = refl
@@ -54,8 +54,8 @@ loop-holds c =
       files-are = summed-start;
       entries-are = summed-start;
       records-are = summed-start;
-      begin = no-heads _ _ _ (search needs) (no-begin 2048);
-      go-on = no-nexts _ _ _ (search needs);
+      begin = no-heads _ _ _ (search needs) (no-begin 256);
+      go-on = no-nodes _ _ _ (search needs) (no-begin 2048);
     }
 
 slice-aggregate-add-slot : tie.Need-slice-aggregate-add-slot Inv-loop μ-loop
