@@ -22,7 +22,7 @@ const MARKS: usize = 65536;
 pub const WORDS: usize = MARKS / 64;
 
 // The mark of a user, name and group; the factor spreads names that differ in their numbers only.
-pub fn mark_of(user: u8, name: &[u8], k: usize) -> usize
+fn mark_of(user: u8, name: &[u8], k: usize) -> usize
     requires { ⌜ IsName (now name) ⌝ }
     ensures { λ r. ⌜ (r ≡ markOf user (strip (now (name .entry))) k) × (r < MARKS) ⌝ }
 {
