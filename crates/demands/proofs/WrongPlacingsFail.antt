@@ -1,6 +1,7 @@
--- Each wrong placing is tried on one eight-inch image: a call of it is evaluated there, and is not what the call is on the image.
+-- Each wrong placing is tried on one eight-inch image: a call of it, or a run of two, is evaluated there, and is not what it is on the
+-- image.
 use mathlib.Core.Path.{_≡_, refl, sym, ap, _∙_}
-use mathlib.Core.List.{List, [], _∷_, _++_}
+use mathlib.Core.List.{List, [], _∷_, _++_, map}
 use Prim.Native.Nat.{ℕ, _+_, _≤_, _<_}
 use native.Mathlib.Omega.{arith}
 use lib.ListN.{length, replicate, length-replicate, getD-replicate}
@@ -12,17 +13,19 @@ use Rattle.disk_geometry.specs.Geometry.{floppy, lawful, bytes, start}
 use Rattle.disk_geometry.proofs.GeometryLaws.{bytes-floppy}
 use Rattle.disk_stores.specs.Stores.{Store}
 use Rattle.call_answers.specs.Answer.{numberOf}
+use Rattle.call_open.specs.Open.{openSlot}
 use Rattle.call_served.specs.Asked.{Asked, asked}
 use Rattle.unskewed.specs.Unskewed.{straightened, unskewed}
 use Rattle.filecalls.specs.declared.Drive.{Drive}
 use Rattle.filecalls.specs.State.{loggedIn}
+use Rattle.filecalls.specs.Open.{openTests, openAct}
 use Rattle.filecalls.specs.Outcome.{Outcome}
 use Rattle.bdos.specs.Step.{step}
 use Rattle.bdos.specs.Stores.{callStores, storesOf}
-use Rattle.demands.specs.Run.{Way, final}
-use Rattle.demands.specs.EightInch.{straightDrive, unskewedOutcome, has-geometry, EachCallOf, EachCutOf, SpareKeptOf}
-use Rattle.demands.specs.WrongPlacings.{directoryStraight, dataStraight, marksReserved, marksLast, inDiskOrder, storesBySector, PlacingsShutOut}
-use Rattle.demands.proofs.EightInchHolds.{floppy-lawful, each-call, each-cut}
+use Rattle.demands.specs.Run.{Seen, Way, answers, final}
+use Rattle.demands.specs.EightInch.{straightDrive, unskewedOutcome, has-geometry, EachCallOf, EachRunOf, EachCutOf, SpareKeptOf}
+use Rattle.demands.specs.WrongPlacings.{directoryStraight, dataStraight, placingLost, marksReserved, marksLast, inDiskOrder, storesBySector, PlacingsShutOut}
+use Rattle.demands.proofs.EightInchHolds.{floppy-lawful, each-call, each-run, each-cut}
 use Rattle.demands.proofs.WrongWaysFail.{computes, entryOf, bytesOf, fcbOf}
 
 -- what has to compute
@@ -82,6 +85,42 @@ directory-straight each =
 data-straight : EachCallOf dataStraight → ⊥
 data-straight each =
     let e = sym read-shows ∙ ap shown (as-step dataStraight each image image-long refl) ∙ other-bytes in
+    absurd (omega (arith, ap (λ (l : List ℕ). byte l 1) e))
+
+-- ---- runs: a log-in on an empty disk, and then an open of A
+empty : List ℕ
+empty = replicate 256256 0xE5
+
+empty-long : length empty ≡ bytes floppy
+unfolding empty
+empty-long = length-replicate {A = ℕ} 256256 0xE5 ∙ sym (bytes-floppy floppy refl)
+
+opens : List Asked
+opens = asked 13 0 [] [] ∷ asked 15 0 (fcbOf 65 0) [] ∷ []
+
+run-as-step : EachRunOf placingLost → (v : List ℕ) → length v ≡ bytes floppy
+    → answers (step floppy) opens ready v ≡ answers (placingLost floppy) opens ready v
+unfolding ready
+run-as-step each v size =
+    sym (each-run floppy floppy-lawful ready (has-geometry refl) v size opens .seen-same)
+    ∙ each floppy floppy-lawful ready (has-geometry refl) v size opens .seen-same
+
+abbrev numbers : List Seen → List ℕ
+numbers = map (λ (s : Seen). numberOf (s .answer))
+
+-- A is not there
+none-found : numbers (answers (step floppy) opens ready empty) ≡ 0 ∷ 255 ∷ []
+unfolding lying openSlot openTests openAct answers empty ready opens
+none-found = refl
+
+-- of a straight state the image has a wrong length
+wrong-length : numbers (answers (placingLost floppy) opens ready empty) ≡ 0 ∷ 33 ∷ []
+unfolding lying openSlot openTests openAct answers empty ready opens
+wrong-length = refl
+
+placing-lost : EachRunOf placingLost → ⊥
+placing-lost each =
+    let e = sym none-found ∙ ap numbers (run-as-step each empty empty-long) ∙ wrong-length in
     absurd (omega (arith, ap (λ (l : List ℕ). byte l 1) e))
 
 -- ---- the reserved tracks and the last six logical records: an image of zeros is marked by a 1
@@ -158,6 +197,7 @@ pub placings-shut-out : PlacingsShutOut
 placings-shut-out = record {
   directory-straight = directory-straight;
   data-straight = data-straight;
+  placing-lost = placing-lost;
   marks-reserved = marks-reserved;
   marks-last = marks-last;
   by-sector = by-sector;
