@@ -60,8 +60,8 @@ dataStraight =
     let n = random (c .fcb) in
     withBuffer (step g c d v) (plainRecord v (recordOf g (readBlock g v (d .user) (nameOf (c .fcb)) n) n)))
 
--- log-in hands back a straight state: functions 13 and 37 lose the drive's own placing. Each call by itself looks as it should, since
--- its state is straightened before it is compared; the next call goes by the lost placing (`EachRunOf`)
+-- log-in hands back a straight state: functions 13 and 37 lose the drive's own placing. Of each call by itself the statement is true
+-- (`placing-lost-by-call`), since states are straightened before they are compared; the next call goes by the lost placing (`EachRunOf`)
 abbrev pub placingLost : Geometry → Way
 placingLost = onImages (13 ∷ 37 ∷ []) (λ g c d v. let o = step g c d v in withDrive o (straightDrive (o .drive)))
 
@@ -83,6 +83,7 @@ pub record PlacingsShutOut : Type 0 where
   pub directory-straight : EachCallOf directoryStraight → ⊥
   pub data-straight : EachCallOf dataStraight → ⊥
   pub placing-lost : EachRunOf placingLost → ⊥
+  pub placing-lost-by-call : EachCallOf placingLost
   pub marks-reserved : SpareKeptOf marksReserved storesOf → ⊥
   pub marks-last : SpareKeptOf marksLast storesOf → ⊥
   pub by-sector : EachCutOf storesBySector → ⊥
