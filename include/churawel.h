@@ -108,7 +108,7 @@ enum {
 
 /*
  * How the records of a volume lie: one behind the other, T times B bytes; or as on an eight-inch floppy, in an image of 256,256
- * bytes, which B 1,024, T 243 and D 2 alone can have.
+ * bytes, which B 1,024, T 243 and D 2 alone can have. Any other number, and the second with other B, T or D, is 32.
  */
 enum {
     CHURAWEL_STRAIGHT = 0,
@@ -123,9 +123,10 @@ static inline size_t churawel_drive_bytes(uint32_t blocks)
 
 /*
  * Logs a volume in: B bytes a block, T blocks, the first D of them directory, and the placing. B is 1,024, 2,048 or 4,096 and T is
- * 2 to 256; or B is 2,048 or 4,096 and T is 257 to 4,096, at most 8 MiB in all; D is 1 to 16 and below T. Accepted: 0, with the
- * number of free blocks as the value, and the drive's bytes are the state that calls take. Refused (32, 33, 36): the drive becomes
- * zeros, which count as closed. A drive that has not the length for this T, whatever T is: 32, and nothing changes.
+ * 2 to 256; or B is 2,048 or 4,096 and T is 257 to 4,096, at most 8 MiB in all; D is 1 to 16 and below T. The placing is one of the
+ * two above; any other number, and the second with other B, T or D, is 32. Accepted: 0, with the number of free blocks as the value,
+ * and the drive's bytes are the state that calls take. Refused (32, 33, 36): the drive becomes zeros, which count as closed. A drive
+ * that has not the length for this T, whatever T is: 32, and nothing changes.
  */
 uint32_t churawel_log_in(
     uint32_t block_bytes, uint32_t blocks, uint32_t directory_blocks, uint32_t placing,

@@ -22,13 +22,14 @@ use Rattle.disk_rules.proofs.NamedLaws.{named-at, holds-held}
 use Rattle.call_typing.specs.Typing.{typeableByte, blankBefore, typeable}
 use Rattle.call_fcb.specs.Fcb.{made}
 use Rattle.call_answers.specs.Refusal.{firstMet}
-use Rattle.call_answers.specs.declared.Answer.the-variants.{Ready}
+use Rattle.call_answers.specs.declared.Answer.the-variants.{Done, Ready}
 use Rattle.call_answers.specs.Answer.{numberOf, valueOf}
 use Rattle.call_make.specs.Make.{makeTests, freshEntry}
 use Rattle.call_served.specs.Asked.{Asked, asked}
 use Rattle.call_served.specs.Calls.{callOf}
 use Rattle.filecalls.specs.declared.Drive.{Drive}
 use Rattle.filecalls.specs.State.{closed, loggedIn}
+use Rattle.filecalls.specs.Outcome.{Outcome, left}
 use Rattle.filecalls.specs.LogIn.{logInTests, logIn}
 use Rattle.filecalls.specs.Open.{openTests, openAct, closeTests, closeAct, sizeTests, sizeAct}
 use Rattle.filecalls.specs.Search.{firstTests, searchFirstAct, nextTests, searchNextAct}
@@ -127,6 +128,10 @@ image-before : List ℕ
 unfolding image lastTrack
 image-before = image (sectors 1 0xE5) (sectors 1 0xE5)
 
+volume-before : List ℕ
+unfolding volume
+volume-before = volume (sectors 1 0xE5) (sectors 1 0xE5)
+
 -- C is made in slot 0
 image-made : List ℕ
 unfolding image lastTrack
@@ -146,12 +151,20 @@ unfolding volume
 volume-written = volume (holding 0 (entryOf 67 3 3)) (bytesOf 9)
 
 -- ---- "Every call answers on such an image as on the unskewed volume. The reserved tracks and the last six logical records never change"
+-- a drive of which the lowest blocks are held that this byte has a bit for
+abbrev driveOf : Geometry → ℕ → Drive
+driveOf g held = loggedIn g (held ∷ replicate 63 0)
+
+-- answer 0, and what is left beside it
+abbrev leaves : Drive → List ℕ → List ℕ → List ℕ → Outcome
+leaves d v fcb b = left (record { answer = Done 0; drive = d }) v fcb b
+
 -- block 2 is held
 on-floppy : Drive
-on-floppy = loggedIn floppy (4 ∷ replicate 63 0)
+on-floppy = driveOf floppy 4
 
 on-straight : Drive
-on-straight = loggedIn (straightened floppy) (4 ∷ replicate 63 0)
+on-straight = driveOf (straightened floppy) 4
 
 makes : Asked
 makes = asked 22 0 (fcbOf 67 0) []
@@ -160,17 +173,25 @@ writes : Asked
 writes = asked 34 0 (fcbOf 67 2) (bytesOf 9)
 
 -- sector 1 of track 2 has the new entry, and all else stays
-make-on-image : step floppy makes on-floppy image-before .volume ≡ image-made
+make-on-image : step floppy makes on-floppy image-before ≡ leaves on-floppy image-made (fcbOf 67 0) []
 unfolding evaluates image-before image-made on-floppy makes
 make-on-image = refl
 
--- that sector and sector 1 of track 3 change, and all else stays
-write-on-image : step floppy writes on-floppy image-made .volume ≡ image-written
-unfolding evaluates image-made image-written on-floppy writes
+make-on-volume : step (straightened floppy) makes on-straight volume-before ≡ leaves on-straight volume-made (fcbOf 67 0) []
+unfolding evaluates volume-before volume-made on-straight makes
+make-on-volume = refl
+
+-- that sector and sector 1 of track 3 change, and all else stays; block 3 is held, and the control block has the count and the map of
+-- the entry, cr 2, and r0 2 as before
+fcb-written : List ℕ
+fcb-written = entryOf 67 3 3 ++ (2 ∷ 2 ∷ 0 ∷ 0 ∷ [])
+
+write-on-image : step floppy writes on-floppy image-made ≡ leaves (driveOf floppy 12) image-written fcb-written (bytesOf 9)
+unfolding evaluates image-made image-written on-floppy writes fcb-written
 write-on-image = refl
 
-write-on-volume : step (straightened floppy) writes on-straight volume-made .volume ≡ volume-written
-unfolding evaluates volume-made volume-written on-straight writes
+write-on-volume : step (straightened floppy) writes on-straight volume-made ≡ leaves (driveOf (straightened floppy) 12) volume-written fcb-written (bytesOf 9)
+unfolding evaluates volume-made volume-written on-straight writes fcb-written
 write-on-volume = refl
 
 -- ---- an empty disk: log-in "answers 0, the number of free blocks", 241 of 243. What of it would take long to compute, the blocks that

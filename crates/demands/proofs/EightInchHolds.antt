@@ -56,10 +56,10 @@ use Rattle.demands.proofs.EightInchActs.{placed, placed-open}
 use Rattle.demands.proofs.EightInchCalls.{placedOutcome, Kin, does-kin}
 
 -- ---- the straight state
-straight-is : (d : Drive) → lawful (d .geometry) ≡ true → straightDrive d ≡ placed d
+pub straight-is : (d : Drive) → lawful (d .geometry) ≡ true → straightDrive d ≡ placed d
 straight-is d good = ap (λ (t : Bool). withGeometry d (cond t (straightened (d .geometry)) (d .geometry))) good
 
-straight-not : (d : Drive) → lawful (d .geometry) ≡ false → straightDrive d ≡ withGeometry d (d .geometry)
+pub straight-not : (d : Drive) → lawful (d .geometry) ≡ false → straightDrive d ≡ withGeometry d (d .geometry)
 straight-not d bad = ap (λ (t : Bool). withGeometry d (cond t (straightened (d .geometry)) (d .geometry))) bad
 
 pub straight-geometry : (g : Geometry) → lawful g ≡ true → (d : Drive) → d .geometry ≡ g → straightDrive d .geometry ≡ straightened g

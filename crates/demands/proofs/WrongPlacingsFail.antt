@@ -1,28 +1,37 @@
--- Each wrong placing is tried on one eight-inch image: a call of it is evaluated there, and is not what the call is on the image.
+-- Each wrong placing is tried on one eight-inch image: a call of it, or a run of two, is evaluated there, and is not what it is on the
+-- image.
 use mathlib.Core.Path.{_≡_, refl, sym, ap, _∙_}
-use mathlib.Core.List.{List, [], _∷_, _++_}
+use mathlib.Core.Bool.{Bool, true, false, cond}
+use mathlib.Core.List.{List, [], _∷_, _++_, map}
 use Prim.Native.Nat.{ℕ, _+_, _≤_, _<_}
 use native.Mathlib.Omega.{arith}
+use lib.Dec.{eqb}
 use lib.ListN.{length, replicate, length-replicate, getD-replicate}
 use Rattle.lists.specs.Bytes.{byte, part, put}
 use Rattle.disk_geometry.specs.declared.Geometry.{Geometry}
 use Rattle.lists.proofs.PartLaws.{byte-part, byte-in}
 use Rattle.disk_geometry.specs.EightInch.{sectorAt, imageStart}
-use Rattle.disk_geometry.specs.Geometry.{floppy, lawful, bytes, start}
+use Rattle.disk_geometry.specs.Geometry.{eightInch, placing, floppy, lawful, bytes, start}
 use Rattle.disk_geometry.proofs.GeometryLaws.{bytes-floppy}
 use Rattle.disk_stores.specs.Stores.{Store}
 use Rattle.call_answers.specs.Answer.{numberOf}
+use Rattle.call_open.specs.Open.{openSlot}
 use Rattle.call_served.specs.Asked.{Asked, asked}
 use Rattle.unskewed.specs.Unskewed.{straightened, unskewed}
+use Rattle.unskewed.proofs.Logical.{straight-good}
 use Rattle.filecalls.specs.declared.Drive.{Drive}
 use Rattle.filecalls.specs.State.{loggedIn}
+use Rattle.filecalls.specs.Open.{openTests, openAct}
 use Rattle.filecalls.specs.Outcome.{Outcome}
 use Rattle.bdos.specs.Step.{step}
 use Rattle.bdos.specs.Stores.{callStores, storesOf}
-use Rattle.demands.specs.Run.{Way, final}
-use Rattle.demands.specs.EightInch.{straightDrive, unskewedOutcome, has-geometry, EachCallOf, EachCutOf, SpareKeptOf}
-use Rattle.demands.specs.WrongPlacings.{directoryStraight, dataStraight, marksReserved, marksLast, inDiskOrder, storesBySector, PlacingsShutOut}
-use Rattle.demands.proofs.EightInchHolds.{floppy-lawful, each-call, each-cut}
+use Rattle.demands.specs.Run.{Seen, Way, answers, final}
+use Rattle.demands.specs.Order.{among}
+use Rattle.demands.specs.WrongWays.{withDrive}
+use Rattle.demands.specs.EightInch.{straightDrive, unskewedOutcome, has-geometry, EachCallOf, EachRunOf, EachCutOf, SpareKeptOf}
+use Rattle.demands.specs.WrongPlacings.{directoryStraight, dataStraight, placingLost, marksReserved, marksLast, inDiskOrder, storesBySector, PlacingsShutOut}
+use Rattle.demands.proofs.EightInchActs.{placed}
+use Rattle.demands.proofs.EightInchHolds.{straight-is, straight-not, floppy-lawful, each-call, each-run, each-cut}
 use Rattle.demands.proofs.WrongWaysFail.{computes, entryOf, bytesOf, fcbOf}
 
 -- what has to compute
@@ -83,6 +92,60 @@ data-straight : EachCallOf dataStraight → ⊥
 data-straight each =
     let e = sym read-shows ∙ ap shown (as-step dataStraight each image image-long refl) ∙ other-bytes in
     absurd (omega (arith, ap (λ (l : List ℕ). byte l 1) e))
+
+-- ---- runs: a log-in on an empty disk, and then an open of A
+empty : List ℕ
+empty = replicate 256256 0xE5
+
+empty-long : length empty ≡ bytes floppy
+unfolding empty
+empty-long = length-replicate {A = ℕ} 256256 0xE5 ∙ sym (bytes-floppy floppy refl)
+
+opens : List Asked
+opens = asked 13 0 [] [] ∷ asked 15 0 (fcbOf 65 0) [] ∷ []
+
+run-as-step : EachRunOf placingLost → (v : List ℕ) → length v ≡ bytes floppy
+    → answers (step floppy) opens ready v ≡ answers (placingLost floppy) opens ready v
+unfolding ready
+run-as-step each v size =
+    sym (each-run floppy floppy-lawful ready (has-geometry refl) v size opens .seen-same)
+    ∙ each floppy floppy-lawful ready (has-geometry refl) v size opens .seen-same
+
+abbrev numbers : List Seen → List ℕ
+numbers = map (λ (s : Seen). numberOf (s .answer))
+
+-- A is not there
+none-found : numbers (answers (step floppy) opens ready empty) ≡ 0 ∷ 255 ∷ []
+unfolding lying openSlot openTests openAct answers empty ready opens
+none-found = refl
+
+-- of a straight state the image has a wrong length
+wrong-length : numbers (answers (placingLost floppy) opens ready empty) ≡ 0 ∷ 33 ∷ []
+unfolding lying openSlot openTests openAct answers empty ready opens
+wrong-length = refl
+
+placing-lost : EachRunOf placingLost → ⊥
+placing-lost each =
+    let e = sym none-found ∙ ap numbers (run-as-step each empty empty-long) ∙ wrong-length in
+    absurd (omega (arith, ap (λ (l : List ℕ). byte l 1) e))
+
+-- a call by itself does not show it: a straight state is straightened to itself
+straight-twice : (d : Drive) → straightDrive (straightDrive d) ≡ straightDrive d
+straight-twice d = go (lawful (d .geometry)) refl
+  where
+    go : (t : Bool) → lawful (d .geometry) ≡ t → straightDrive (straightDrive d) ≡ straightDrive d
+    go true e = ap straightDrive (straight-is d e) ∙ straight-is (placed d) (straight-good (d .geometry) e) ∙ sym (straight-is d e)
+    go false e = ap straightDrive (straight-not d e)
+
+same-unskewed : (g : Geometry) (o : Outcome) (t u : Bool)
+    → unskewedOutcome g o ≡ unskewedOutcome g (cond t (cond u (withDrive o (straightDrive (o .drive))) o) o)
+same-unskewed g o true true = ap (withDrive (unskewedOutcome g o)) (sym (straight-twice (o .drive)))
+same-unskewed g o true false = refl
+same-unskewed g o false u = refl
+
+placing-lost-by-call : EachCallOf placingLost
+placing-lost-by-call g good d st v size c =
+    each-call g good d st v size c ∙ same-unskewed g (step g c d v) (eqb (placing g) eightInch) (among (c .function) (13 ∷ 37 ∷ []))
 
 -- ---- the reserved tracks and the last six logical records: an image of zeros is marked by a 1
 zeros : List ℕ
@@ -158,6 +221,8 @@ pub placings-shut-out : PlacingsShutOut
 placings-shut-out = record {
   directory-straight = directory-straight;
   data-straight = data-straight;
+  placing-lost = placing-lost;
+  placing-lost-by-call = placing-lost-by-call;
   marks-reserved = marks-reserved;
   marks-last = marks-last;
   by-sector = by-sector;

@@ -71,8 +71,12 @@ pub record RunAsUnskewed (way : Geometry → Way) (g : Geometry) (cs : List Aske
   pub volume-same : final (way (straightened g)) cs (straightDrive d) (unskewed g v) ≡ unskewed g (final (way g) cs d v)
   pub state-same : finalState (way (straightened g)) cs (straightDrive d) (unskewed g v) ≡ straightDrive (finalState (way g) cs d v)
 
+-- of a way to do calls; a call by itself does not show which placing its state is left with
+abbrev pub EachRunOf : (Geometry → Way) → Type 0
+EachRunOf way = OverImages (λ g d v. (cs : List Asked) → RunAsUnskewed way g cs d v)
+
 abbrev pub EachRun : Type 0
-EachRun = OverImages (λ g d v. (cs : List Asked) → RunAsUnskewed step g cs d v)
+EachRun = EachRunOf step
 
 -- a call that is cut after k stores: of a way to store
 pub record CutAsUnskewed (stores : Storing) (g : Geometry) (c : Asked) (d : Drive) (v : List ℕ) : Type 0 where

@@ -18,8 +18,8 @@ use Rattle.bdos.specs.Stores.{storesOf}
 use Rattle.demands.specs.Run.{Way}
 use Rattle.demands.specs.Order.{among}
 use Rattle.demands.specs.Cuts.{Storing}
-use Rattle.demands.specs.EightInch.{EachCallOf, EachCutOf, SpareKeptOf}
-use Rattle.demands.specs.WrongWays.{instead, withVolume}
+use Rattle.demands.specs.EightInch.{straightDrive, EachCallOf, EachRunOf, EachCutOf, SpareKeptOf}
+use Rattle.demands.specs.WrongWays.{instead, withDrive, withVolume}
 
 -- ---- what they are written with
 -- on eight-inch images the functions of these numbers are done by another way
@@ -60,6 +60,11 @@ dataStraight =
     let n = random (c .fcb) in
     withBuffer (step g c d v) (plainRecord v (recordOf g (readBlock g v (d .user) (nameOf (c .fcb)) n) n)))
 
+-- log-in hands back a straight state: functions 13 and 37 lose the drive's own placing. Of each call by itself the statement is true
+-- (`placing-lost-by-call`), since states are straightened before they are compared; the next call goes by the lost placing (`EachRunOf`)
+abbrev pub placingLost : Geometry → Way
+placingLost = onImages (13 ∷ 37 ∷ []) (λ g c d v. let o = step g c d v in withDrive o (straightDrive (o .drive)))
+
 -- log-in marks the disk in a reserved track, or in the first of the last six logical records (`SpareKeptOf`)
 abbrev pub marksReserved : Geometry → Way
 marksReserved = onImages (13 ∷ 37 ∷ []) (λ g c d v. withVolume (step g c d v) (put v 0 1 (1 ∷ [])))
@@ -77,6 +82,8 @@ storesBySector c d v =
 pub record PlacingsShutOut : Type 0 where
   pub directory-straight : EachCallOf directoryStraight → ⊥
   pub data-straight : EachCallOf dataStraight → ⊥
+  pub placing-lost : EachRunOf placingLost → ⊥
+  pub placing-lost-by-call : EachCallOf placingLost
   pub marks-reserved : SpareKeptOf marksReserved storesOf → ⊥
   pub marks-last : SpareKeptOf marksLast storesOf → ⊥
   pub by-sector : EachCutOf storesBySector → ⊥

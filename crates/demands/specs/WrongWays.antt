@@ -45,7 +45,7 @@ abbrev answering : Answer → Asked → Drive → List ℕ → Outcome
 answering a c d v = left (record { answer = a; drive = d }) v (c .fcb) (c .buffer)
 
 -- all that is left, with another state, volume or control block
-abbrev withDrive : Outcome → Drive → Outcome
+abbrev pub withDrive : Outcome → Drive → Outcome
 withDrive o d = record { answer = o .answer; drive = d; volume = o .volume; fcb = o .fcb; buffer = o .buffer }
 
 abbrev pub withVolume : Outcome → List ℕ → Outcome

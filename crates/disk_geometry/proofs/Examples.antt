@@ -3,9 +3,11 @@
 use mathlib.Core.Path.{_≡_, refl}
 use mathlib.Core.Bool.{Bool, true, false}
 use mathlib.Core.List.{List, [], _∷_, map}
-use Prim.Native.Nat.{ℕ, _+_, _*_, _/_}
+use Prim.Native.Nat.{ℕ, _+_, _*_, _/_, _%_}
+use lib.Dec.{eqb}
+use Rattle.lists.specs.Bounded.{everyFrom, every}
 use Rattle.disk_geometry.specs.declared.Geometry.{Geometry}
-use Rattle.disk_geometry.specs.EightInch.{imageStart, trackRecords}
+use Rattle.disk_geometry.specs.EightInch.{trackSectors, sectorAt, imageStart, trackRecords}
 use Rattle.disk_geometry.specs.Geometry.{eightInch, geometryOf, withPlacing, floppy, lawful, bytes, numberBytes, records, extents, slots, start, slotStart, recordStart, places, groupOf, placeOf}
 
 -- B 1,024 ends at T 256; B 2,048 at T 4,096 and B 4,096 at T 2,048, which are 8 MiB
@@ -70,6 +72,11 @@ lawful-placings = refl
 pub lengths : map bytes (floppy ∷ geometryOf 1024 243 2 ∷ []) ≡ 256256 ∷ 248832 ∷ []
 unfolding bytes
 lengths = refl
+
+-- "1, 7, 13, 19, 25, 5, 11, ..": every sixth sector, and one further after the thirteenth place, in all places of the table
+pub every-sixth : every trackSectors (λ k. eqb (sectorAt k) (6 * k % 26 + 1 + k / 13)) ≡ true
+unfolding everyFrom sectorAt
+every-sixth = refl
 
 -- "Logical record q lies on track 2 + q div 26, in the sector given by place q mod 26": the first track's first four, its last
 -- one, and the first of the next; of the disk's last track the last record of a block, and the last of the six behind it

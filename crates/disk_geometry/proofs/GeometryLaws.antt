@@ -1,6 +1,6 @@
 -- What a lawful geometry's sizes are, and where its records and slots lie: inside the volume, and apart from each other.
--- Only `start-in`, `start-apart` and `start-straight` know how records lie. Of two things apart the first lies before the second,
--- or behind it.
+-- Only `start-straight`, `start-floppy`, `start-in` and `start-apart` know how records lie. Of two things apart the first lies before
+-- the second, or behind it.
 use mathlib.Core.Path.{_≡_, refl, sym, ap, _∙_}
 use mathlib.Core.Bool.{Bool, true, false, _&&_, _||_, and-true, true≢false}
 use mathlib.Core.Logic.{_⊎_, inl, inr, ⊎-elim, _≢_}

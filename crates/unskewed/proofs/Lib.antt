@@ -3,3 +3,4 @@ pub mod Logical
 pub mod Seen
 pub mod Asked
 pub mod Stored
+pub mod Examples
