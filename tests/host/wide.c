@@ -294,17 +294,25 @@ static void cuts(void)
                 && same_bytes());
 }
 
-// A call, a cut and a file's line on the drive as it stands: each 32, and nothing changes.
+// A call, a cut, a file's line, a load and a replacement on the drive as it stands: each 32, and nothing changes.
 static int is_closed(void)
 {
-    uint8_t line[CHURAWEL_FILE_BYTES];
+    struct {
+        uint8_t line[CHURAWEL_FILE_BYTES], table[CHURAWEL_TABLE_BYTES], memory[256];
+    } is, was;
     int good = 1;
+    memset(&is, 7, sizeof is);
+    memcpy(&was, &is, sizeof is);
     as_it_stands();
     for (unsigned f = 0; f < 256; f++)
         good = call((uint8_t)f, 255) == 32 && good;
     good = churawel_cut(9, 34, 0, now.drive, lent.drive, now.volume, lent.volume, now.fcb, 36, now.buffer, RECORD) == 32 && good;
-    good = churawel_file(now.drive, lent.drive, now.volume, lent.volume, 0, line, sizeof line) == 32 && good;
-    return same_bytes() && good;
+    good = churawel_file(now.drive, lent.drive, now.volume, lent.volume, 0, is.line, sizeof is.line) == 32 && good;
+    good = churawel_load(now.drive, lent.drive, now.volume, lent.volume, now.fcb, 36, is.table, sizeof is.table, is.memory,
+                         sizeof is.memory) == 32
+        && good;
+    good = churawel_replace_siglum(now.drive, lent.drive, now.volume, lent.volume, now.fcb, 36, 1, 0, 1) == 32 && good;
+    return same_bytes() && memcmp(&is, &was, sizeof is) == 0 && good;
 }
 
 static void lengths_of_drives(void)
@@ -315,7 +323,7 @@ static void lengths_of_drives(void)
             continue;
         wide_files();
         lent.drive = bytes;
-        snprintf(what, sizeof what, "T 300 in a drive of %zu bytes: 32 by every number, a cut and a line, nothing changed", bytes);
+        snprintf(what, sizeof what, "T 300 in a drive of %zu bytes: 32 by every number, cut, line, load and replacement, nothing changed", bytes);
         verdict(what, is_closed());
         log_in("and by log-in", HARD, 32, 0);
     }

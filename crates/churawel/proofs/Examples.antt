@@ -1,4 +1,5 @@
--- The bytes of a fault, evaluated: B 1,024, T 8, D 1, SIGLA.TXT of user 0 in slot 0 with blocks 1 and 2 in places 0 and 2.
+-- The bytes of a fault, evaluated: B 1,024, T 8, D 1, SIGLA.TXT of user 0 in slot 0 with blocks 1 and 2 in places 0 and 2; and on a
+-- hard disk, B 2,048, T 300, D 1.
 use mathlib.Core.Path.{_≡_, refl}
 use mathlib.Core.List.{List, [], _∷_, _++_}
 use Prim.Native.Nat.{ℕ, _-_}
@@ -24,6 +25,10 @@ sigla =
 abbrev told-of : ℕ → List ℕ → List ℕ
 told-of i entries = faultBytes (geometryOf 1024 8 1) (entries ++ replicate (8192 - length entries) 229) i
 
+-- the same of the directory of a hard disk, whose first slot has this entry: inspection looks at nothing else
+abbrev told-wide : List ℕ → List ℕ
+told-wide entry = faultBytes (geometryOf 2048 300 1) (entry ++ replicate 2016 229) 0
+
 -- user 0 and the name as it stands
 abbrev SIGLA : List ℕ
 SIGLA = 0 ∷ 83 ∷ 73 ∷ 71 ∷ 76 ∷ 65 ∷ 32 ∷ 32 ∷ 32 ∷ 84 ∷ 88 ∷ 84 ∷ []
@@ -33,10 +38,13 @@ pub record Examples : Type 0 where
   rc : told-of 0 (set sigla RC 129) ≡ 7 ∷ 0 ∷ 0 ∷ 0 ∷ 0 ∷ 0 ∷ 0 ∷ 0 ∷ (SIGLA ++ replicate 12 0)
   -- block 2 of slot 0 in place 2 of slot 1, which is marked read-only
   lower : told-of 1 (sigla ++ set (set (set sigla EX 1) MAP 7) T1 212) ≡ 10 ∷ 2 ∷ 2 ∷ 0 ∷ 1 ∷ 0 ∷ 0 ∷ 0 ∷ (set SIGLA 9 212 ++ SIGLA)
+  -- block 300, which is T, in place 7: two bytes, low first, in the entry and in the fault
+  wide : told-wide (set (set sigla 30 44) 31 1) ≡ 8 ∷ 7 ∷ 44 ∷ 1 ∷ 0 ∷ 0 ∷ 0 ∷ 0 ∷ (SIGLA ++ replicate 12 0)
 
 pub examples : Examples
 unfolding faultBytes ownerBytes otherBytes bytesOf firstBroken firstOf breaks breaksAt told goodTopBits placeOf slotOf twinSlot inPlaces namesBlock namedBelow seenBelow findSlot lowFrom anyFrom everyFrom part all start slotStart groupOf inside strip nameAt same goodName places blockIn ofFile ofGroup slotAt
 examples = record {
   rc = refl;
   lower = refl;
+  wide = refl;
 }

@@ -1,17 +1,17 @@
--- One drive's 64 bytes, an eight-inch disk's, and one's 544, written out by hand from the layout, decoded and encoded; and bytes
--- of the other length.
+-- One drive's 64 bytes, an eight-inch disk's, and one's 544, written out by hand from the layout, decoded and encoded; bytes
+-- of the other length; and bytes from 24 on that count as closed.
 use mathlib.Core.Path.{_≡_, refl}
-use mathlib.Core.Bool.{true}
+use mathlib.Core.Bool.{Bool, true, false}
 use mathlib.Core.List.{List, [], _∷_, _++_}
 use Prim.Native.Nat.{ℕ}
-use lib.ListN.{replicate}
-use Rattle.disk_geometry.specs.Geometry.{geometryOf, floppy}
+use lib.ListN.{replicate, set}
+use Rattle.disk_geometry.specs.Geometry.{geometryOf, floppy, lawful}
 use Rattle.lists.specs.Bytes.{part, all}
 use Rattle.call_search.specs.declared.SearchKind.the-variants.{Pattern}
 use Rattle.filecalls.specs.declared.Drive.{Drive}
 use Rattle.numbers.specs.Numbers.{bytesOf, number, bytesFrom}
 use Rattle.drive_bytes.specs.Layout.{headBytes, keptBytes, searchBytes, heldBytes, frontBytes, encoded, kindStored, wordsAt, fields, laidOut, isDrive, decoded}
-use Rattle.filecalls.specs.State.{closed, loggedIn}
+use Rattle.filecalls.specs.State.{closed, loggedIn, isOpen}
 
 -- SIGLA???.TX? with ex 3FH
 abbrev pattern : List ℕ
@@ -85,3 +85,22 @@ too-long = refl
 too-short : decoded (0 ∷ 8 ∷ 1 ∷ 1 ∷ 2 ∷ 0 ∷ replicate 58 0) ≡ closed
 unfolding decoded isDrive number part
 too-short = refl
+
+-- ---- byte 24 is the placing, "25..31 zero"
+-- the floppy's bytes with byte k set to x: is the drive open?
+abbrev opens : ℕ → ℕ → Bool
+opens k x = isOpen (decoded (set floppyBytes k x))
+
+pub record Placings : Type 0 where
+  -- eight-inch, and a straight volume of the same numbers; a third placing, and eight-inch with T 256, count as closed
+  as-laid : opens 24 1 ≡ true
+  as-straight : opens 24 0 ≡ true
+  third-placing : opens 24 2 ≡ false
+  of-other-numbers : isOpen (decoded (set sampleBytes 24 1)) ≡ false
+  -- so does any other byte there that is not 0
+  byte-25 : opens 25 1 ≡ false
+  byte-31 : opens 31 255 ≡ false
+
+pub placings : Placings
+unfolding decoded isDrive laidOut fields wordsAt kindStored number part all isOpen lawful
+placings = record { as-laid = refl; as-straight = refl; third-placing = refl; of-other-numbers = refl; byte-25 = refl; byte-31 = refl }

@@ -55,12 +55,22 @@ SPARE-AT = 25
 abbrev pub HELD-AT : ℕ
 HELD-AT = 32
 
+-- how many held words a drive has up to T 256, where above it has all of a state's; how many bytes up to there, and above
+abbrev pub narrowWords : ℕ
+narrowWords = 4
+
+abbrev pub narrowBytes : ℕ
+narrowBytes = 64
+
+abbrev pub wideBytes : ℕ
+wideBytes = 544
+
 -- how many held words and bytes a drive of so many blocks has
 abbrev pub storedWords : ℕ → ℕ
-storedWords t = cond (leb t narrowBlocks) 4 heldWords
+storedWords t = cond (leb t narrowBlocks) narrowWords heldWords
 
 abbrev pub driveBytes : ℕ → ℕ
-driveBytes t = cond (leb t narrowBlocks) 64 544
+driveBytes t = cond (leb t narrowBlocks) narrowBytes wideBytes
 
 -- ---- from the state to bytes
 -- 0..7

@@ -8,11 +8,12 @@ ghost use lib.ListN.{length, take};
 ghost use Rattle.disk_geometry.specs.Geometry.{blocks};
 ghost use Rattle.disk_held.specs.Held.{heldWords};
 ghost use Rattle.call_search.specs.Search.{patternBytes};
-ghost use Rattle.drive_bytes.specs.Layout.{HELD-AT, driveBytes, headBytes, keptBytes, searchBytes, heldBytes, encoded};
+ghost use Rattle.drive_bytes.specs.Layout.{HELD-AT, narrowWords, narrowBytes, driveBytes, headBytes, keptBytes, searchBytes, heldBytes, encoded};
 ghost use Rattle.drive_bytes.specs.CodeLaid.{withFront};
 use crate::DRIVE_BYTES;
 use crate::layout::HELD_AT;
 use crate::layout::LAST_AT;
+use crate::layout::NARROW_WORDS;
 use crate::layout::PATTERN_AT;
 use crate::layout::PLACING_AT;
 use crate::layout::PROTECTED_AT;
@@ -132,10 +133,10 @@ pub(crate) fn put_drive(out: &mut [u8], d: Drive)
 
 // How many held words a drive of so many bytes stores.
 pub(crate) fn words_in(bytes: usize) -> usize
-    ensures { λ r. ⌜ r ≡ cond (eqb bytes 64) 4 heldWords ⌝ }
+    ensures { λ r. ⌜ r ≡ cond (eqb bytes narrowBytes) narrowWords heldWords ⌝ }
 {
     if bytes == DRIVE_BYTES {
-        return 4;
+        return NARROW_WORDS;
     }
     WORDS
 }

@@ -20,3 +20,6 @@ pub const PATTERN_AT: usize = 12;
 pub const PLACING_AT: usize = 24;
 
 pub const HELD_AT: usize = 32;
+
+// How many held words stand there up to T 256; above it, all of a state's.
+pub const NARROW_WORDS: usize = 4;

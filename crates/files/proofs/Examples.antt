@@ -1,4 +1,4 @@
--- The files of small volumes, evaluated: B 1,024, 2,048 and 4,096, T 8, D 1.
+-- The files of small volumes, evaluated: B 1,024, 2,048 and 4,096, T 8, D 1; and of a hard disk, B 2,048, T 300, D 1.
 use mathlib.Core.Path.{_≡_, refl}
 use mathlib.Core.List.{List, [], _∷_, _++_}
 use Prim.Native.Nat.{ℕ, _*_, _-_}
@@ -60,6 +60,13 @@ line i = fileBytes (small 1024) four (slotAt (small 1024) four i)
 abbrev alone : ℕ → ℕ → List ℕ
 alone b x = fileBytes (small b) (disk b (with EX x (with RC 21 sigla))) sigla
 
+-- the only file of a hard disk, 21 records: blocks 256 and 257, whose numbers have two bytes, in places 0 and 1
+abbrev hard : Entry
+hard = with RC 21 (with 16 0 (with 17 1 (with 18 1 (with 19 1 sigla))))
+
+abbrev on-hard-disk : List ℕ
+on-hard-disk = fileBytes (geometryOf 2048 300 1) (hard ++ replicate 2016 229) hard
+
 abbrev SIGLA : List ℕ
 SIGLA = 83 ∷ 73 ∷ 71 ∷ 76 ∷ 65 ∷ 32 ∷ 32 ∷ 32 ∷ 84 ∷ 88 ∷ 84 ∷ []
 
@@ -79,6 +86,8 @@ pub record Examples : Type 0 where
   -- a lower extent of the group counts 128
   of-2048 : alone 2048 1 ≡ 0 ∷ (SIGLA ++ (0 ∷ 0 ∷ 149 ∷ 0 ∷ 0 ∷ 0 ∷ 2 ∷ 0 ∷ 0 ∷ 0 ∷ 0 ∷ 0 ∷ []))
   of-4096 : alone 4096 3 ≡ 0 ∷ (SIGLA ++ (0 ∷ 0 ∷ 149 ∷ 1 ∷ 0 ∷ 0 ∷ 2 ∷ 0 ∷ 0 ∷ 0 ∷ 0 ∷ 0 ∷ []))
+  -- two blocks: three bytes of the map are not 0, and one low byte is
+  of-hard-disk : on-hard-disk ≡ 0 ∷ (SIGLA ++ (0 ∷ 0 ∷ 21 ∷ 0 ∷ 0 ∷ 0 ∷ 2 ∷ 0 ∷ 0 ∷ 0 ∷ 0 ∷ 0 ∷ []))
 
 pub examples : Examples
 unfolding nextFile isListed findSlot fileBytes lineBytes isMarked blocksOf moreBlocks usedPlaces sizeOf larger entryEnd lowFrom anyFrom countFrom fold part bytesOf start slotStart places strip nameAt same blockIn ofFile slotAt
@@ -94,4 +103,5 @@ examples = record {
   largest = refl;
   of-2048 = refl;
   of-4096 = refl;
+  of-hard-disk = refl;
 }

@@ -1,4 +1,5 @@
--- Laws of what is lent, of what stands next, and of windows on a script.
+-- Laws of what is lent, of what stands next, of windows on a script, and headers evaluated.
 pub mod LentLaws
 pub mod ScriptLaws
 pub mod WindowLaws
+pub mod Examples
