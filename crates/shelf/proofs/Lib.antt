@@ -1,0 +1,2 @@
+-- What a reading makes of the shelf, as code learns it.
+pub mod ReadingLaws
