@@ -91,6 +91,8 @@ void shelf(const struct options *options, char **operands, int count)
     bool all = true, room = true;
     if (refusals == NULL)
         refuse("there is not enough memory");
+    // What says the geometry is looked at before any image is.
+    geometry_of_new(options);
     for (int k = 0; k < count && room; k++) {
         show_progress(k + 1, count);
         bool readable = read_next(options, operands[k], &next);

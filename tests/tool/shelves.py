@@ -94,6 +94,16 @@ def refused_images(desk):
     desk.wrong_use("no image", "shelf", said="it is: churawel shelf IMAGE ..")
 
 
+def wrong_geometry(desk):
+    """said before any image is looked at, and before any is said to be read"""
+    wrong = {"CHURAWEL_GEOMETRY": "1024,40"}
+    desk.wrong_use("-g is looked at first", "shelf", "-g", "x", "nowhere", said="-g takes three numbers")
+    desk.wrong_use("-f is looked at first", "shelf", "-f", "x", "nowhere", said="-f takes the word eight-inch")
+    desk.wrong_use("CHURAWEL_GEOMETRY is looked at first", "shelf", "nowhere", said="CHURAWEL_GEOMETRY takes three numbers", environment=wrong)
+    out, said = on_a_terminal(desk, "shelf", "-g", "x", "THREE.IMG")
+    desk.same("a wrong -g on a terminal", (out, said.startswith(b"churawel: -g takes three numbers")), (b"", True))
+
+
 def not_readable(desk):
     """the others are counted, and the status says that not all are"""
     one = shown(0, 1, 2, 14, 3, 36, 10)
@@ -154,6 +164,7 @@ def run(tally):
     hard_disk(desk)
     floppy(desk)
     refused_images(desk)
+    wrong_geometry(desk)
     not_readable(desk)
     progress(desk)
     many(desk)

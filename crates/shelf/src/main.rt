@@ -1,12 +1,11 @@
 // Reads volumes of V's geometry from standard input, one after another, and prints what they hold together, one figure a line.
 ghost use mathlib.Core.Path.{_≡_};
-ghost use Prim.Native.Nat.{_+_, _≤_, _<_};
+ghost use Prim.Native.Nat.{_≤_};
 ghost use lib.ListN.{length, take};
-ghost use Rattle.listing.specs.Listing.{geometryV};
-ghost use Rattle.shelf_figures.specs.Shelf.{mostVolumes, put};
-ghost use Rattle.shelf_figures.specs.Order.{Within};
+ghost use Rattle.io.specs.Counts.{Counts};
 ghost use Rattle.shelf_report.specs.Report.{report};
 ghost use Rattle.shelf_report.specs.Room.{room, OfVolumes};
+ghost use Rattle.shelf.specs.Reading.{volumeBytes, afterRead};
 use libc::STDIN_FILENO;
 use libc::STDOUT_FILENO;
 use shelf_figures::Shelf;
@@ -26,34 +25,41 @@ fn print(shelf: Shelf, out: &mut [u8])
     io::write_all(STDOUT_FILENO, &out[0..n]);
 }
 
-// The shelf, which has seen so many volumes, with one more.
-fn add(shelf: Shelf, seen: usize, volume: &[u8]) -> Shelf
-    requires { ⌜ Within seen shelf × (seen < mostVolumes) ⌝ }
-    ensures { λ r. ⌜ (r ≡ put shelf geometryV (now (volume .entry)) .shelf) × Within (seen + 1) r ⌝ }
-{
-    let added = shelf.put(listing::geometry(), volume);
-    let next = added.shelf;
-    next
+// The shelf after a reading, and whether another follows.
+pub struct Reading {
+    pub shelf: Shelf,
+    pub more: bool,
 }
 
-// One volume after another, to the end of the input, to a short one, which is the last and is refused, or to the 65,536th. `volume` has
-// room for one.
+// What was read, the first n bytes of `buffer`, put on the shelf. Nothing ends the reading, and so does the 65,536th volume; a short one is
+// the last, and refused.
+fn after_read(shelf: Shelf, buffer: &[u8], n: usize) -> Reading
+    requires { ⌜ Counts n (now buffer) ⌝ }
+    ensures { λ r. ⌜ r ≡ afterRead shelf (take n (now (buffer .entry))) ⌝ }
+{
+    if (n == 0) | (Shelf::VOLUMES <= shelf.seen) {
+        return Reading { shelf, more: false };
+    }
+    let added = shelf.put(listing::geometry(), &buffer[..n]);
+    let next = added.shelf;
+    Reading {
+        shelf: next,
+        more: n == listing::VOLUME_BYTES,
+    }
+}
+
+// One volume after another. `volume` has room for one.
 fn read_volumes(volume: &mut [u8]) -> Shelf
+    requires { ⌜ length (now volume) ≡ volumeBytes ⌝ }
     ensures { λ r. ⌜ OfVolumes r ⌝ }
 {
     let mut shelf = Shelf::bare();
-    let mut seen: usize = 0;
-    let mut n = io::read_full(STDIN_FILENO, volume);
-    while 0 < n {
-        if Shelf::VOLUMES <= seen {
-            return shelf;
-        }
-        shelf = add(shelf, seen, &volume[..n]);
-        seen += 1;
-        if n < volume.len() {
-            return shelf;
-        }
-        n = io::read_full(STDIN_FILENO, volume);
+    let mut more = true;
+    while more {
+        let n = io::read_full(STDIN_FILENO, volume);
+        let reading = after_read(shelf, volume, n);
+        shelf = reading.shelf;
+        more = reading.more;
     }
     shelf
 }

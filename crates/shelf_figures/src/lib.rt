@@ -131,7 +131,7 @@ impl Shelf {
     }
 
     // Are all figures within the rules?
-    pub fn is_kept(self) -> bool
+    fn is_kept(self) -> bool
         ensures { λ r. ⌜ r ≡ isKept self ⌝ }
     {
         (self.refused < Shelf::FIGURE)

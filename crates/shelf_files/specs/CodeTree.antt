@@ -25,9 +25,13 @@ mostSlots = 2048
 abbrev pub KEYS : ℕ
 KEYS = 1099511627776
 
+-- it spreads the keys of names that differ in their numbers only
+abbrev pub FACTOR : ℕ
+FACTOR = 13964171
+
 -- the key of a user and a name, and that of an entry
 abbrev pub nextKey : List ℕ → ℕ → ℕ → ℕ
-nextKey name key p = (13964171 * key + byte name p) % KEYS
+nextKey name key p = (FACTOR * key + byte name p) % KEYS
 
 unfoldable pub keyOf : ℕ → List ℕ → ℕ
 keyOf u name = fold (nextKey name) u 0 nameBytes

@@ -28,6 +28,9 @@ pub const SLOTS: usize = 2048;
 
 const KEYS: usize = 1 << 40;
 
+// It spreads the keys of names that differ in their numbers only.
+const FACTOR: usize = 13964171;
+
 // From this bit on a way goes by the bits of a key.
 const MIXED: usize = 1 << 16;
 
@@ -46,7 +49,7 @@ struct Way {
     bit: usize,
 }
 
-// The key of a user and a name; the factor spreads names that differ in their numbers only.
+// The key of a user and a name.
 fn key_of(user: u8, name: &[u8]) -> usize
     requires { ⌜ IsName (now name) ⌝ }
     ensures { λ r. ⌜ (r ≡ keyOf user (strip (now (name .entry)))) × (r < KEYS) ⌝ }
@@ -54,7 +57,7 @@ fn key_of(user: u8, name: &[u8]) -> usize
     let mut key = lists::wide(user);
     let mut p = 0;
     while p < fields::NAME_BYTES {
-        key = (13964171 * key + lists::wide(name[p] % names::TOP_BIT)) % KEYS;
+        key = (FACTOR * key + lists::wide(name[p] % names::TOP_BIT)) % KEYS;
         p += 1;
     }
     key

@@ -1,16 +1,17 @@
--- The figures evaluated: on V when it is empty, after 01's writes, and with a file of another user; on a hard disk, on a floppy, and with
--- four extents to an entry.
+-- The figures evaluated: on V when it is empty, after 01's writes, with a read-only extent, with an extent above 31, and with a file of
+-- another user; on a hard disk, on a floppy, and with four extents to an entry.
 use mathlib.Core.Path.{_≡_, refl, ap, _∙_}
 use mathlib.Core.Bool.{true}
 use mathlib.Core.List.{List, [], _∷_, _++_}
 use Prim.Native.Nat.{ℕ, _-_, _*_}
-use lib.ListN.{replicate, length}
+use lib.ListN.{replicate, length, set}
 use Rattle.lists.specs.Bounded.{lowFrom, anyFrom, everyFrom, countFrom}
 use Rattle.lists.specs.Bytes.{part, all}
 use Rattle.sums.specs.Sum.{sumFrom}
 use Rattle.disk_geometry.specs.declared.Geometry.{Geometry}
 use Rattle.disk_geometry.specs.EightInch.{imageStart}
 use Rattle.disk_geometry.specs.Geometry.{lawful, geometryOf, floppy, records, slots, start, slotStart, groupOf, inside, places}
+use Rattle.disk_volume.specs.Fields.{T1, S2}
 use Rattle.disk_volume.specs.Name.{strip, nameAt, same, goodName}
 use Rattle.disk_volume.specs.Entry.{Entry, blockIn, ofFile, ofGroup}
 use Rattle.disk_volume.specs.Directory.{slotAt, findSlot}
@@ -30,7 +31,7 @@ abbrev hard : Geometry
 hard = geometryOf 2048 257 1
 
 -- four extents to an entry
-abbrev large : Geometry
+abbrev pub large : Geometry
 large = geometryOf 4096 4 1
 
 -- an entry of SIGLA.TXT of a user, in extent ex, that counts rc records, with these first six bytes of its map
@@ -54,6 +55,14 @@ written = sigla 0 0 21 1 2 ++ sigla 0 1 1 3 0
 abbrev another : List ℕ
 another = written ++ sigla 1 0 0 0 0
 
+-- the second of its two entries read-only: a T with its top bit
+abbrev marked : List ℕ
+marked = sigla 0 0 21 1 2 ++ set (sigla 0 1 1 3 0) T1 212
+
+-- a third entry, of extent 32, that counts five records
+abbrev far : List ℕ
+far = written ++ set (sigla 0 0 5 4 0) S2 1
+
 abbrev pub bad : List ℕ
 bad = sigla 16 0 0 0 0
 
@@ -61,9 +70,9 @@ bad = sigla 16 0 0 0 0
 abbrev hardDisk : List ℕ
 hardDisk = withMap 1 0 40 0 1 0 0 1 0 ++ replicate (2048 - 32) 229
 
--- the directory of a disk of large blocks: extent 1 counts 7 records, and places 0 and 4 have blocks
-abbrev largeDisk : List ℕ
-largeDisk = withMap 0 1 7 1 0 0 0 2 0 ++ replicate (4096 - 32) 229
+-- a disk of large blocks, whole: extent 1 counts 7 records, and places 0 and 4 have blocks
+abbrev pub largeDisk : List ℕ
+largeDisk = withMap 0 1 7 1 0 0 0 2 0 ++ replicate (4 * 4096 - 32) 229
 
 -- a floppy's image to the end of track 2 with one entry, in the first slot of logical record 1: sector 7 of that track
 abbrev image : List ℕ
@@ -83,26 +92,38 @@ record Figures (g : Geometry) (v : List ℕ) (all-of : Holdings) : Type 0 where
 abbrev pub figures : ℕ → ℕ → ℕ → ℕ → ℕ → ℕ → Holdings
 figures f e r h n w = record { files = f; entries = e; records = r; held = h; free = n; waste = w }
 
-record Evaluated : Type 0 where
+record OnV : Type 0 where
   empty : Figures sizes (volume []) (figures 0 0 0 0 39 0)
   three-writes : Figures sizes (volume written) (figures 1 2 14 3 36 10)
+  top-bit : Figures sizes (volume marked) (figures 1 2 14 3 36 10)
+  high-extent : Figures sizes (volume far) (figures 1 3 19 4 35 13)
   two-files : Figures sizes (volume another) (figures 2 3 14 3 36 10)
+  bad-slot : lowestBad sizes (volume bad) ≡ 0
+
+record OnOthers : Type 0 where
   hard-disk : Figures hard hardDisk (figures 1 1 24 2 254 8)
   on-floppy : Figures floppy image (figures 1 1 13 2 239 3)
   four-extents : Figures large largeDisk (figures 1 1 39 2 1 25)
-  bad-slot : lowestBad sizes (volume bad) ≡ 0
 
-evaluated : Evaluated
+on-V : OnV
 unfolding lawful lowestBad goodSlot goodFields goodTopBits goodPlace inPlaces namesBlock namedBelow seenBelow named lowFrom anyFrom everyFrom countFrom sumFrom part all imageStart start slotStart groupOf inside strip nameAt same goodName places blockIn ofFile ofGroup slotAt findSlot isListed files entries placeRecords entryRecords slotRecords recordsByEntries blocksHeld blocksFree
-evaluated =
+on-V =
     record {
       empty = record { law = refl; accepted = refl; files-are = refl; entries-are = refl; records-are = refl; held-are = refl; free-are = refl; waste-is = refl };
       three-writes = record { law = refl; accepted = refl; files-are = refl; entries-are = refl; records-are = refl; held-are = refl; free-are = refl; waste-is = refl };
+      top-bit = record { law = refl; accepted = refl; files-are = refl; entries-are = refl; records-are = refl; held-are = refl; free-are = refl; waste-is = refl };
+      high-extent = record { law = refl; accepted = refl; files-are = refl; entries-are = refl; records-are = refl; held-are = refl; free-are = refl; waste-is = refl };
       two-files = record { law = refl; accepted = refl; files-are = refl; entries-are = refl; records-are = refl; held-are = refl; free-are = refl; waste-is = refl };
+      bad-slot = refl;
+    }
+
+on-others : OnOthers
+unfolding lawful lowestBad goodSlot goodFields goodTopBits goodPlace inPlaces namesBlock namedBelow seenBelow named lowFrom anyFrom everyFrom countFrom sumFrom part all imageStart start slotStart groupOf inside strip nameAt same goodName places blockIn ofFile ofGroup slotAt findSlot isListed files entries placeRecords entryRecords slotRecords recordsByEntries blocksHeld blocksFree
+on-others =
+    record {
       hard-disk = record { law = refl; accepted = refl; files-are = refl; entries-are = refl; records-are = refl; held-are = refl; free-are = refl; waste-is = refl };
       on-floppy = record { law = refl; accepted = refl; files-are = refl; entries-are = refl; records-are = refl; held-are = refl; free-are = refl; waste-is = refl };
       four-extents = record { law = refl; accepted = refl; files-are = refl; entries-are = refl; records-are = refl; held-are = refl; free-are = refl; waste-is = refl };
-      bad-slot = refl;
     }
 
 -- ---- so they are the figures of the definition, whose records are counted file by file
@@ -116,6 +137,10 @@ pub record Examples : Type 0 where
   pub empty : holdings sizes (volume []) ≡ figures 0 0 0 0 39 0
   -- records 0 to 7, 16 to 20 and 128: fourteen in three blocks
   pub three-writes : holdings sizes (volume written) ≡ figures 1 2 14 3 36 10
+  -- a top bit is no part of the name: still one file
+  pub top-bit : holdings sizes (volume marked) ≡ figures 1 2 14 3 36 10
+  -- records 4,096 to 4,100 too, in a fourth block: s2 counts for 32 extents
+  pub high-extent : holdings sizes (volume far) ≡ figures 1 3 19 4 35 13
   -- a file without records
   pub two-files : holdings sizes (volume another) ≡ figures 2 3 14 3 36 10
   -- records 0 to 15 and 32 to 39, in two blocks of sixteen
@@ -126,17 +151,21 @@ pub record Examples : Type 0 where
   pub four-extents : holdings large largeDisk ≡ figures 1 1 39 2 1 25
   -- which of them inspection accepts
   pub good-slots : lowestBad sizes (volume written) ≡ 32
+  pub good-large : lowestBad large largeDisk ≡ 128
   pub bad-slot : lowestBad sizes (volume bad) ≡ 0
 
 pub examples : Examples
 examples =
     record {
-      empty = so sizes (volume []) _ (evaluated .empty);
-      three-writes = so sizes (volume written) _ (evaluated .three-writes);
-      two-files = so sizes (volume another) _ (evaluated .two-files);
-      hard-disk = so hard hardDisk _ (evaluated .hard-disk);
-      on-floppy = so floppy image _ (evaluated .on-floppy);
-      four-extents = so large largeDisk _ (evaluated .four-extents);
-      good-slots = evaluated .three-writes .accepted;
-      bad-slot = evaluated .bad-slot;
+      empty = so sizes (volume []) _ (on-V .empty);
+      three-writes = so sizes (volume written) _ (on-V .three-writes);
+      top-bit = so sizes (volume marked) _ (on-V .top-bit);
+      high-extent = so sizes (volume far) _ (on-V .high-extent);
+      two-files = so sizes (volume another) _ (on-V .two-files);
+      hard-disk = so hard hardDisk _ (on-others .hard-disk);
+      on-floppy = so floppy image _ (on-others .on-floppy);
+      four-extents = so large largeDisk _ (on-others .four-extents);
+      good-slots = on-V .three-writes .accepted;
+      good-large = on-others .four-extents .accepted;
+      bad-slot = on-V .bad-slot;
     }

@@ -6,12 +6,12 @@ use borrow.Author.Needs.{needs}
 use Rattle.lists.proofs.FoldLaws.{Folded, folded-start, folded-next, folded-end}
 use Rattle.disk_volume.specs.Name.{strip}
 use Rattle.disk_volume.proofs.NameLaws.{byte-strip}
-use Rattle.shelf_files.specs.CodeTree.{nextKey, keyOf}
+use Rattle.shelf_files.specs.CodeTree.{KEYS, FACTOR, nextKey, keyOf}
 use Rattle.shelf_files.proofs.key_of.Statement.{statement}
 use Rattle.shelf_files.proofs.key_of.Tie as tie
 
 abbrev Inv-loop : tie.InvT-loop
-Inv-loop user name key₀ p₀ key p = (p ≤ 11) × ((key < 1099511627776) × Folded (nextKey (strip name)) user 11 key p)
+Inv-loop user name key₀ p₀ key p = (p ≤ 11) × ((key < KEYS) × Folded (nextKey (strip name)) user 11 key p)
 
 abbrev μ-loop : tie.MeasureT-loop
 μ-loop user name key₀ p₀ key p = 11 - p
@@ -43,7 +43,7 @@ loop-less c = search needs
 loop-again : tie.Need-loop-again Inv-loop μ-loop
 loop-again c =
     let l = c .before .before .before .loop in
-    let next = ap (λ (x : ℕ). (13964171 * l .key + x) % 1099511627776) (c .wide2 .ensures .0 ∙ sym (byte-strip (now (c .before .before .before .before .before .before .args .name)) (l .p))) in
+    let next = ap (λ (x : ℕ). (FACTOR * l .key + x) % KEYS) (c .wide2 .ensures .0 ∙ sym (byte-strip (now (c .before .before .before .before .before .before .args .name)) (l .p))) in
     (search needs, (search needs, folded-next (l .inv .1 .1) (search needs) next))
 
 returns : tie.Need-returns Inv-loop μ-loop

@@ -1,0 +1,2 @@
+-- What one reading of standard input makes of the shelf.
+pub mod Reading
