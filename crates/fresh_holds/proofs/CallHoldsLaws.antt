@@ -18,10 +18,10 @@ use Rattle.call_answers.specs.declared.Answer.the-variants.{Ready, Refused}
 use Rattle.call_answers.specs.Answer.{succeeded}
 use Rattle.call_answers.specs.Refusal.{firstMet}
 use Rattle.filecalls.specs.LogIn.{logIn, logInTests}
+use Rattle.filecalls.proofs.ReadyLaws.{Accepted, accepted}
 use Rattle.fresh_volume.specs.Copy.{fresh}
 use Rattle.fresh_volume.proofs.Copied.{fresh-size}
 use Rattle.fresh_copy.specs.FreshCopy.{Copied, copied, freshCopy}
-use Rattle.fresh_copy.proofs.ReadyLaws.{Accepted, accepted}
 use Rattle.fresh_copy.proofs.CopyLaws.{first-refused, second-refused, copy-done}
 use Rattle.fresh_holds.specs.Holds.{Worn, HoldsOf, SpareOf}
 use Rattle.fresh_holds.specs.CallHolds.{leftSecond, CallHolds}
