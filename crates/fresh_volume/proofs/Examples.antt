@@ -1,5 +1,5 @@
--- A worn disk and the fresh one from it, evaluated: B 1,024, T 8, D 1, so 32 slots and blocks 1 to 7. Every byte of block b is b.
--- And wrong copies, each with what it breaks.
+-- A worn disk and the fresh one from it, evaluated: B 1,024, T 8, D 1, so 32 slots and blocks 1 to 7. Every byte of block b is b. One
+-- with D 2 and files of two users, and an eight-inch image. And wrong copies, each with what it breaks.
 use mathlib.Core.Path.{_≡_, refl}
 use mathlib.Core.Bool.{true, false}
 use mathlib.Core.List.{List, [], _∷_, _++_}
