@@ -66,7 +66,8 @@ const struct command COMMANDS[] = {
      new_image},
     {"fresh", "IMAGE NEW", "gfh", 2, 2, true,
      "Makes NEW, a copy of the disk in good order without what was erased; NEW must not be there yet.\n"
-     "Files go by their first slot, and a file's entries and blocks stand one behind the other. IMAGE stays as it is.",
+     "Files go by their first slot, and a file's entries and blocks stand one behind the other. Blocks that files hold\n"
+     "are copied whole, all others are blank; a floppy's system tracks go along. IMAGE stays as it is.",
      fresh_image},
     {"gencmd", "IN OUT", "Rh", 2, 2, false,
      "Makes a CMD file, which the machine can run, of a hex file; both are files of this machine.\n"

@@ -1,4 +1,3 @@
--- What an accepted log-in tells, the ways out of the copy, and the copy of a worn disk, evaluated.
-pub mod ReadyLaws
+-- The ways out of the copy, and the copy of a worn disk, evaluated.
 pub mod CopyLaws
 pub mod Examples

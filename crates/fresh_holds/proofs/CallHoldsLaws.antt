@@ -9,7 +9,7 @@ use lib.Dec.{eqb}
 use lib.ListN.{length}
 use borrow.Author.Tests.{eq-eqb, eqb-true, le-ltb}
 use Rattle.disk_geometry.specs.declared.Geometry.{Geometry}
-use Rattle.disk_geometry.specs.Geometry.{lawful, bytes, slots}
+use Rattle.disk_geometry.specs.Geometry.{floppy, lawful, bytes, slots}
 use Rattle.disk_rules.specs.GoodSlot.{lowestBad}
 use Rattle.disk_rules.specs.Named.{freeOf}
 use Rattle.call_answers.specs.declared.Refusal.the-variants.{VolumeLength}
@@ -18,14 +18,14 @@ use Rattle.call_answers.specs.declared.Answer.the-variants.{Ready, Refused}
 use Rattle.call_answers.specs.Answer.{succeeded}
 use Rattle.call_answers.specs.Refusal.{firstMet}
 use Rattle.filecalls.specs.LogIn.{logIn, logInTests}
+use Rattle.filecalls.proofs.ReadyLaws.{Accepted, accepted}
 use Rattle.fresh_volume.specs.Copy.{fresh}
 use Rattle.fresh_volume.proofs.Copied.{fresh-size}
 use Rattle.fresh_copy.specs.FreshCopy.{Copied, copied, freshCopy}
-use Rattle.fresh_copy.proofs.ReadyLaws.{Accepted, accepted}
 use Rattle.fresh_copy.proofs.CopyLaws.{first-refused, second-refused, copy-done}
-use Rattle.fresh_holds.specs.Holds.{Worn, HoldsOf}
+use Rattle.fresh_holds.specs.Holds.{Worn, HoldsOf, SpareOf}
 use Rattle.fresh_holds.specs.CallHolds.{leftSecond, CallHolds}
-use Rattle.fresh_holds.proofs.HoldsLaws.{fresh-holds}
+use Rattle.fresh_holds.proofs.HoldsLaws.{fresh-holds, spare-kept}
 
 -- a way to copy that gives the fresh disk on every second volume of the length
 alike : (copy : Geometry → List ℕ → List ℕ → List ℕ) (g : Geometry) (v w : List ℕ) → ((x : List ℕ) → length x ≡ bytes g → copy g v x ≡ fresh g v x)
@@ -35,6 +35,8 @@ alike copy g v w is size h =
       same-present = λ u name n low. rw (is w size) (h .same-present u name n low);
       same-bytes = λ u name n low there. rw (is w size) (h .same-bytes u name n low there);
       same-heads = λ k low. rw (is w size) (h .same-heads k low);
+      same-blocks = λ k p n low in-map used. rw (is w size) (h .same-blocks k p n low in-map used);
+      no-more = λ k low high. rw (is w size) (h .no-more k low high);
       passes = rw (is w size) (h .passes);
       as-many-free = rw (is w size) (h .as-many-free);
       again = rw (is w size) (h .again);
@@ -85,8 +87,11 @@ module _ (g : Geometry) (v w : List ℕ) where
     laid : (x : List ℕ) → length x ≡ bytes g → leftSecond g v x ≡ fresh g v x
     laid x size = sym (ap (λ (c : Copied). c .second) (is-fresh g v x (done (way g v w) .0) size))
 
+    worn : Worn g v w
+    worn = let d = done (way g v w) in record { law = d .0 .law; size = d .0 .size; ok = d .0 .good; second = d .1 }
+
     all : HoldsOf fresh g v w
-    all = let d = done (way g v w) in fresh-holds g v w (record { law = d .0 .law; size = d .0 .size; ok = d .0 .good; second = d .1 })
+    all = fresh-holds g v w worn
 
     holds : HoldsOf leftSecond g v w
     holds = alike leftSecond g v w laid (done (way g v w) .1) all
@@ -98,10 +103,19 @@ module _ (g : Geometry) (v w : List ℕ) where
         rw (laid w (d .1)) (log-in-ready g (fresh g v w) (d .0 .law) size (all .passes)) ∙ ap Ready (all .as-many-free)
         ∙ sym (d .0 .answer) ∙ ap (λ (c : Copied). c .answer) (is-fresh g v w (d .0) (d .1))
 
+-- an eight-inch image
+spare-left : (v w : List ℕ) → succeeded (freshCopy floppy v w .answer) ≡ true → SpareOf leftSecond v w
+spare-left v w ok =
+    let k = worn floppy v w ok in
+    let is = laid floppy v w ok w (k .second) in
+    let h = spare-kept v w k in
+    record { reserved = rw is (h .reserved); last-six = λ q low high. rw is (h .last-six q low high) }
+
 pub call-holds : CallHolds
 call-holds = record {
   first-stays = λ g v w. first g v w (way g v w);
   refused-stays = λ g v w. second g v w (way g v w);
   done-holds = holds;
+  done-spare = spare-left;
   done-says = says;
 }

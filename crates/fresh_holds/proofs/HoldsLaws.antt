@@ -12,10 +12,10 @@ use Rattle.disk_geometry.proofs.GeometryLaws.{start-floppy}
 use Rattle.fresh_order.specs.Order.{order}
 use Rattle.fresh_volume.specs.Copy.{copiedEntry, copiedRecord, fresh}
 use Rattle.fresh_volume.proofs.LaidLaws.{same-part, laid-spare}
-use Rattle.fresh_volume.proofs.Copied.{fresh-laid, fresh-size, free-and-moved}
+use Rattle.fresh_volume.proofs.Copied.{fresh-laid, fresh-size, slot-blank, free-and-moved}
 use Rattle.fresh_holds.specs.Holds.{Worn, FreshHolds, SpareKept}
 use Rattle.fresh_holds.proofs.Passes.{fresh-passes, fresh-head}
-use Rattle.fresh_holds.proofs.Records.{present-same, bytes-same}
+use Rattle.fresh_holds.proofs.Records.{block-same, present-same, bytes-same}
 use Rattle.fresh_holds.proofs.Again.{again-on, again-volume, again-all, moved-again}
 
 pub fresh-holds : FreshHolds
@@ -26,6 +26,8 @@ fresh-holds g v w k =
       same-present = λ u name n low. present-same g v (k .law) (k .size) (k .ok) w (k .second) u name low n;
       same-bytes = λ u name n low. bytes-same g v (k .law) (k .size) (k .ok) w (k .second) u name low n;
       same-heads = λ i low. fresh-head g v (k .law) (k .size) (k .ok) w (k .second) i low;
+      same-blocks = λ i p n low in-map used. block-same g v (k .law) (k .size) (k .ok) w (k .second) i p n low in-map used;
+      no-more = slot-blank g v (k .law) (k .size) (k .ok) w (k .second);
       passes = passes;
       as-many-free =
           omega (arith, free-and-moved g v (k .law) (k .size) (k .ok), free-and-moved g (fresh g v w) (k .law) size passes, moved-again g v (k .law) (k .size) (k .ok) w (k .second));

@@ -28,7 +28,7 @@ use Rattle.fresh_order.specs.CodeKeys.{keyOf, All, orderedTo}
 use Rattle.fresh_order.proofs.EnteredLaws.{behind-all}
 use Rattle.fresh_order.proofs.OrderLaws.{IsEntry, extent-low, key-before, key-rises, few-entries, ordered, next-empty, next-entry}
 use Rattle.fresh_volume.specs.Copy.{fresh}
-use Rattle.fresh_volume.proofs.Copied.{many, entry, is-entry, slot-blank}
+use Rattle.fresh_volume.proofs.Copied.{many, is-entry, slot-blank}
 use Rattle.fresh_holds.proofs.Passes.{fresh-empty, fresh-user, fresh-name, fresh-extent, fresh-passes}
 
 -- ---- the numbers below n

@@ -12,11 +12,11 @@ use Rattle.lists.specs.Bytes.{byte}
 use Rattle.lists.proofs.BoolLaws.{and-parts, and-right}
 use Rattle.lists.proofs.BoundedLaws.{low-no}
 use Rattle.disk_geometry.specs.declared.Geometry.{Geometry}
-use Rattle.disk_geometry.specs.Geometry.{lawful, bytes, slots, groupOf, placeOf}
+use Rattle.disk_geometry.specs.Geometry.{lawful, bytes, slots, places, groupOf, placeOf}
 use Rattle.disk_geometry.proofs.GeometryLaws.{place-lt}
 use Rattle.disk_volume.specs.declared.Wanted.the-variants.{Group}
 use Rattle.disk_volume.specs.Name.{nameOf, same}
-use Rattle.disk_volume.specs.Entry.{Entry, isEmpty, extent, countOf, ofFile, ofGroup}
+use Rattle.disk_volume.specs.Entry.{Entry, isEmpty, extent, blockIn, countOf, ofFile, ofGroup}
 use Rattle.disk_volume.specs.Directory.{slotAt, slotFits, findSlot}
 use Rattle.disk_volume.specs.Record.{recordSlot, recordBlock, counted, present, recordAt}
 use Rattle.disk_volume.proofs.NameLaws.{same-true}
@@ -48,6 +48,14 @@ of-group g u name k e h =
 -- an entry of a user 0..15 is in no empty slot
 of-used : (g : Geometry) (u : ℕ) (name : List ℕ) (k : ℕ) (e : Entry) → u ≤ 15 → ofGroup g u name k e ≡ true → isEmpty e ≡ false
 of-used g u name k e low h = ne-eqb (byte e 0) 229 (λ z. omega (arith, of-group g u name k e h .user))
+
+module _ (g : Geometry) (v : List ℕ) (law : lawful g ≡ true) (size : length v ≡ bytes g) (ok : lowestBad g v ≡ slots g)
+    (w : List ℕ) (w-size : length w ≡ bytes g) where
+  -- the block of place p of entry k, wherever it went, has the same records
+  pub block-same : (k p n : ℕ) → k < many g v law size ok → p < places g → isUsed g (entry g v law size ok k) p ≡ true
+      → recordAt g (fresh g v w) (blockIn g (slotAt g (fresh g v w) k) p) n ≡ recordAt g v (blockIn g (entry g v law size ok k) p) n
+  block-same k p n h q u =
+      ap (λ (z : ℕ). recordAt g (fresh g v w) z n) (fresh-number g v law size ok w w-size k p h q u) ∙ record-fresh g v law size ok w w-size k p n h q u
 
 module _ (g : Geometry) (v : List ℕ) (law : lawful g ≡ true) (size : length v ≡ bytes g) (ok : lowestBad g v ≡ slots g)
     (w : List ℕ) (w-size : length w ≡ bytes g) (u : ℕ) (name : List ℕ) (u15 : u ≤ 15) where
@@ -148,6 +156,5 @@ module _ (g : Geometry) (v : List ℕ) (law : lawful g ≡ true) (size : length 
       let used : isUsed g (e (b .at)) (placeOf g n) ≡ true =
       ap (λ (z : Entry). isUsed g z (placeOf g n)) (sym f) ∙ and-right (ltb (n % 128) (countOf (slotAt g v (findSlot g v u name (Group x))) (n / 128))) _ (p .1) in
       ap (λ (z : ℕ). recordAt g (fresh g v w) (recordBlock g (y z) n) n) (b .new)
-      ∙ ap (λ (z : ℕ). recordAt g (fresh g v w) z n) (fresh-number g v law size ok w w-size (b .at) (placeOf g n) (b .low) (place-lt g law n) used)
-      ∙ record-fresh g v law size ok w w-size (b .at) (placeOf g n) n (b .low) (place-lt g law n) used
+      ∙ block-same g v law size ok w w-size (b .at) (placeOf g n) n (b .low) (place-lt g law n) used
       ∙ ap (λ (z : Entry). recordAt g v (recordBlock g z n) n) (sym f)

@@ -5,10 +5,11 @@ use mathlib.Core.Bool.{true, false}
 use mathlib.Core.List.{List}
 use Prim.Native.Nat.{ℕ}
 use Rattle.disk_geometry.specs.declared.Geometry.{Geometry}
+use Rattle.disk_geometry.specs.Geometry.{floppy}
 use Rattle.call_answers.specs.Answer.{succeeded}
 use Rattle.filecalls.specs.LogIn.{logIn}
 use Rattle.fresh_copy.specs.FreshCopy.{freshCopy}
-use Rattle.fresh_holds.specs.Holds.{HoldsOf}
+use Rattle.fresh_holds.specs.Holds.{HoldsOf, SpareOf}
 
 -- the second volume as the call leaves it
 abbrev pub leftSecond : Geometry → List ℕ → List ℕ → List ℕ
@@ -18,5 +19,6 @@ pub record CallHolds : Type 0 where
   pub first-stays : (g : Geometry) (v w : List ℕ) → freshCopy g v w .first ≡ v
   pub refused-stays : (g : Geometry) (v w : List ℕ) → succeeded (freshCopy g v w .answer) ≡ false → leftSecond g v w ≡ w
   pub done-holds : (g : Geometry) (v w : List ℕ) → succeeded (freshCopy g v w .answer) ≡ true → HoldsOf leftSecond g v w
+  pub done-spare : (v w : List ℕ) → succeeded (freshCopy floppy v w .answer) ≡ true → SpareOf leftSecond v w
   pub done-says : (g : Geometry) (v w : List ℕ) → succeeded (freshCopy g v w .answer) ≡ true
       → logIn g (leftSecond g v w) .answer ≡ freshCopy g v w .answer

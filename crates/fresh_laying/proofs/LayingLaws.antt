@@ -23,7 +23,7 @@ use Rattle.fresh_order.proofs.OrderLaws.{fold-last, few-entries}
 use Rattle.fresh_volume.specs.Copy.{blocksBelow, numbered, entryAt, blocksBefore, firstNumber, copiedEntry, comesTo, copiedRecord, putBlock, fresh}
 use Rattle.fresh_volume.proofs.LaidLaws.{Laid, laid-same, laid-ext, laid-none, laid-slot, withSlot, laid-slots, laid-block, withBlocks, laid-blocks}
 use Rattle.fresh_volume.proofs.NumberedLaws.{count-used, count-unused, numbered-length, count-before}
-use Rattle.fresh_volume.proofs.Copied.{many, moved, entry, place, entry-length, block-inside, block-low, comes, used-not-zero, moved-fit, fresh-laid}
+use Rattle.fresh_volume.proofs.Copied.{many, moved, entry-length, block-inside, block-low, comes, used-not-zero, moved-fit, fresh-laid}
 use Rattle.fresh_laying.specs.CodeLaying.{movePlace, moveBlocks, layEntry, blankSlot, blankBlock, blankFrom, MapFits}
 
 module _ (g : Geometry) (v : List ℕ) (law : lawful g ≡ true) (size : length v ≡ bytes g) (ok : lowestBad g v ≡ slots g)

@@ -2,7 +2,7 @@
 ghost use mathlib.Core.Path.{_≡_};
 ghost use mathlib.Core.Bool.{true, cond};
 ghost use Prim.Native.Nat.{_+_, _-_, _≤_, _<_};
-ghost use lib.ListN.{length, replicate};
+ghost use lib.ListN.{length};
 ghost use Rattle.lists.specs.Bounded.{fold};
 ghost use Rattle.disk_geometry.specs.Geometry.{bytes, slots, blocks, places};
 ghost use Rattle.disk_volume.specs.Entry.{blockIn, withBlock};
@@ -13,7 +13,7 @@ ghost use Rattle.files.specs.Files.{isUsed};
 ghost use Rattle.fresh_order.specs.Order.{order};
 ghost use Rattle.fresh_sorting.specs.CodeKept.{InOrder, IsAccepted};
 ghost use Rattle.fresh_volume.specs.Copy.{blocksBelow, numberPlace, numbered, firstNumber, putBlock, fresh};
-ghost use Rattle.fresh_laying.specs.CodeLaying.{movePlace, moveBlocks, layEntry, blankSlot, blankBlock, MapFits};
+ghost use Rattle.fresh_laying.specs.CodeLaying.{moveBlocks, layEntry, blankSlot, blankBlock, MapFits};
 use disk_geometry::Geometry;
 use disk_volume::entry;
 use disk_volume::fields;

@@ -1,7 +1,7 @@
 // The order of a fresh disk's entries: files by their lowest slot, a file's entries by rising extent. Each entry has one number for
 // both, and the numbers are entered one by one among those that are in order.
 ghost use mathlib.Core.Path.{_≡_};
-ghost use Prim.Native.Nat.{_+_, _*_, _≤_, _<_};
+ghost use Prim.Native.Nat.{_+_, _<_};
 ghost use lib.ListN.{length, take};
 ghost use Rattle.disk_geometry.specs.Geometry.{slots};
 ghost use Rattle.disk_volume.specs.CodeLent.{VolumeAnd, IsEntry};

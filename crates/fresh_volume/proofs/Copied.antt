@@ -12,7 +12,7 @@ use borrow.Author.Tests.{lt-ltb, le-ltb, le-leb, eq-eqb, ne-eqb, eqb-true, eqb-f
 use Rattle.lists.specs.Bounded.{countFrom}
 use Rattle.lists.proofs.BoundedLaws.{any-true, any-intro, count-ext}
 use Rattle.disk_geometry.specs.declared.Geometry.{Geometry}
-use Rattle.disk_geometry.specs.Geometry.{lawful, bytes, records, slots, places, inside}
+use Rattle.disk_geometry.specs.Geometry.{lawful, bytes, slots, places, inside}
 use Rattle.disk_geometry.proofs.GeometryLaws.{bounds}
 use Rattle.disk_geometry.proofs.InsideLaws.{inside-is, is-inside}
 use Rattle.disk_volume.specs.Entry.{Entry, blockIn}

@@ -24,6 +24,20 @@ use Rattle.disk_volume.specs.Record.{recordAt, putRecord}
 use Rattle.disk_volume.proofs.DirectoryLaws.{slot-inside, record-inside, putSlot-length, slot-putSlot, slot-putSlot-other, record-putSlot, putRecord-length, record-putRecord, record-putRecord-other, record-putRecord-within, slot-putRecord}
 use Rattle.fresh_volume.specs.Copy.{putBlock}
 
+-- ---- f in n places from a on, and s in all others: in no place, and in one more
+from-none : {A : Type 0} (f s : ℕ → A) (a k : ℕ) → Dec (k < a) → cond (leb a k && ltb k (a + 0)) (f k) (s k) ≡ s k
+from-none f s a k (yes q) = rw (lt-leb a k q)
+from-none f s a k (no q) = rw (le-ltb k (a + 0) (omega arith), and-false)
+
+from-one : {A : Type 0} (f s : ℕ → A) (n a k : ℕ) → Dec (k ≡ a) → Dec (k < a)
+    → cond (leb (suc a) k && ltb k (suc a + n)) (f k) (cond (eqb k a) (f a) (s k)) ≡ cond (leb a k && ltb k (a + suc n)) (f k) (s k)
+from-one f s n a k (yes q) d =
+    rw (lt-leb (suc a) k (omega arith), eq-eqb k a q, le-leb a k (omega arith), lt-ltb k (a + suc n) (omega arith)) (ap f (sym q))
+from-one f s n a k (no q) (yes d) = rw (lt-leb (suc a) k (omega arith), lt-leb a k d, ne-eqb k a q)
+from-one f s n a k (no q) (no d) =
+    let z : suc a + n ≡ a + suc n = omega arith in
+    rw (le-leb (suc a) k (omega arith), le-leb a k (omega arith), z, ne-eqb k a q)
+
 -- ---- a byte and a piece of n bytes from a on
 abbrev Off : ℕ → ℕ → ℕ → Type 0
 Off a n z = (z + 1 ≤ a) ⊎ (a + n ≤ z)
@@ -218,25 +232,13 @@ module _ (g : Geometry) (good : lawful g ≡ true) where
       → Laid w (λ k. cond (leb a k && ltb k (a + n)) (f k) (s k)) r (fold (λ y k. putSlot g y k (f k)) x a n)
   unfolding fold
   laid-slots w r f size zero a s x h l =
-      laid-ext w s (λ k. cond (leb a k && ltb k (a + 0)) (f k) (s k)) r r x (λ k k<. sym (none k (decLt k a))) (λ b n low high q. refl) l
-    where
-      none : (k : ℕ) → Dec (k < a) → cond (leb a k && ltb k (a + 0)) (f k) (s k) ≡ s k
-      none k (yes q) = rw (lt-leb a k q)
-      none k (no q) = rw (le-ltb k (a + 0) (omega arith), and-false)
+      laid-ext w s (λ k. cond (leb a k && ltb k (a + 0)) (f k) (s k)) r r x (λ k k<. sym (from-none f s a k (decLt k a))) (λ b n low high q. refl) l
   laid-slots w r f size (suc n) a s x h l =
       let first = laid-slot w s r x l a (omega arith) (f a) (size a (omega arith)) in
       laid-ext w (λ k. cond (leb (suc a) k && ltb k (suc a + n)) (f k) (withSlot s a (f a) k)) (λ k. cond (leb a k && ltb k (a + suc n)) (f k) (s k)) r r
       (fold (λ y k. putSlot g y k (f k)) (putSlot g x a (f a)) (suc a) n)
-      (λ k k<. one k (ℕ-discrete k a) (decLt k a)) (λ b m low high q. refl)
+      (λ k k<. from-one f s n a k (ℕ-discrete k a) (decLt k a)) (λ b m low high q. refl)
       (laid-slots w r f size n (suc a) (withSlot s a (f a)) (putSlot g x a (f a)) (omega arith) first)
-    where
-      one : (k : ℕ) → Dec (k ≡ a) → Dec (k < a) → cond (leb (suc a) k && ltb k (suc a + n)) (f k) (cond (eqb k a) (f a) (s k)) ≡ cond (leb a k && ltb k (a + suc n)) (f k) (s k)
-      one k (yes q) d =
-          rw (lt-leb (suc a) k (omega arith), eq-eqb k a q, le-leb a k (omega arith), lt-ltb k (a + suc n) (omega arith)) (ap f (sym q))
-      one k (no q) (yes d) = rw (lt-leb (suc a) k (omega arith), lt-leb a k d, ne-eqb k a q)
-      one k (no q) (no d) =
-          let z : suc a + n ≡ a + suc n = omega arith in
-          rw (le-leb (suc a) k (omega arith), le-leb a k (omega arith), z, ne-eqb k a q)
 
   -- ---- records laid into block b
   abbrev pub withBlocks : (ℕ → ℕ → List ℕ) → ℕ → (ℕ → List ℕ) → ℕ → ℕ → List ℕ
@@ -308,22 +310,10 @@ module _ (g : Geometry) (good : lawful g ≡ true) where
       → Laid w s (λ b m. cond (leb a b && ltb b (a + n)) (f b m) (r b m)) (fold (λ y b. putBlock g y b (f b)) x a n)
   unfolding fold
   laid-blocks w s f size zero a r x low h l =
-      laid-ext w s s r (λ b m. cond (leb a b && ltb b (a + 0)) (f b m) (r b m)) x (λ k k<. refl) (λ b m b-low b-high m<. sym (none b m (decLt b a))) l
-    where
-      none : (b m : ℕ) → Dec (b < a) → cond (leb a b && ltb b (a + 0)) (f b m) (r b m) ≡ r b m
-      none b m (yes q) = rw (lt-leb a b q)
-      none b m (no q) = rw (le-ltb b (a + 0) (omega arith), and-false)
+      laid-ext w s s r (λ b m. cond (leb a b && ltb b (a + 0)) (f b m) (r b m)) x (λ k k<. refl) (λ b m b-low b-high m<. sym (from-none (λ c. f c m) (λ c. r c m) a b (decLt b a))) l
   laid-blocks w s f size (suc n) a r x low h l =
       let first = laid-block w s r (f a) a low (omega arith) (λ m m<. size a m low (omega arith) m<) x l in
       laid-ext w s s (λ b m. cond (leb (suc a) b && ltb b (suc a + n)) (f b m) (withBlocks r a (f a) b m)) (λ b m. cond (leb a b && ltb b (a + suc n)) (f b m) (r b m))
       (fold (λ y b. putBlock g y b (f b)) (putBlock g x a (f a)) (suc a) n) (λ k k<. refl)
-      (λ b m b-low b-high m<. one b m (ℕ-discrete b a) (decLt b a))
+      (λ b m b-low b-high m<. from-one (λ c. f c m) (λ c. r c m) n a b (ℕ-discrete b a) (decLt b a))
       (laid-blocks w s f size n (suc a) (withBlocks r a (f a)) (putBlock g x a (f a)) (omega arith) (omega arith) first)
-    where
-      one : (b m : ℕ) → Dec (b ≡ a) → Dec (b < a) → cond (leb (suc a) b && ltb b (suc a + n)) (f b m) (cond (eqb b a) (f a m) (r b m)) ≡ cond (leb a b && ltb b (a + suc n)) (f b m) (r b m)
-      one b m (yes q) d =
-          rw (lt-leb (suc a) b (omega arith), eq-eqb b a q, le-leb a b (omega arith), lt-ltb b (a + suc n) (omega arith)) (ap (λ (y : ℕ). f y m) (sym q))
-      one b m (no q) (yes d) = rw (lt-leb (suc a) b (omega arith), lt-leb a b d, ne-eqb b a q)
-      one b m (no q) (no d) =
-          let z : suc a + n ≡ a + suc n = omega arith in
-          rw (le-leb (suc a) b (omega arith), le-leb a b (omega arith), z, ne-eqb b a q)

@@ -1,6 +1,6 @@
 -- The answers of a copy at the seam as one number, evaluated on the disks of `fresh_copy/proofs/Examples`: the free blocks, or the bad slot,
 -- from 65,536 on.
-use mathlib.Core.Path.{_≡_, refl}
+use mathlib.Core.Path.{_≡_}
 use mathlib.Core.List.{[]}
 use lib.ListN.{take}
 use Rattle.fresh_volume.proofs.Examples.{G, worn, good, second}

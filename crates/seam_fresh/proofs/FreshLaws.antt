@@ -1,5 +1,5 @@
 -- The answer of a copy fits, and what the copy leaves is what is said of it at the seam.
-use mathlib.Core.Path.{_≡_, sym, ap, refl}
+use mathlib.Core.Path.{_≡_, ap}
 use mathlib.Core.Bool.{Bool, true, false, not, cond}
 use mathlib.Core.List.{List}
 use Prim.Native.Nat.{ℕ, _<_}

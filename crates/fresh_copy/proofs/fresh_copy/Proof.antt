@@ -11,8 +11,8 @@ use Rattle.disk_geometry.specs.Geometry.{bytes}
 use Rattle.call_answers.specs.Answer.{succeeded}
 use Rattle.filecalls.specs.LogIn.{logIn}
 use Rattle.filecalls.specs.declared.Reply.{Reply}
+use Rattle.filecalls.proofs.ReadyLaws.{Accepted, accepted}
 use Rattle.fresh_copy.proofs.CopyLaws.{first-refused, second-refused, copy-done}
-use Rattle.fresh_copy.proofs.ReadyLaws.{Accepted, accepted}
 use Rattle.fresh_copy.proofs.fresh_copy.Statement.{statement}
 use Rattle.fresh_copy.proofs.fresh_copy.Tie as tie
 

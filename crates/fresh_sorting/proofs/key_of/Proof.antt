@@ -1,8 +1,11 @@
 -- Both parts of the number are what the definition has, and it is small: a directory has at most 2,048 slots.
+use mathlib.Core.Path.{ap₂}
+use Prim.Native.Nat.{ℕ, _+_, _*_}
 use native.Mathlib.Omega.{arith}
 use Rattle.lists.specs.Bytes.{part}
 use Rattle.disk_geometry.proofs.GeometryLaws.{bounds}
 use Rattle.disk_volume.specs.Name.{nameAt}
+use Rattle.fresh_order.specs.CodeKeys.{fileExtents, mostSlots}
 use Rattle.fresh_sorting.specs.CodeKept.{keyIn}
 use borrow.Author.Needs.{needs}
 use Rattle.fresh_sorting.proofs.key_of.Statement.{statement}
@@ -40,7 +43,9 @@ add-result-2 c = let s = c .before .before .before .before .before .before in om
 
 returns : tie.Need-returns
 unfolding keyIn nameAt part
-returns c = rw (c .before .find .ensures .0, c .extent-of .ensures .0)
+returns c =
+    let s = c .before .before .before .before .before .before in
+    ap₂ (λ (file x : ℕ). (file * fileExtents + x) * mostSlots + s .args .i) (c .before .find .ensures .0) (c .extent-of .ensures .0)
 
 pub key-of-spec : {M : Type 1} → statement M
 key-of-spec =
