@@ -11,6 +11,13 @@ use disk_held::WORDS;
 use filecalls::Drive;
 use seam_words::wide;
 
+// One in the high 16 bits of an answer of 32; one in the next 16 bits of an answer of 64, and one in its high 32.
+const VALUE: u32 = 65536;
+
+const HOUSE: u64 = 65536;
+
+const HIGH: u64 = 4294967296;
+
 // From where on a place in a list has more than 32 bits.
 const PLACES: usize = 4294967296;
 
@@ -42,7 +49,7 @@ fn halves(low: u8, high: usize) -> u32
 {
     let number = wide(low);
     let value = high as u32;
-    number + 65536 * value
+    number + VALUE * value
 }
 
 // Replaces a siglum by another in one chapter of a collation file. A present record is rewritten in its place, so the drive stays as
@@ -78,7 +85,7 @@ fn high(i: usize) -> u64
     requires { ⌜ i * lineBytes + nameAt < 4294967296 ⌝ }
     ensures { λ r. ⌜ r ≡ 4294967296 * (i * lineBytes + nameAt) ⌝ }
 {
-    4294967296 * ((i * LINE_BYTES + NAME_AT) as u64)
+    HIGH * ((i * LINE_BYTES + NAME_AT) as u64)
 }
 
 // Where a siglum is explained as one number: the answer's number, which list, and where the name begins.
@@ -88,7 +95,7 @@ fn told(place: Where) -> u64
 {
     match place {
         Where::Own(i) => high(i),
-        Where::House(j) => 65536 + high(j),
+        Where::House(j) => HOUSE + high(j),
         Where::Neither => desk_manuscripts::NEITHER as u64,
         Where::Lists => desk_manuscripts::LISTS as u64,
     }
