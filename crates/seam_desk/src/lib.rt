@@ -3,7 +3,7 @@ ghost use mathlib.Core.Path.{_≡_};
 ghost use Prim.Native.Nat.{_+_, _*_, _<_};
 ghost use Rattle.drive_bytes.specs.Layout.{decoded};
 ghost use Rattle.desk_manuscripts.specs.Manuscript.{lineBytes, nameAt};
-ghost use Rattle.seam_desk.specs.Sigla.{replaced, replaceAtSeam, startOf, tooLong, sealedWhere, manuscriptAtSeam};
+ghost use Rattle.seam_desk.specs.Sigla.{replaced, replaceAtSeam, startOf, inHigh, tooLong, sealedWhere, manuscriptAtSeam};
 use desk_manuscripts::LINE_BYTES;
 use desk_manuscripts::NAME_AT;
 use desk_manuscripts::Where;
@@ -82,15 +82,15 @@ fn is_too_long(list: &[u8]) -> bool
 
 // Where the name begins in line i, in the high 32 bits.
 fn high(i: usize) -> u64
-    requires { ⌜ i * lineBytes + nameAt < 4294967296 ⌝ }
-    ensures { λ r. ⌜ r ≡ 4294967296 * (i * lineBytes + nameAt) ⌝ }
+    requires { ⌜ i * lineBytes + nameAt < inHigh ⌝ }
+    ensures { λ r. ⌜ r ≡ inHigh * (i * lineBytes + nameAt) ⌝ }
 {
     HIGH * ((i * LINE_BYTES + NAME_AT) as u64)
 }
 
 // Where a siglum is explained as one number: the answer's number, which list, and where the name begins.
 fn told(place: Where) -> u64
-    requires { ⌜ startOf place < 4294967296 ⌝ }
+    requires { ⌜ startOf place < inHigh ⌝ }
     ensures { λ r. ⌜ r ≡ sealedWhere place ⌝ }
 {
     match place {
