@@ -16,7 +16,7 @@ const VALUE: u32 = 65536;
 
 const HOUSE: u64 = 65536;
 
-const HIGH: u64 = 4294967296;
+const START: u64 = 4294967296;
 
 // From where on a place in a list has more than 32 bits.
 const PLACES: usize = 4294967296;
@@ -85,7 +85,7 @@ fn high(i: usize) -> u64
     requires { ⌜ i * lineBytes + nameAt < inHigh ⌝ }
     ensures { λ r. ⌜ r ≡ inHigh * (i * lineBytes + nameAt) ⌝ }
 {
-    HIGH * ((i * LINE_BYTES + NAME_AT) as u64)
+    START * ((i * LINE_BYTES + NAME_AT) as u64)
 }
 
 // Where a siglum is explained as one number: the answer's number, which list, and where the name begins.
