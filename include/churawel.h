@@ -236,7 +236,7 @@ enum {
  * chapter, first record, count and zero, 16 bits each, low byte first; used ones first, their bodies from record 1 on without gaps.
  * Done: 0, with the number of matching records as the value; bytes 0 and 1 of these are the new siglum, and no other byte is
  * changed. Refused, nothing is: 32, 33, 34, 42, 39, 37, 3, 38, then 4, 1 and 41 as of a random read of record 0, then 50. The drive stays
- * as it is. About 66 KiB of stack are used.
+ * as it is. Less than 80 KiB of stack are used.
  */
 uint32_t churawel_replace_siglum(
     const uint8_t *drive, size_t drive_bytes,

@@ -127,7 +127,7 @@ static const char *further_of(const struct disk *disk, uint32_t number, char *fu
     struct listed file;
     uint32_t slot = 0;
     char shown[SHOWN_MOST];
-    bool missing = number == CHURAWEL_REFUSED_NO_MATCH;
+    bool missing = number == CHURAWEL_REFUSED_NO_MATCH || number == CHURAWEL_REFUSED_NO_FILE;
     bool one_of_several = number == CHURAWEL_REFUSED_READ_ONLY && is_pattern(&disk->aimed);
     *further = '\0';
     while (*further == '\0' && (missing || one_of_several) && next_file(disk, &slot, &file)) {
@@ -140,9 +140,14 @@ static const char *further_of(const struct disk *disk, uint32_t number, char *fu
     return further;
 }
 
-void accept_answer(const struct disk *disk, uint8_t function, uint32_t answer, const char *about)
+void refuse_aimed(const struct disk *disk, uint32_t number, const char *about)
 {
     char further[FURTHER_MOST];
+    refuse_by(about, number, further_of(disk, number, further));
+}
+
+void accept_answer(const struct disk *disk, uint8_t function, uint32_t answer, const char *about)
+{
     uint32_t number = CHURAWEL_NUMBER(answer);
     if (churawel_succeeded(function, answer))
         return;
@@ -151,7 +156,7 @@ void accept_answer(const struct disk *disk, uint8_t function, uint32_t answer, c
         refuse("%s: %s (%u)", about, words_of(CHURAWEL_REFUSED_NO_SLOT), number);
     if (function == CHURAWEL_FN_MAKE && number == CHURAWEL_REFUSED_EXISTS)
         refuse_by(about, number, "; --replace replaces it");
-    refuse_by(about, number, further_of(disk, number, further));
+    refuse_aimed(disk, number, about);
 }
 
 void must(struct disk *disk, uint8_t function, const char *about)

@@ -17,7 +17,7 @@ const struct command COMMANDS[] = {
      "Says which manuscript a siglum means, by the edition's own list or, if that lacks it, by the house list.\n"
      "A list is a file of this machine, or IMAGE:FILE on a disk. Its lines have 32 bytes, two of siglum and thirty of name; the\n"
      "first that has the siglum counts. A siglum of one character has a blank behind it; one that can't be typed is 0x and its two\n"
-     "bytes in hex, as in 0xFF01.",
+     "bytes in hex, as in 0xFF01. Bytes of the name that can't be shown become full stops.",
      who},
     {"replace", "IMAGE FILE CHAPTER OLD NEW", "gfh", 5, 5, true,
      "Replaces one siglum by another in one chapter of a collation file, and says how many records had it.\n"

@@ -220,7 +220,7 @@ void replace_siglum(const struct options *options, char **operands, int count)
     if (CHURAWEL_NUMBER(answer) == CHURAWEL_DESK_CONTENTS)
         refuse("%s: %s (%u)", operands[1], why_contents(disk, chapter), CHURAWEL_DESK_CONTENTS);
     if (CHURAWEL_NUMBER(answer) != 0)
-        refuse_by(operands[1], CHURAWEL_NUMBER(answer), "");
+        refuse_aimed(disk, CHURAWEL_NUMBER(answer), operands[1]);
     if (CHURAWEL_VALUE(answer) > 0)
         store_disk(disk);
     printf("%s: records with %s in chapter %u: %u\n", shown_file(name.user, disk->aimed.bytes, shown), operands[3], chapter,

@@ -153,6 +153,8 @@ void aim(struct disk *disk, const struct name *name);
 // Aims at files that are there, as they are typed or in capitals; at the latter where neither are there.
 void aim_at(struct disk *disk, struct name typed);
 uint32_t call(struct disk *disk, uint8_t function);
+// Refuses by a number that was answered of what is aimed at, with what may help.
+_Noreturn void refuse_aimed(const struct disk *disk, uint32_t number, const char *about);
 // Takes an answer that is no refusal; a refusal is said in words.
 void accept_answer(const struct disk *disk, uint8_t function, uint32_t answer, const char *about);
 // A call that has to succeed.

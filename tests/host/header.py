@@ -171,7 +171,8 @@ def memory_refusals_in(source):
 @cache
 def halves_in(source):
     """the mask of the number and the shifts of value and length, by what these are multiplied with"""
-    (value,) = set(map(int, re.findall(r"number \+ (\d+) \* value", source)))
+    named = re.findall(r"(?s)const VALUE: u32 = (\d+);.*number \+ VALUE \* value", source)
+    (value,) = set(map(int, re.findall(r"number \+ (\d+) \* value", source) + named))
     (length,) = map(int, re.findall(r"(?s)const HIGH: u64 = (\d+);.*number \+ HIGH \* \(length as u64\)", source))
     shifts = [f"{name}: >> {step.bit_length() - 1}" for name, step in (("VALUE", value), ("LENGTH", length))]
     return [f"NUMBER: & {value - 1}"] + shifts
@@ -180,8 +181,8 @@ def halves_in(source):
 @cache
 def told_in(source):
     """the number, which list, and where the name begins, by what these are multiplied with"""
-    (lists,) = map(int, re.findall(r"Where::House\(\w+\) => (\d+) \+ high", source))
-    (place,) = map(int, re.findall(r"(\d+) \* \(\(i \* LINE_BYTES", source))
+    (lists,) = map(int, re.findall(r"(?s)const HOUSE: u64 = (\d+);.*Where::House\(\w+\) => HOUSE \+ high", source))
+    (place,) = map(int, re.findall(r"(?s)const START: u64 = (\d+);.*START \* \(\(i \* LINE_BYTES", source))
     width = place // lists
     return [f"TOLD: >> 0 & {lists - 1}", f"LIST: >> {lists.bit_length() - 1} & {width - 1}", f"NAME_AT: >> {place.bit_length() - 1}"]
 

@@ -21,6 +21,12 @@ static const struct entry files[] = {{.slot = 0, .name = SIGLA, .rc = 10, .map =
                                      {.slot = 2, .name = SIGLA, .ex = 1, .rc = 1, .map = {4}},
                                      {.slot = 3, .user = 1, .name = SIGLA, .rc = 8, .map = {6}}};
 
+// On V, SIGLA alone, with records 0 to 299 in blocks 2 to 39.
+static const struct entry long_file[] = {
+    {.slot = 0, .name = SIGLA, .rc = 128, .map = {2, 3, 4, 5, 6, 7, 8, 9, 10, 11, 12, 13, 14, 15, 16, 17}},
+    {.slot = 1, .name = SIGLA, .ex = 1, .rc = 128, .map = {18, 19, 20, 21, 22, 23, 24, 25, 26, 27, 28, 29, 30, 31, 32, 33}},
+    {.slot = 5, .name = SIGLA, .ex = 2, .rc = 44, .map = {34, 35, 36, 37, 38, 39}}};
+
 static uint8_t *record_at(uint8_t *volume, unsigned n)
 {
     return volume + (2 * 8 + n) * RECORD;
@@ -35,13 +41,18 @@ static void lay_place(unsigned i, uint16_t chapter, uint16_t first, uint16_t cou
     }
 }
 
+static void no_places(void)
+{
+    for (unsigned i = 0; i < PLACES; i++)
+        lay_place(i, 0, 0, 0, 0);
+}
+
 // Chapter 5 is records 1 to 4, chapter 300 records 5 to 9. "Ab" stands in records 2, 4 and 7, and "Ac" in 3; the record of user 1 has
 // it too.
 static void collation(void)
 {
     logged_in("log-in of a collation file: 6 free", G, 6, files, COUNT(files));
-    for (unsigned i = 0; i < PLACES; i++)
-        lay_place(i, 0, 0, 0, 0);
+    no_places();
     lay_place(0, 5, 1, 4, 0);
     lay_place(1, 300, 5, 5, 0);
     for (unsigned n = 1; n < 10; n++)
@@ -89,6 +100,39 @@ static void in_one_chapter(void)
     now.fcb[0] = want.fcb[0] = 1;
     memcpy(record_at(want.volume, 7), "Ab", 2);
     replaces("dr 1 is taken too", 300, "\xFF\x01", "Ab", 1u << 16);
+}
+
+// Chapter 5 is records 1 to 257, chapter 6 records 258 to 299. "Ab" stands at the ends of entries and chapters.
+static const unsigned with_ab[] = {127, 128, 255, 256, 257, 258, 299};
+enum { AB_IN_5 = 5 };
+
+static void lay_siglum(uint8_t *volume, size_t from, size_t to, const char *siglum)
+{
+    for (size_t k = from; k < to; k++)
+        memcpy(record_at(volume, with_ab[k]), siglum, 2);
+}
+
+static void over_entries(void)
+{
+    logged_in("log-in of a collation file in three entries: 1 free", V, 1, long_file, COUNT(long_file));
+    no_places();
+    lay_place(0, 5, 1, 257, 0);
+    lay_place(1, 6, 258, 42, 0);
+    for (unsigned n = 1; n < 300; n++)
+        memcpy(record_at(now.volume, n), "Xy", 2);
+    lay_siglum(now.volume, 0, COUNT(with_ab), "Ab");
+    block_for(SIGLA);
+    as_it_stands();
+    lay_siglum(want.volume, 0, AB_IN_5, "Zz");
+    replaces("257 records in three entries: five match, and no other byte is changed", 5, "Ab", "Zz", 5u << 16);
+    lay_siglum(want.volume, AB_IN_5, COUNT(with_ab), "Yy");
+    replaces("a chapter from record 258 on: two match", 6, "Ab", "Yy", 2u << 16);
+    lay_siglum(want.volume, 0, AB_IN_5, "Ab");
+    replaces("back again in three entries: the old bytes", 5, "Zz", "Ab", 5u << 16);
+    lay_place(1, 6, 2, 42, 0);
+    refused("a first record that lacks its high byte: 50", 50);
+    lay_place(1, 6, 258, 43, 0);
+    refused("record 300, behind the last: 50", 50);
 }
 
 static void contents(void)
@@ -208,6 +252,7 @@ static void manuscripts(void)
 void sigla_by_column(void)
 {
     in_one_chapter();
+    over_entries();
     contents();
     files_own();
     manuscripts();

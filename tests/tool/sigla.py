@@ -79,6 +79,8 @@ def in_hex(desk):
     desk.done("a siglum in hex", "who", "0xFF01", "odd.lst", out=b"0xFF01: Farfensis (own list, odd.lst)\n")
     desk.done("its bytes the other way round", "who", "0x01ff", "odd.lst", out=b"0x01ff: other (own list, odd.lst)\n")
     desk.done("a letter and its blank in hex", "who", "0x4120", "odd.lst", out=b"0x4120: Ambrosianus (own list, odd.lst)\n")
+    desk.write("signs.lst", b"S " + b"\x84rger \x1b[1m \x7f~".ljust(30, b"\0"))
+    desk.done("a name with bytes that can't be shown", "who", "S", "signs.lst", out=b"S: .rger .[1m .~ (own list, signs.lst)\n")
     desk.refused("0x is a siglum of two characters", "who", "0x", "odd.lst", said="0x: no list has this siglum (51)\n")
     for typed in ("0xFF0", "0xFF011", "0xFG01", "0XFF01", "0xFF01 ", "x0FF01"):
         desk.wrong_use(f"no siglum in hex: '{typed}'", "who", typed, "odd.lst", said=f"or 0x and four hex digits, and not '{typed}'")
@@ -111,6 +113,10 @@ def replacing(desk):
     said = "churawel: 3:sigla.lst: its contents, record 0, are not in order (50)\n"
     desk.refused("replace in a file that is no collation", "replace", "E.IMG", "3:sigla.lst", "3", "A", "B", said=said)
     desk.refused("replace in a file that is not there", "replace", "E.IMG", "none.txt", "3", "A", "B", said="none.txt: the user has no such file (3)\n")
+    said = "churawel: 3:collatio.txt: the user has no such file (3); another user has one: COLLATIO.TXT\n"
+    desk.refused("replace in a file of another user", "replace", "E.IMG", "3:collatio.txt", "3", "A", "B", said=said)
+    said = "churawel: sigla.lst: the user has no such file (3); another user has one: 3:SIGLA.LST\n"
+    desk.refused("replace in another user's file", "replace", "E.IMG", "sigla.lst", "3", "A", "B", said=said)
     desk.done("attributes before a replacement", "attributes", "E.IMG", "collatio.txt", "+r")
     desk.refused("replace in a read-only file", "replace", "E.IMG", "collatio.txt", "3", "Am", "A", said="collatio.txt: the file is read-only (38)\n")
     for chapter in ("0", "65536", "-1", "x", ""):

@@ -72,7 +72,7 @@ before = readings (reading 65 66 1) (reading 65 66 3)
 abbrev pub firstDone : List ℕ
 firstDone = readings (reading 80 81 1) (reading 65 66 3)
 
-abbrev bothDone : List ℕ
+abbrev pub bothDone : List ℕ
 bothDone = readings (reading 80 81 1) (reading 80 81 3)
 
 abbrev pub entry : List ℕ

@@ -224,6 +224,8 @@ module _ (d : Drive) (v f : List ℕ) (chapter old new : ℕ) (small : Bytes v) 
   pub replaces : Replaces d v f chapter old new
   unfolding replacement replacementStores carriedOut planStores
   replaces = record {
+    goes-when = λ first count e. ap (λ (q : Plan). carriedOut d v f old new q .answer) e;
+    refused-when = λ why e. ap (λ (q : Plan). carriedOut d v f old new q .answer) e;
     refused-keeps =
         by-plan (λ q. (why : Why) → carriedOut d v f old new q .answer ≡ Refused why → carriedOut d v f old new q .volume ≡ v) d v f chapter
         (λ no why e. refl) (λ first k g why e. let z : _≡_ {A = ℕ} 0 1 = cc in absurd (omega arith));

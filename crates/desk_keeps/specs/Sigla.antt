@@ -1,6 +1,8 @@
 -- What one replacement leaves: "replacing one siglum by another in one chapter alters bytes 0 and 1 of matching records and no
 -- other byte of any file" .. "Everything is tested before anything is changed; the answer counts the matching records."
---   Refused, it leaves every byte (`refused-keeps`);
+--   What is tested (`desk/specs/Replace`, `plan`) says which of the two it is: where nothing is met it is done, with the number of the
+--   body's matching records as its answer (`goes-when`), else it is refused for what is met first (`refused-when`);
+--   refused, it leaves every byte (`refused-keeps`);
 --   else it alters bytes 0 and 1 of exactly the matching records of the chapter, to the new siglum, and no other byte of any
 --   record of any file; the directory keeps every byte, and a volume that passed inspection passes (`altered`); the answer is
 --   the number of matching records (`counts`);
@@ -33,9 +35,10 @@ use Rattle.filecalls.specs.declared.Drive.{Drive}
 use Rattle.filecalls.specs.Outcome.{Outcome}
 use Rattle.desk_contents.specs.Contents.{firstAt, countAt, chapterPlace}
 use Rattle.desk.specs.declared.Why.{Why}
+use Rattle.desk.specs.declared.Plan.the-variants.{No, Go}
 use Rattle.desk.specs.declared.Answer.the-variants.{Matching, Refused}
 use Rattle.desk.specs.Records.{recordShown, bears, withSiglum, written}
-use Rattle.desk.specs.Replace.{Desk, rewriteAll, replacement}
+use Rattle.desk.specs.Replace.{Desk, plan, rewriteAll, replacement}
 use Rattle.desk.specs.Stores.{replacementStores}
 
 -- ---- what the statement is written with
@@ -96,6 +99,9 @@ Storing = Drive → List ℕ → List ℕ → ℕ → ℕ → ℕ → List Store
 
 -- what is said of a desk
 pub record ReplacesBy (way : Way) (stores : Storing) (d : Drive) (v fcb : List ℕ) (chapter old new : ℕ) : Type 0 where
+  pub goes-when : (first count : ℕ) → plan d v fcb chapter ≡ Go first count
+      → way d v fcb chapter old new .answer ≡ Matching (countFrom (bears d v fcb old) first count)
+  pub refused-when : (why : Why) → plan d v fcb chapter ≡ No why → way d v fcb chapter old new .answer ≡ Refused why
   pub refused-keeps : (why : Why) → way d v fcb chapter old new .answer ≡ Refused why → way d v fcb chapter old new .volume ≡ v
   pub altered : (c : ℕ) → way d v fcb chapter old new .answer ≡ Matching c
       → Altered d v fcb (Matches d v fcb chapter old) new (way d v fcb chapter old new .volume)

@@ -8,15 +8,32 @@ use Rattle.lists.specs.Bytes.{byte}
 use Rattle.numbers.specs.Numbers.{Bytes}
 use Rattle.disk_volume.specs.Name.{nameOf}
 use Rattle.disk_stores.specs.Stores.{cut}
-use Rattle.desk.specs.declared.Why.the-variants.{Contents}
+use Rattle.call_answers.specs.declared.Refusal.the-variants.{Closed}
+use Rattle.filecalls.specs.State.{closed}
+use Rattle.desk.specs.declared.Why.the-variants.{Call, Contents}
+use Rattle.desk.specs.Answer.{numberOf}
 use Rattle.desk_keeps.specs.Sigla.{Matches, CutShort, Way, Storing, OnAnyVolumeBy}
 use Rattle.desk_keeps.proofs.Examples.{computes, AB, PQ, geometry, drive, fcb, before, volume, unreadable, joint, doubled, passes}
 use Rattle.demands.proofs.WrongWaysFail.{bytes-below}
-use Rattle.desk_promises.specs.WrongDesks.{fromContents, everyChapter, changesFirst, countsListed, countInTurn, decidesInTurn, storesDown, highestFirst, DesksShutOut}
+use Rattle.desk_promises.specs.WrongDesks.{refusesAll, alwaysFifty, fromContents, everyChapter, changesFirst, countsListed, countInTurn, decidesInTurn, storesDown, highestFirst, DesksShutOut}
 
 volume-bytes : Bytes volume
 unfolding computes
 volume-bytes = bytes-below volume refl
+
+-- nothing stands against it: chapter 3 is records 1 and 2
+refuses-all : (stores : Storing) → OnAnyVolumeBy refusesAll stores → ⊥
+unfolding computes
+refuses-all stores h =
+    let z : _≡_ {A = ℕ} 50 0 = ap numberOf (h drive volume fcb 3 AB PQ volume-bytes (omega arith) .goes-when 1 2 refl) in
+    absurd (omega arith)
+
+-- a closed drive is 32
+always-fifty : (stores : Storing) → OnAnyVolumeBy alwaysFifty stores → ⊥
+unfolding computes
+always-fifty stores h =
+    let z : _≡_ {A = ℕ} 50 32 = ap numberOf (h closed volume fcb 3 AB PQ volume-bytes (omega arith) .refused-when (Call Closed) refl) in
+    absurd (omega arith)
 
 counts-listed : (stores : Storing) → OnAnyVolumeBy countsListed stores → ⊥
 unfolding computes
@@ -77,6 +94,8 @@ highest-first way h = go (h drive (joint before) fcb 3 AB PQ (bytes-below (joint
 
 pub desks-shut-out : DesksShutOut
 desks-shut-out = record {
+  refuses-all = refuses-all;
+  always-fifty = always-fifty;
   from-contents = from-contents;
   every-chapter = every-chapter;
   changes-first = changes-first;

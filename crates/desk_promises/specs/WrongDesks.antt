@@ -8,10 +8,11 @@ use Rattle.lists.specs.Bounded.{fold}
 use Rattle.disk_stores.specs.Stores.{Store}
 use Rattle.filecalls.specs.declared.Drive.{Drive}
 use Rattle.desk_contents.specs.Contents.{listed}
+use Rattle.desk.specs.declared.Why.the-variants.{Contents}
 use Rattle.desk.specs.declared.Plan.{Plan}
 use Rattle.desk.specs.declared.Plan.the-variants.{No, Go}
 use Rattle.desk.specs.declared.Answer.{Answer}
-use Rattle.desk.specs.declared.Answer.the-variants.{Matching}
+use Rattle.desk.specs.declared.Answer.the-variants.{Matching, Refused}
 use Rattle.desk.specs.Records.{readable, recordShown, bears, withSiglum, written}
 use Rattle.desk.specs.Replace.{Desk, plan, rewriteIf, rewriteAll, replacement}
 use Rattle.desk.specs.Stores.{storesIf}
@@ -28,6 +29,14 @@ abbrev leaving : Answer → Drive → List ℕ → Desk
 leaving answer d v = record { answer = answer; drive = d; volume = v }
 
 -- ---- the wrong desks
+-- it refuses everything (`goes-when`)
+abbrev pub refusesAll : Way
+refusesAll d v fcb chapter old new = leaving (Refused Contents) d v
+
+-- it answers 50 for every refusal (`refused-when`)
+abbrev pub alwaysFifty : Way
+alwaysFifty d v fcb chapter old new = byPlan (leaving (Refused Contents) d v) (λ first count. replacement d v fcb chapter old new) (plan d v fcb chapter)
+
 -- it rewrites the whole record, with the bytes of the contents (`altered`)
 abbrev pub fromContents : Way
 fromContents d v fcb chapter old new =
@@ -79,6 +88,8 @@ highestFirst d v fcb chapter old new = byPlan [] (λ first count. storesDown (be
 
 -- ---- the statements are false of them
 pub record DesksShutOut : Type 0 where
+  pub refuses-all : (stores : Storing) → OnAnyVolumeBy refusesAll stores → ⊥
+  pub always-fifty : (stores : Storing) → OnAnyVolumeBy alwaysFifty stores → ⊥
   pub from-contents : (stores : Storing) → OnAnyVolumeBy fromContents stores → ⊥
   pub every-chapter : (stores : Storing) → OnAnyVolumeBy everyChapter stores → ⊥
   pub changes-first : (stores : Storing) → OnAnyVolumeBy changesFirst stores → ⊥

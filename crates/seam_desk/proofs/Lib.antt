@@ -1,2 +1,3 @@
--- Laws of the edition desk at the seam.
+-- Laws of the edition desk at the seam, and examples.
+pub mod Examples
 pub mod SiglaLaws

@@ -18,7 +18,7 @@ use Rattle.desk.specs.declared.Reply.{Reply}
 use Rattle.desk.specs.Answer.{numberOf, valueOf}
 use Rattle.desk.specs.Replace.{Desk, left, replacement}
 use Rattle.desk.proofs.ReplaceLaws.{value-small}
-use Rattle.seam_desk.specs.Sigla.{Replaced, replaced, replaceAtSeam, startOf, sealedWhere, tooLong, manuscriptAtSeam}
+use Rattle.seam_desk.specs.Sigla.{Replaced, replaced, replaceAtSeam, startOf, inHigh, sealedWhere, tooLong, manuscriptAtSeam}
 
 -- ---- the state: its front and its held blocks, read apart
 pub state-is : (s : List ℕ) {t : Bool} {w : Front} {held : List ℕ} → t ≡ isDrive s → not t ≡ false → w ≡ frontOf (fields s) → held ≡ fields s .held
@@ -41,7 +41,7 @@ module _ (d : Drive) (v fcb : List ℕ) (chapter old new : ℕ) (reply : Reply) 
   replaced-is s ed en em er = rw (er, en, em, answer-is, ap (λ (x : Desk). x .volume) e, ed)
 
 -- ---- which manuscript a siglum means
-start-fits : (o h : ℕ) → o < 4294967296 → h < 4294967296 → (w : Where) → InLists o h w → startOf w < 4294967296
+start-fits : (o h : ℕ) → o < inHigh → h < inHigh → (w : Where) → InLists o h w → startOf w < inHigh
 start-fits o h x y (Own i) k = omega (arith, x, k)
 start-fits o h x y (House j) k = omega (arith, y, k)
 start-fits o h x y Neither k = omega arith
@@ -53,10 +53,10 @@ module _ (own house : List ℕ) {a b : Bool} (x : a ≡ tooLong own) (y : b ≡ 
   told-too-long siglum t e = rw (← x, ← y, t) e
 
   module _ (short : (a || b) ≡ false) where
-    pub told-fits : (w : Where) → InLists (length own) (length house) w → startOf w < 4294967296
+    pub told-fits : (w : Where) → InLists (length own) (length house) w → startOf w < inHigh
     told-fits w k =
         let s = or-parts a b short in
-        start-fits (length own) (length house) (leb-false 4294967296 (length own) (rw (← x) (s .0))) (leb-false 4294967296 (length house) (rw (← y) (s .1))) w k
+        start-fits (length own) (length house) (leb-false inHigh (length own) (rw (← x) (s .0))) (leb-false inHigh (length house) (rw (← y) (s .1))) w k
 
     pub told-where : (siglum : ℕ) {w : Where} {r : ℕ} → w ≡ whereOf siglum own house → r ≡ sealedWhere w → r ≡ manuscriptAtSeam siglum own house
     unfolding manuscriptAtSeam

@@ -41,12 +41,19 @@ startOf (House j) = j * lineBytes + nameAt
 startOf Neither = 0
 startOf Lists = 0
 
+-- one in "the next 16" bits, and one in "the high 32"
+abbrev pub inNext : ℕ
+inNext = 65536
+
+abbrev pub inHigh : ℕ
+inHigh = 4294967296
+
 abbrev pub sealedWhere : Where → ℕ
-sealedWhere w = whereNumber w + 65536 * listOf w + 4294967296 * startOf w
+sealedWhere w = whereNumber w + inNext * listOf w + inHigh * startOf w
 
 -- a place in a list has 32 bits, so that a list of 4 GiB or more counts as one of a wrong length
 abbrev pub tooLong : List ℕ → Bool
-tooLong list = leb 4294967296 (length list)
+tooLong list = leb inHigh (length list)
 
 unfoldable pub manuscriptAtSeam : ℕ → List ℕ → List ℕ → ℕ
 manuscriptAtSeam siglum own house = sealedWhere (cond (tooLong own || tooLong house) Lists (whereOf siglum own house))

@@ -3,13 +3,20 @@ ghost use mathlib.Core.Path.{_≡_};
 ghost use Prim.Native.Nat.{_+_, _*_, _<_};
 ghost use Rattle.drive_bytes.specs.Layout.{decoded};
 ghost use Rattle.desk_manuscripts.specs.Manuscript.{lineBytes, nameAt};
-ghost use Rattle.seam_desk.specs.Sigla.{replaced, replaceAtSeam, startOf, tooLong, sealedWhere, manuscriptAtSeam};
+ghost use Rattle.seam_desk.specs.Sigla.{replaced, replaceAtSeam, startOf, inHigh, tooLong, sealedWhere, manuscriptAtSeam};
 use desk_manuscripts::LINE_BYTES;
 use desk_manuscripts::NAME_AT;
 use desk_manuscripts::Where;
 use disk_held::WORDS;
 use filecalls::Drive;
 use seam_words::wide;
+
+// One in the high 16 bits of an answer of 32; one in the next 16 bits of an answer of 64, and one in its high 32.
+const VALUE: u32 = 65536;
+
+const HOUSE: u64 = 65536;
+
+const START: u64 = 4294967296;
 
 // From where on a place in a list has more than 32 bits.
 const PLACES: usize = 4294967296;
@@ -42,7 +49,7 @@ fn halves(low: u8, high: usize) -> u32
 {
     let number = wide(low);
     let value = high as u32;
-    number + 65536 * value
+    number + VALUE * value
 }
 
 // Replaces a siglum by another in one chapter of a collation file. A present record is rewritten in its place, so the drive stays as
@@ -75,20 +82,20 @@ fn is_too_long(list: &[u8]) -> bool
 
 // Where the name begins in line i, in the high 32 bits.
 fn high(i: usize) -> u64
-    requires { ⌜ i * lineBytes + nameAt < 4294967296 ⌝ }
-    ensures { λ r. ⌜ r ≡ 4294967296 * (i * lineBytes + nameAt) ⌝ }
+    requires { ⌜ i * lineBytes + nameAt < inHigh ⌝ }
+    ensures { λ r. ⌜ r ≡ inHigh * (i * lineBytes + nameAt) ⌝ }
 {
-    4294967296 * ((i * LINE_BYTES + NAME_AT) as u64)
+    START * ((i * LINE_BYTES + NAME_AT) as u64)
 }
 
 // Where a siglum is explained as one number: the answer's number, which list, and where the name begins.
 fn told(place: Where) -> u64
-    requires { ⌜ startOf place < 4294967296 ⌝ }
+    requires { ⌜ startOf place < inHigh ⌝ }
     ensures { λ r. ⌜ r ≡ sealedWhere place ⌝ }
 {
     match place {
         Where::Own(i) => high(i),
-        Where::House(j) => 65536 + high(j),
+        Where::House(j) => HOUSE + high(j),
         Where::Neither => desk_manuscripts::NEITHER as u64,
         Where::Lists => desk_manuscripts::LISTS as u64,
     }

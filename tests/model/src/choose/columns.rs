@@ -25,10 +25,15 @@ const CHAPTERS: [u16; 6] = [0, 1, 2, 3, 300, 65535];
 
 const COLLATION: &[u8; 11] = b"COLLATIOTXT";
 
+/// One file of so many has a chapter of more records than an entry has, if the
+/// disk has room for it.
+const LONG_EVERY: u64 = 40;
+const LONG: u16 = 150;
+
 /// The chain of this seed and number.
 pub fn column(seed: u64, number: u64) -> Chain {
     let mut making = Making::new(Random::new(seed, OWN + number));
-    making.begin_file();
+    making.begin_file(number % LONG_EVERY == LONG_EVERY - 1);
     for _ in 0..making.r.between(2, 5) {
         making.replace();
     }
@@ -60,12 +65,13 @@ impl Making {
     }
 
     /// Places whose bodies follow from record 1, and how many records they list.
-    fn contents(&mut self) -> (Vec<u8>, u32) {
+    /// The first chapter is a long one, or as short as the others.
+    fn contents(&mut self, long: bool) -> (Vec<u8>, u32) {
         let mut numbers = CHAPTERS[1..].to_vec();
         self.r.shuffle(&mut numbers);
         let (mut record, mut next) = (Vec::new(), 1u32);
         for number in numbers.into_iter().take(self.r.between(0, 4)) {
-            let count = self.r.pick(&[1, 2, 3, 7, 20]);
+            let count = if long && next == 1 { LONG } else { self.r.pick(&[1, 2, 3, 7, 20]) };
             for part in [number, next as u16, count, 0] {
                 record.extend(part.to_le_bytes());
             }
@@ -76,12 +82,12 @@ impl Making {
     }
 
     /// Log-in, and the file; now and then it lacks a record, record 0 or its group.
-    fn begin_file(&mut self) {
+    fn begin_file(&mut self, long: bool) {
         self.log_in();
         let mut control = self.control();
         control[12] = 0;
         self.call(Call { function: MAKE, parameter: 0, control, buffer: Vec::new() });
-        let (contents, listed) = self.contents();
+        let (contents, listed) = self.contents(long);
         match self.r.below(12) {
             0 => return,
             1 => {
@@ -142,7 +148,7 @@ impl Making {
                 self.lay(offset, bytes);
             }
             4 => {
-                let (contents, _) = self.contents();
+                let (contents, _) = self.contents(false);
                 self.write(0, contents);
             }
             _ => self.alter_contents(),
