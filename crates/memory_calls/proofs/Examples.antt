@@ -10,7 +10,7 @@ use Rattle.memory_spans.specs.Span.{span, covers, overlap, liesIn, anyOf, allOf
 use Rattle.memory_spans.specs.Rules.{apart, lawful}
 use Rattle.memory_spans.specs.Room.{taken, freeIn, run, room, hasRoom}
 use Rattle.memory_room.specs.Starts.{lowestStart, longest}
-use Rattle.memory_room.specs.Candidates.{roomBelow}
+use Rattle.memory_room.specs.CodeCandidates.{roomBelow}
 use Rattle.memory_room.proofs.CandidateLaws.{lowerOf, lowest-by, longest-is}
 use Rattle.memory_regions.specs.Places.{padded}
 use Rattle.memory_regions.specs.Freeing.{edge, freeable, left, freed}
