@@ -206,7 +206,7 @@ def load_case(bench, rng):
     records = [header] + [rng.randbytes(RECORD) for _ in range(count)]
     total, volume = volume_of(rng, records)
     drive = drive_of(bench, total, volume)
-    high = rng.choice((64, 200, 400, 400, 5000))
+    high = rng.choice((64, 200, 400, 5000, 5000))
     memory = rng.randbytes(16 * high + rng.choice((0, 0, 0, 15, -1)))
     table = table_of(rng, rng.choice((0, 1, 16)), high)
     if rng.randrange(3):
