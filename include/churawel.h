@@ -282,7 +282,7 @@ enum {
  * byte first, but for the first two. What stands behind these numbers is not looked at; 55 to 58 write the table anew when they
  * succeed. The memory control block is five bytes: M-Base, M-Length, M-Ext. 53 to 57 write it when they succeed, and M-Ext becomes 0; 58
  * is lent none, and looks at none. A refusal changes nothing. In this order: a function that is not one of these, 31; a control block
- * of another length, 34; a table of another length or against the rules, 65; then the others.
+ * of another length, 34; a table of another length, with a number above 8 in byte 0 or 1, or against the rules, 65; then the others.
  *   53 the longest free run, lowest of equals, cut to M-Length     54 is the region M-Base, M-Length free?
  *   55 grants M-Length paragraphs at the lowest start with room    56 grants the region M-Base, M-Length
  *   57 frees a region, its start or its end; M-Ext FFH: all        58 frees all regions

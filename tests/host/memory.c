@@ -196,7 +196,7 @@ static void small_program(void)
     memory_call("58 frees what was loaded", 58, MEMORY_BYTES, 0, MCB(0, 0, 0), MCB(0, 0, 0));
 }
 
-// Each test behind the ones before it: what is wrong is mended from the last to the first.
+// Each test before the ones behind it: all is wrong at first, and is mended in the order of the tests.
 static void load_refused(void)
 {
     struct spans s = {1, 4, {{0x20, 0x2F}}, {{0x20, 0}, {0x20, 0}, {0x20, 0}, {0x20, 0}}};

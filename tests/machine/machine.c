@@ -133,6 +133,22 @@ static uint8_t memory_call(uint8_t function, uint16_t ds, uint16_t dx)
     return answer == 0 ? 0 : 255;
 }
 
+/* Loads the file that the control block names, by 59. */
+static uint32_t load_file(const uint8_t *fcb)
+{
+    return churawel_load(
+        drive, drive_bytes, image, image_bytes, fcb, CHURAWEL_FCB_BYTES, table, sizeof table, memory, sizeof memory);
+}
+
+/* 59 for a program that loads another: the paragraph of the base page, or FFFFH. */
+static uint16_t load_call(uint16_t ds, uint16_t dx)
+{
+    uint8_t fcb[CHURAWEL_FCB_BYTES];
+    take(ds, dx, fcb, sizeof fcb);
+    uint32_t answer = load_file(fcb);
+    return CHURAWEL_NUMBER(answer) == 0 ? (uint16_t)CHURAWEL_VALUE(answer) : 0xFFFF;
+}
+
 static void interrupt(uc_engine *uc, uint32_t number, void *unused)
 {
     uint16_t cx, dx, ds, ax;
@@ -169,6 +185,11 @@ static void interrupt(uc_engine *uc, uint32_t number, void *unused)
     case CHURAWEL_FN_FREE_ALL_MEM:
         al = memory_call(function, ds, dx);
         break;
+    case CHURAWEL_FN_PROGRAM_LOAD:
+        ax = load_call(ds, dx);
+        uc_reg_write(uc, UC_X86_REG_AX, &ax);
+        uc_reg_write(uc, UC_X86_REG_BX, &ax);
+        return;
     default:
         al = file_call(uc, function, is_several(function) ? (uint8_t)(cx >> 8) : (uint8_t)dx, ds, dx, &ah);
     }
@@ -244,8 +265,7 @@ static uint16_t load(const char *name)
     table[3] = FREE_FROM >> 8;
     table[4] = (FREE_TO - FREE_FROM) & 255;
     table[5] = (FREE_TO - FREE_FROM) >> 8;
-    uint32_t answer = churawel_load(
-        drive, drive_bytes, image, image_bytes, fcb, sizeof fcb, table, sizeof table, memory, sizeof memory);
+    uint32_t answer = load_file(fcb);
     if (CHURAWEL_NUMBER(answer) != 0)
         fail("the program can't be loaded:", CHURAWEL_NUMBER(answer));
     return (uint16_t)CHURAWEL_VALUE(answer);

@@ -206,7 +206,7 @@ def load_case(bench, rng):
     records = [header] + [rng.randbytes(RECORD) for _ in range(count)]
     total, volume = volume_of(rng, records)
     drive = drive_of(bench, total, volume)
-    high = rng.choice((64, 200, 400))
+    high = rng.choice((64, 200, 400, 5000, 5000))
     memory = rng.randbytes(16 * high + rng.choice((0, 0, 0, 15, -1)))
     table = table_of(rng, rng.choice((0, 1, 16)), high)
     if rng.randrange(3):
@@ -215,6 +215,8 @@ def load_case(bench, rng):
     slices = [drive, volume, control_block(), table, memory]
     left = [drive, volume, control_block(), table_after, memory_after]
     bench.holds("load", LOAD, 59, 0, slices, (number | value << 16, left))
+    page = memory_after[16 * value : 16 * value + 48]
+    bench.seen["third byte of L"] += number == 0 and any(page[2::6])
 
 
 # ---- the file's own refusals, before 65: each is asked for with a table against the rules, so that a wrong order is seen
@@ -315,6 +317,8 @@ def main():
     for label, numbers in (("memory", (0, 31, 34, 65, 63, 62, 64)), ("load", (0, 65, 60, 61, 63, 62))):
         for number in numbers:
             bench.failed += cases >= 500 and bench.seen[label, number] == 0
+    print(f"loads of a region of more than 64 KiB: {bench.seen['third byte of L']}")
+    bench.failed += cases >= 500 and bench.seen["third byte of L"] == 0
     print(f"{bench.passed} passed, {bench.failed} failed")
     return bench.failed != 0
 

@@ -1,6 +1,6 @@
 -- What load leaves, as bytes; and where it was done, the table is one that the bytes can take.
 use mathlib.Core.Path.{_≡_, refl, sym, ap, _∙_}
-use mathlib.Core.Bool.{Bool, true, false, cond, true≢false}
+use mathlib.Core.Bool.{true, false, true≢false}
 use mathlib.Core.List.{List}
 use Prim.Native.Nat.{ℕ, _≤_, _<_}
 use native.Mathlib.Omega.{arith}
@@ -9,7 +9,7 @@ use Rattle.filecalls.specs.declared.Drive.{Drive}
 use Rattle.memory_spans.specs.Span.{places, paragraphs}
 use Rattle.memory_calls.specs.declared.Table.{Table}
 use Rattle.memory_calls.proofs.CallLaws.{within-facts}
-use Rattle.memory_bytes.specs.TableBytes.{tableBytes, tableOf, tableLaid}
+use Rattle.memory_bytes.specs.TableBytes.{tableBytes, tableOf}
 use Rattle.memory_bytes.proofs.BytesLaws.{used-few}
 use Rattle.loading.specs.declared.LoadAnswer.{LoadAnswer}
 use Rattle.loading.specs.declared.LoadAnswer.the-variants.{Loaded, Refused}

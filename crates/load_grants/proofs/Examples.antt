@@ -27,3 +27,15 @@ small = descriptor 0x01 0x40 0 0 0 ++ (descriptor 0x02 0x10 0 0x30 0x01 ++ repli
 granted : grants small pieces regions 0 2 ≡ span 0x110 0x40 ∷ span 0x150 0xB0 ∷ []
 unfolding grants followed grantOf grantAt lowestStart lowFrom hasRoom room run freeIn taken covers anyOf mostOf
 granted = refl
+
+-- "groups in header order": the stack group, which stands first, is granted first, and the code group behind it
+ordered : grants (descriptor 0x04 0x20 0 0 0 ++ (descriptor 0x01 0x40 0 0 0 ++ replicate 110 0)) pieces regions 0 2
+    ≡ span 0x110 0x20 ∷ span 0x130 0x40 ∷ []
+unfolding grants followed grantOf grantAt lowestStart lowFrom hasRoom room run freeIn taken covers anyOf mostOf
+ordered = refl
+
+-- each group up to its most before the next: code that needs 10H takes all 30H from 20H on, and none is left for data at 30H
+greedy : grants (descriptor 0x01 0x10 0x20 0 0x01 ++ (descriptor 0x02 0x10 0x30 0 0 ++ replicate 110 0)) (span 0x20 0x30 ∷ []) [] 0 2
+    ≡ span 0x20 0x30 ∷ []
+unfolding grants followed grantOf grantAt hasRoom room run freeIn taken covers anyOf mostOf
+greedy = refl

@@ -1,7 +1,7 @@
 -- What granting the groups leaves in the eight region places; not for the reader of the paper.
 use mathlib.Core.Path.{_≡_}
 use mathlib.Core.List.{List, _++_}
-use Prim.Native.Nat.{ℕ, _+_, _≤_, _<_}
+use Prim.Native.Nat.{ℕ, _+_, _<_}
 use lib.ListN.{length}
 use Rattle.memory_spans.specs.declared.Span.{Span}
 use Rattle.memory_regions.specs.declared.Regions.{Regions}

@@ -1,14 +1,14 @@
 -- A header worked out by hand from 000, 4.4 (figures 5 and 6): code of 0040H paragraphs, anywhere, and data of 0010H paragraphs of
 -- which at least 0030H and at most 0100H are to be granted: 01 0040 0000 0000 0000, then 02 0010 0000 0030 0100, then a form of 0.
 use mathlib.Core.Path.{_≡_, refl}
-use mathlib.Core.Bool.{Bool, true, false}
+use mathlib.Core.Bool.{true, false}
 use mathlib.Core.List.{List, [], _∷_, _++_}
 use Prim.Native.Nat.{ℕ}
 use lib.ListN.{replicate}
 use Rattle.lists.specs.Bounded.{lowFrom, anyFrom, everyFrom}
-use Rattle.load_header.specs.Header.{CODE, DATA, lengthAt, baseAt, mostAt, groups, typeAt, need, goodGroup, placeOf, pagePlace, goodHeader, imageStart}
+use Rattle.load_header.specs.Header.{mostAt, groups, typeAt, need, goodGroup, placeOf, pagePlace, goodHeader, imageStart}
 
--- a descriptor by its form, length, base, least and most; each number is below 100H but for most, which is given by its two bytes
+-- a descriptor by its form, length, base, least and most; each number is below 100H but for most, which is so many times 100H
 abbrev descriptor : ℕ → ℕ → ℕ → ℕ → ℕ → List ℕ
 descriptor form length base least most = form ∷ length ∷ 0 ∷ base ∷ 0 ∷ least ∷ 0 ∷ 0 ∷ most ∷ []
 
@@ -81,6 +81,11 @@ page-too-small = refl
 page-of-data : goodHeader (descriptor 0x01 0x01 0 0 0 ++ (descriptor 0x02 0x10 0 0 0 ++ replicate 110 0)) ≡ true
 unfolding goodHeader goodGroup pagePlace placeOf groups typeAt lowFrom anyFrom everyFrom
 page-of-data = refl
+
+-- with data it is the data group that needs 16 paragraphs, however large the code
+data-too-small : goodHeader (descriptor 0x01 0x40 0 0 0 ++ (descriptor 0x02 0x0F 0 0 0 ++ replicate 110 0)) ≡ false
+unfolding goodHeader goodGroup pagePlace placeOf groups typeAt lowFrom anyFrom everyFrom
+data-too-small = refl
 
 -- eight descriptors: the ninth is not looked at
 eight : groups (replicate 128 1) ≡ 8

@@ -1,7 +1,7 @@
 -- Load's own refusals in their order, worked out by hand: what is wrong is mended one by one, from 65 to 62. The header has code alone, four
 -- paragraphs of image that need 10H, at paragraph 20H; the memory has 30H paragraphs.
 use mathlib.Core.Path.{_≡_, refl}
-use mathlib.Core.List.{List, [], _∷_, _++_}
+use mathlib.Core.List.{List, [], _∷_}
 use Prim.Native.Nat.{ℕ}
 use lib.ListN.{length, replicate}
 use Rattle.lists.specs.Bounded.{lowFrom, anyFrom, everyFrom}
@@ -27,8 +27,12 @@ header form = form ∷ 0x04 ∷ 0 ∷ 0x20 ∷ 0 ∷ 0x10 ∷ 0 ∷ 0 ∷ 0 ∷ 
 abbrev table : ℕ → List Span → Table
 table size l = record { pieces = padded 8 (span 0x20 size ∷ []); used = 1; regions = padded 8 l; granted = length l }
 
+-- regions that take a place each, and no paragraph
+abbrev seven : List Span
+seven = span 0x20 0 ∷ span 0x20 0 ∷ span 0x20 0 ∷ span 0x20 0 ∷ span 0x20 0 ∷ span 0x20 0 ∷ span 0x20 0 ∷ []
+
 abbrev full : List Span
-full = span 0x20 0 ∷ span 0x20 0 ∷ span 0x20 0 ∷ span 0x20 0 ∷ span 0x20 0 ∷ span 0x20 0 ∷ span 0x20 0 ∷ span 0x20 0 ∷ []
+full = span 0x20 0 ∷ seven
 
 -- the answer over that header, so many records of image, and that table
 abbrev answer : ℕ → ℕ → Table → LoadAnswer
@@ -68,6 +72,11 @@ all-granted : placed both 1 [] (table 0x14 []) (replicate 0x340 0xAA) .reply
     ≡ record { answer = Loaded 0x24; table = table 0x14 (span 0x20 0x04 ∷ span 0x24 0x10 ∷ []) }
 unfolding placed loaded pageStart withinRules lawful apart overlap liesIn anyOf allOf padded goodHeader goodGroup groups typeAt placeOf pagePlace lowFrom anyFrom everyFrom imageStart grants followed grantOf grantAt hasRoom room run freeIn taken covers mostOf
 all-granted = refl
+
+-- the same room, and one place for two groups
+one-place : placed both 1 [] (table 0x14 seven) (replicate 0x340 0xAA) .reply ≡ record { answer = Refused NoPlace; table = table 0x14 seven }
+unfolding placed withinRules lawful apart overlap liesIn anyOf allOf padded goodHeader goodGroup groups typeAt placeOf pagePlace lowFrom anyFrom everyFrom imageStart
+one-place = refl
 
 none-granted : placed both 1 [] (table 0x13 []) (replicate 0x340 0xAA) ≡ after (record { answer = Refused NoRoom; table = table 0x13 [] }) (replicate 0x340 0xAA)
 unfolding placed withinRules lawful apart overlap liesIn anyOf allOf padded goodHeader goodGroup groups typeAt placeOf pagePlace lowFrom anyFrom everyFrom imageStart grants followed grantOf grantAt hasRoom room run freeIn taken covers mostOf

@@ -1,8 +1,8 @@
 -- 62 exactly where a group has no room: the list of what is granted ends there and nowhere else.
-use mathlib.Core.Path.{_≡_, refl, sym, ap, _∙_}
+use mathlib.Core.Path.{_≡_, refl, ap}
 use mathlib.Core.Bool.{Bool, true, false, cond}
 use mathlib.Core.List.{List, [], _∷_, _++_, append-assoc, append-nil}
-use Prim.Native.Nat.{ℕ, zero, suc, _+_, _≤_, _<_}
+use Prim.Native.Nat.{ℕ, zero, suc, _+_, _<_}
 use native.Mathlib.Omega.{arith}
 use borrow.Author.Tests.{lt-ltb, le-ltb, ltb-true}
 use lib.Dec.{ltb}
@@ -16,11 +16,11 @@ use Rattle.memory_calls.specs.declared.Table.{Table}
 use Rattle.memory_calls.specs.Table.{piecesOf, regionsOf}
 use Rattle.memory_promises.proofs.GroupTheorem.{nowhere-means-no-room}
 use Rattle.load_header.specs.Header.{groups, baseAt, need, mostAt}
-use Rattle.load_records.specs.Records.{recordOf, imageRecords, image}
+use Rattle.load_records.specs.Records.{recordOf, image}
 use Rattle.load_grants.specs.Grants.{followed, grantedTo, grants}
 use Rattle.loading.specs.declared.LoadRefusal.the-variants.{NoRoom}
 use Rattle.loading.specs.declared.LoadAnswer.the-variants.{Refused}
-use Rattle.loading.specs.Load.{After, refusing, grantsOf, loaded, placed, load}
+use Rattle.loading.specs.Load.{refusing, grantsOf, loaded, placed, load}
 use Rattle.load_promises.specs.Promises.{NoneFor, Reached, LoadNoRoom}
 
 -- ---- where the list of what is granted ends

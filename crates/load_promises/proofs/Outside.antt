@@ -1,12 +1,12 @@
 -- A byte outside the regions that were granted is not laid.
-use mathlib.Core.Path.{_≡_, refl, ap, _∙_}
+use mathlib.Core.Path.{_≡_, refl, _∙_}
 use mathlib.Core.List.{List}
 use mathlib.Core.Logic.{_⊎_, inl, inr}
 use Prim.Native.Nat.{ℕ, zero, suc, _+_, _*_, _≤_, _<_}
 use native.Mathlib.Omega.{arith}
 use lib.ListN.{length, getD}
 use Rattle.lists.specs.Bounded.{fold}
-use Rattle.lists.specs.Bytes.{byte, part, put}
+use Rattle.lists.specs.Bytes.{byte, put}
 use Rattle.lists.proofs.PartLaws.{length-part, length-put, byte-out}
 use Rattle.memory_spans.specs.declared.Span.{Span}
 use Rattle.memory_spans.specs.Span.{paragraphBytes, none, end}

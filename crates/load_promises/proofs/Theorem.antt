@@ -1,15 +1,14 @@
 -- The promises of load, each under its name.
-use mathlib.Core.Path.{_≡_, refl, sym, ap, _∙_}
+use mathlib.Core.Path.{_≡_, refl, ap, _∙_}
 use mathlib.Core.Bool.{Bool, true, false, not, cond}
 use mathlib.Core.List.{List, [], _∷_, _++_}
 use Prim.Native.Nat.{ℕ, _+_, _*_, _≤_, _<_}
 use native.Mathlib.Omega.{arith}
 use borrow.Author.Tests.{not-false, ltb-false}
 use lib.Dec.{ltb}
-use lib.ListN.{length, take, drop, getD, length-take, length-append}
+use lib.ListN.{length, drop, getD, length-take, length-append}
 use lib.Seq.{drop-at, getD-append-add}
-use Rattle.lists.specs.Bounded.{fold}
-use Rattle.lists.specs.Bytes.{byte, put}
+use Rattle.lists.specs.Bytes.{byte}
 use Rattle.lists.proofs.PartLaws.{length-put}
 use Rattle.disk_geometry.specs.Geometry.{recordBytes}
 use Rattle.call_answers.specs.Refusal.{isNone}
@@ -20,11 +19,10 @@ use Rattle.memory_regions.specs.Places.{padded}
 use Rattle.memory_regions.proofs.PlaceLaws.{padded-used, padded-at}
 use Rattle.memory_calls.specs.declared.Table.{Table}
 use Rattle.memory_calls.specs.Table.{piecesOf, regionsOf, withRegions, withinRules}
-use Rattle.memory_calls.specs.Calls.{memoryCall}
 use Rattle.memory_calls.proofs.CallLaws.{within-facts, within-test, within-ready}
 use Rattle.memory_promises.specs.Promises as calls
 use Rattle.memory_promises.proofs.Theorem.{stays-within-rules, call-keeps}
-use Rattle.load_header.specs.Header.{groups, pagePlace, goodHeader, imageStart}
+use Rattle.load_header.specs.Header.{groups, need, pagePlace, goodHeader, imageStart}
 use Rattle.load_records.specs.Records.{recordOf, imageRecords, image, readWhy}
 use Rattle.load_records.proofs.ImageLaws.{image-length}
 use Rattle.load_grants.proofs.GrantsLaws.{Fits, grants-fit, grants-keep, grants-few}
@@ -36,7 +34,7 @@ use Rattle.loading.specs.Load.{After, grantsOf, imageShort, loaded, placed, loa
 use Rattle.loading.specs.Load as load
 use Rattle.loading.proofs.PageLaws.{page-length}
 use Rattle.loading.proofs.LoadLaws.{good-facts, page-below}
-use Rattle.load_promises.specs.Promises.{RefusedLoadAltersNothing, OutsideOf, newRegions, LoadAltersNoOther, LoadKeepsLength, Request, call, loading, State, next, after, RunsStayWithinRules}
+use Rattle.load_promises.specs.Promises.{RefusedLoadAltersNothing, newRegions, LoadGrantsAll, OutsideOf, LoadAltersNoOther, LoadKeepsLength, Request, call, loading, State, next, after, RunsStayWithinRules}
 use Rattle.load_promises.proofs.Outside.{laid-length, laid-outside, page-outside}
 
 -- ---- the outcomes of a load
@@ -162,6 +160,20 @@ module _ (h : List ℕ) (records : ℕ) (image : List ℕ) (t : Table) (memory :
   went-new =
       ap (drop (length (regionsOf t))) (padded-used places (regionsOf t ++ grantsOf h t) few)
       ∙ drop-at (regionsOf t) (grantsOf h t) (length (regionsOf t)) refl
+
+pub load-grants-all : LoadGrantsAll
+unfolding loaded
+load-grants-all d v f t memory paragraph e = go (outcome d v f t memory) e
+  where
+    go : {r : After} → Outcome (recordOf d v f 0) (imageRecords d v f) (image d v f) t memory r → r .reply .answer ≡ Loaded paragraph
+        → (length (newRegions t (r .reply .table)) ≡ groups (recordOf d v f 0))
+        × ((i : ℕ) → i < groups (recordOf d v f 0) → need (recordOf d v f 0) i ≤ getD (newRegions t (r .reply .table)) i none .length)
+    go (denied w) q = let z : _≡_ {A = ℕ} 0 1 = cc in absurd (omega arith)
+    go (went w) q =
+        let e = went-new (recordOf d v f 0) (imageRecords d v f) (image d v f) t memory (image-length d v f) w in (
+          ap length e ∙ all-of (recordOf d v f 0) (imageRecords d v f) (image d v f) t memory (image-length d v f) w,
+          λ i l. rw e (fit (recordOf d v f 0) (imageRecords d v f) (image d v f) t memory (image-length d v f) w i l .enough),
+        )
 
 pub load-keeps : (d : Drive) (v f : List ℕ) (t : Table) (memory : List ℕ) → withinRules (length memory) t ≡ true
     → withinRules (length memory) (load d v f t memory .reply .table) ≡ true

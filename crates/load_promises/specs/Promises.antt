@@ -21,7 +21,7 @@ use Rattle.load_records.specs.Records.{recordOf, imageRecords, readWhy}
 use Rattle.load_grants.specs.Grants.{grants}
 use Rattle.loading.specs.declared.LoadRefusal.{LoadRefusal}
 use Rattle.loading.specs.declared.LoadRefusal.the-variants.{NoRoom}
-use Rattle.loading.specs.declared.LoadAnswer.the-variants.{Refused}
+use Rattle.loading.specs.declared.LoadAnswer.the-variants.{Loaded, Refused}
 use Rattle.loading.specs.Load.{imageShort, load}
 
 -- ---- "a load grants all groups or none": refused, it leaves the table and every byte of the memory
@@ -31,12 +31,22 @@ RefusedLoadAltersNothing =
     → load d v f t memory .reply .answer ≡ Refused why
     → (load d v f t memory .reply .table ≡ t) × (load d v f t memory .memory ≡ memory)
 
--- ---- "A load alters no byte outside the regions that it grants": those that the table has more afterwards
-abbrev pub OutsideOf : Span → ℕ → Type 0
-OutsideOf s x = (x + 1 ≤ paragraphBytes * s .start) ⊎ (paragraphBytes * end s ≤ x)
-
+-- what the table has more afterwards
 abbrev pub newRegions : Table → Table → List Span
 newRegions before after = drop (length (regionsOf before)) (regionsOf after)
+
+-- ---- "A load grants all groups": done, there is a new region for each group, in header order, as large as the group needs or larger
+abbrev pub LoadGrantsAll : Type 0
+LoadGrantsAll =
+    (d : Drive) (v f : List ℕ) (t : Table) (memory : List ℕ) (paragraph : ℕ)
+    → load d v f t memory .reply .answer ≡ Loaded paragraph
+    → (length (newRegions t (load d v f t memory .reply .table)) ≡ groups (recordOf d v f 0))
+    × ((i : ℕ) → i < groups (recordOf d v f 0)
+    → need (recordOf d v f 0) i ≤ getD (newRegions t (load d v f t memory .reply .table)) i none .length)
+
+-- ---- "A load alters no byte outside the regions that it grants"
+abbrev pub OutsideOf : Span → ℕ → Type 0
+OutsideOf s x = (x + 1 ≤ paragraphBytes * s .start) ⊎ (paragraphBytes * end s ≤ x)
 
 abbrev pub LoadAltersNoOther : Type 0
 LoadAltersNoOther =

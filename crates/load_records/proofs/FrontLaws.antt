@@ -8,7 +8,6 @@ use Rattle.numbers.specs.Numbers.{three}
 use Rattle.disk_geometry.specs.Geometry.{recordBytes}
 use Rattle.call_fcb.specs.Fcb.{R0, withRandom}
 use Rattle.call_answers.specs.declared.Refusal.{Refusal}
-use Rattle.call_answers.specs.declared.Answer.{Answer}
 use Rattle.call_answers.specs.Refusal.{first}
 use Rattle.call_answers.specs.Answer.{whyOf}
 use Rattle.filecalls.specs.declared.Front.{Front}
@@ -18,7 +17,7 @@ use Rattle.filecalls.specs.State.{isOpen}
 use Rattle.filecalls.specs.Outcome.{Act, deny, done, outcome}
 use Rattle.filecalls.specs.Read.{randomTests, readDone, readRandomAct}
 use Rattle.filecalls.specs.Open.{sizeTests, sizeAct}
-use Rattle.load_records.specs.Records.{shown, unread, recordOf, measured, unsized, records, firstFrom, imageRecords, readWhy, image}
+use Rattle.load_records.specs.Records.{shown, unread, recordOf, measured, unsized, firstFrom, imageRecords, readWhy, image}
 use Rattle.load_records.specs.CodeReading.{bare}
 
 -- all that a load asks of a file

@@ -1,13 +1,11 @@
 -- What a read and a size of the file calls leave, as it is asked for here; a record has 128 bytes.
 use mathlib.Core.Path.{_≡_, refl, sym, ap, _∙_}
 use mathlib.Core.Bool.{Bool, true, false, cond, not}
-use mathlib.Core.List.{List, [], _∷_, _++_}
-use Prim.Native.Nat.{ℕ, _+_, _/_, _%_, _≤_}
-use native.Mathlib.Omega.{arith}
+use mathlib.Core.List.{List, [], _++_}
+use Prim.Native.Nat.{ℕ, _+_, _%_}
 use borrow.Author.Tests.{ne-eqb, not-false}
 use lib.Dec.{eqb}
 use lib.ListN.{length, replicate, length-set}
-use Rattle.lists.specs.Bytes.{part}
 use Rattle.lists.proofs.PartLaws.{length-part}
 use Rattle.disk_geometry.specs.Geometry.{bytes, recordBytes, recordStart, inside}
 use Rattle.disk_geometry.proofs.GeometryLaws.{record-in}

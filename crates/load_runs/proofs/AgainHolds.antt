@@ -1,6 +1,6 @@
 -- A grant, the free of what it granted and the same request again, over bytes.
-use mathlib.Core.Path.{_≡_, refl, sym, ap, _∙_}
-use mathlib.Core.Bool.{Bool, true, false, cond, _&&_}
+use mathlib.Core.Path.{_≡_, refl, ap, _∙_}
+use mathlib.Core.Bool.{Bool, true, false, cond}
 use mathlib.Core.List.{List}
 use mathlib.Core.Logic.{_⊎_, ⊎-elim}
 use Prim.Native.Nat.{ℕ, _<_}
@@ -8,9 +8,8 @@ use native.Mathlib.Omega.{arith}
 use borrow.Author.Tests.{ltb-true}
 use lib.Dec.{leb, ltb}
 use Rattle.numbers.specs.Numbers.{Bytes, bytesOf}
-use Rattle.memory_spans.specs.declared.Span.{Span}
 use Rattle.memory_spans.specs.Span.{places, paragraphs}
-use Rattle.memory_spans.specs.Room.{hasRoom, free}
+use Rattle.memory_spans.specs.Room.{hasRoom}
 use Rattle.memory_room.specs.Starts.{lowestStart}
 use Rattle.memory_calls.specs.declared.Table.{Table}
 use Rattle.memory_calls.specs.declared.Mcb.{Mcb}

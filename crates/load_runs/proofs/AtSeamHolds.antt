@@ -1,15 +1,14 @@
 -- The promises over bytes, from those over tables.
-use mathlib.Core.Path.{_≡_, refl, sym, ap, _∙_}
+use mathlib.Core.Path.{_≡_, refl, ap}
 use mathlib.Core.Bool.{Bool, true, false, cond, _&&_}
 use mathlib.Core.List.{List}
-use Prim.Native.Nat.{ℕ, _+_, _*_, _%_, _<_}
+use Prim.Native.Nat.{ℕ, _%_, _<_}
 use native.Mathlib.Omega.{arith}
 use lib.Dec.{leb, ltb}
 use lib.ListN.{length, drop, getD}
 use Rattle.lists.specs.Bytes.{byte}
 use Rattle.numbers.specs.Numbers.{Bytes}
 use Rattle.filecalls.specs.declared.Drive.{Drive}
-use Rattle.memory_spans.specs.declared.Span.{Span}
 use Rattle.memory_spans.specs.Span.{none}
 use Rattle.memory_calls.specs.declared.Reply.{Reply}
 use Rattle.memory_calls.specs.declared.Answer.{Answer}
@@ -19,13 +18,13 @@ use Rattle.memory_calls.specs.Answer.{numberOf}
 use Rattle.memory_calls.specs.Calls.{ALLOC-MEM, FREE-ALL-MEM, memoryCall}
 use Rattle.drive_bytes.specs.Layout.{decoded}
 use Rattle.memory_bytes.specs.TableBytes.{tableOf, mcbOf, tableLaid, mcbLaid}
-use Rattle.memory_bytes.specs.Over.{MCB-LENGTH, Over, over, succeeded, mcbRefused, writtenBack, memoryOver}
+use Rattle.memory_bytes.specs.Over.{MCB-LENGTH, over, succeeded, mcbRefused, writtenBack, memoryOver}
 use Rattle.loading.specs.declared.LoadAnswer.{LoadAnswer}
 use Rattle.loading.specs.declared.LoadAnswer.the-variants as answer
 use Rattle.loading.specs.Load.{load}
 use Rattle.load_promises.specs.Promises.{OutsideOf, newRegions}
 use Rattle.load_promises.proofs.Theorem.{refused-load-alters-nothing, load-alters-no-other, loaded-lasting}
-use Rattle.load_bytes.specs.LoadOver.{isLoaded, loadBytes, tableAfter}
+use Rattle.load_bytes.specs.LoadOver.{loadBytes, tableAfter}
 use Rattle.seam_memory.specs.Load.{loadAnswered, loadAtSeam}
 use Rattle.load_runs.specs.AtSeam.{RefusedCallLeavesAll, RefusedLoadLeavesAll, LoadLeavesOthers}
 use Rattle.load_runs.proofs.LaysLaws.{read-lays, load-lays, regions-again}

@@ -48,11 +48,14 @@ name = 83 ∷ 73 ∷ 71 ∷ 76 ∷ 65 ∷ 32 ∷ 32 ∷ 32 ∷ 67 ∷ 77 ∷ 68 
 abbrev drive : List ℕ
 drive = 0 ∷ 4 ∷ 2 ∷ 0 ∷ 1 ∷ 0 ∷ (replicate 26 0 ++ (2 ∷ replicate 31 0))
 
--- the entry has so many records, all in block 1
-abbrev volume : ℕ → List ℕ
-volume rc =
-    (0 ∷ name) ++ (0 ∷ 0 ∷ 0 ∷ rc ∷ 1 ∷ replicate 15 0) ++ replicate 992 0xE5
+-- the entry has that map and so many records; all in block 1
+abbrev volume : List ℕ → ℕ → List ℕ
+volume map rc =
+    (0 ∷ name) ++ (0 ∷ 0 ∷ 0 ∷ rc ∷ map) ++ replicate 992 0xE5
     ++ (0x01 ∷ 0x04 ∷ 0 ∷ 0x02 ∷ 0 ∷ 0x10 ∷ replicate 122 0) ++ (replicate 64 0x11 ++ replicate 64 0x22) ++ replicate 768 0x33
+
+abbrev one : List ℕ
+one = 1 ∷ replicate 15 0
 
 abbrev fcb : List ℕ → List ℕ
 fcb n = (0 ∷ n) ++ replicate 24 255
@@ -74,25 +77,30 @@ filled =
 
 -- ---- what is read
 -- why the file can't be read, and its image
-unfoldable pub reading : ℕ → Refusal × List ℕ
+unfoldable pub reading : List ℕ → ℕ → Refusal × List ℕ
 unfolding lowFrom anyFrom everyFrom fold part put all number joined lawful bytes start slotStart recordStart groupOf placeOf inside places strip nameAt same goodName blockIn countOf ofFile ofGroup slotAt findSlot recordSlot counted present recordAt random setTo withRandom firstMet readBlock readTests readBytes entryEnd larger sizeOf isOpen outcome unless randomTests readDone readRandomAct sizeAct sizeTests shown measured firstFrom readWhy image kindStored wordsAt fields laidOut isDrive decoded
-reading rc = (readWhy (decoded drive) (volume rc) (fcb name), image (decoded drive) (volume rc) (fcb name))
+reading map rc = (readWhy (decoded drive) (volume map rc) (fcb name), image (decoded drive) (volume map rc) (fcb name))
 
 -- all records behind record 0: one, two, none
-images : (reading 2 ≡ (None, replicate 64 0x11 ++ replicate 64 0x22))
-    × ((reading 3 .1 ≡ replicate 64 0x11 ++ replicate 64 0x22 ++ replicate 128 0x33) × (reading 1 .1 ≡ []))
+images : (reading one 2 ≡ (None, replicate 64 0x11 ++ replicate 64 0x22))
+    × ((reading one 3 .1 ≡ replicate 64 0x11 ++ replicate 64 0x22 ++ replicate 128 0x33) × (reading one 1 .1 ≡ []))
 unfolding reading
 images = (refl, (refl, refl))
 
 -- of nine records the last has no block; record 0 is not there
-reasons : (reading 9 .0 ≡ Absent) × (reading 0 .0 ≡ Absent)
+reasons : (reading one 9 .0 ≡ Absent) × (reading one 0 .0 ≡ Absent)
 unfolding reading
 reasons = (refl, refl)
+
+-- 17 records over blocks 1, none and 1: record 0 and the last one, record 16, are there, and records 8 to 15 are not
+gap : reading (1 ∷ 0 ∷ 1 ∷ replicate 13 0) 17 .0 ≡ Absent
+unfolding reading
+gap = refl
 
 -- ---- what a load leaves
 unfoldable pub loading : List ℕ → ℕ → List ℕ → List ℕ → Started
 unfolding lowFrom anyFrom everyFrom fold part put all bytesOf number joined lawful bytes start slotStart recordStart groupOf placeOf inside places strip nameAt same goodName blockIn countOf ofFile ofGroup slotAt findSlot recordSlot counted present recordAt random setTo withRandom firstMet readBlock readTests readBytes entryEnd larger sizeOf isOpen outcome unless randomTests readDone readRandomAct sizeAct sizeTests covers overlap liesIn anyOf allOf mostOf rules.apart rules.lawful taken freeIn run room hasRoom grantAt grantOf padded withinRules spansAt usedIn tableOf spanLaid spansLaid tableLaid header.groups header.typeAt header.goodGroup header.placeOf header.pagePlace header.goodHeader header.imageStart followed grants shown measured firstFrom readWhy image regionOf shownOf lastOf fieldOf field basePage pageStart groupLaid laid withPage loaded placed load loadBytes kindStored wordsAt fields laidOut isDrive decoded loadAnswered loadAtSeam
-loading d rc f t = loadAtSeam d (volume rc) f t memory
+loading d rc f t = loadAtSeam d (volume one rc) f t memory
 
 -- the paragraph of the base page stands in the high 16 bits
 done : loading drive 2 (fcb name) (table 0x10) ≡ started 0x20000 granted filled

@@ -1,7 +1,7 @@
 -- A table that 66 bytes can carry: calls and loads leave such a one, and laid and read again it is the same but for what stands behind
 -- its ends.
-use mathlib.Core.Path.{_≡_, refl, sym, ap, _∙_}
-use mathlib.Core.Bool.{Bool, true, false, cond, _&&_, _||_}
+use mathlib.Core.Path.{_≡_, sym, ap, _∙_}
+use mathlib.Core.Bool.{true, _&&_, _||_}
 use mathlib.Core.List.{List, [], _∷_, _++_}
 use Prim.Native.Nat.{ℕ, _≤_, _<_}
 use native.Mathlib.Omega.{arith}
@@ -11,7 +11,7 @@ use lib.ListN.{length, getD, take, length-append, length-take}
 use Rattle.numbers.specs.Numbers.{Bytes}
 use Rattle.filecalls.specs.declared.Drive.{Drive}
 use Rattle.memory_spans.specs.declared.Span.{Span}
-use Rattle.memory_spans.specs.Span.{places, paragraphs, span, none, end}
+use Rattle.memory_spans.specs.Span.{places, paragraphs, span, none}
 use Rattle.memory_spans.specs.Room.{hasRoom}
 use Rattle.memory_spans.proofs.MemberLaws.{in-at}
 use Rattle.memory_spans.proofs.RulesLaws.{region-in-memory}
@@ -21,7 +21,6 @@ use Rattle.memory_regions.specs.Freeing.{freeable, freed}
 use Rattle.memory_regions.proofs.PlaceLaws.{padded-length, padded-used, used-length}
 use Rattle.memory_calls.specs.declared.Table.{Table}
 use Rattle.memory_calls.specs.declared.Mcb.{Mcb}
-use Rattle.memory_calls.specs.declared.Reply.{Reply}
 use Rattle.memory_calls.specs.Table.{piecesOf, regionsOf, withRegions, withinRules}
 use Rattle.memory_calls.specs.Calls.{longestRun, tested, granted, grantedAt, freeing, freeingPart, memoryCall}
 use Rattle.memory_calls.proofs.CallLaws.{within-facts, within-test}

@@ -1,9 +1,9 @@
 -- Runs over bytes: whichever bytes a call or a load leaves are a table within the rules.
-use mathlib.Core.Path.{_≡_, refl, sym, ap, _∙_}
+use mathlib.Core.Path.{_≡_, refl, _∙_}
 use mathlib.Core.Bool.{Bool, true, false, cond, _&&_}
 use mathlib.Core.List.{List, [], _∷_}
 use Prim.Native.Nat.{ℕ}
-use lib.Dec.{leb, ltb}
+use lib.Dec.{leb}
 use lib.ListN.{length}
 use Rattle.numbers.specs.Numbers.{Bytes}
 use Rattle.drive_bytes.specs.Layout.{decoded}
@@ -12,7 +12,7 @@ use Rattle.memory_calls.specs.Table.{withinRules}
 use Rattle.memory_calls.specs.Calls.{ALLOC-MEM, memoryCall}
 use Rattle.memory_promises.proofs.Theorem.{call-keeps, kept}
 use Rattle.memory_bytes.specs.TableBytes.{tableOf, mcbOf, tableLaid}
-use Rattle.memory_bytes.specs.Over.{MCB-LENGTH, Over, over, succeeded, mcbRefused, writtenBack, memoryOver}
+use Rattle.memory_bytes.specs.Over.{MCB-LENGTH, over, succeeded, mcbRefused, writtenBack, memoryOver}
 use Rattle.loading.specs.Load.{load}
 use Rattle.load_promises.proofs.Theorem.{load-keeps, load-keeps-length}
 use Rattle.load_bytes.specs.LoadOver.{isLoaded, loadBytes}

@@ -7,7 +7,6 @@ use native.Mathlib.Omega.{arith}
 use borrow.Author.Tests.{ltb-true, eqb-true, eqb-false}
 use lib.Dec.{ltb, eqb}
 use lib.ListN.{length, getD, take}
-use Rattle.lists.specs.Bytes.{byte}
 use Rattle.lists.proofs.BoolLaws.{and-parts}
 use Rattle.numbers.specs.Numbers.{Bytes, two}
 use Rattle.memory_spans.specs.declared.Span.{Span}

@@ -1,6 +1,5 @@
 -- What is promised of memory calls and loads, said of the bytes that C lends: `memoryOver` is what a memory call leaves of control block
--- and table, `loadAtSeam` what a load leaves of table and memory. Proved in
--- proofs/AtSeamHolds and, the last of them, in proofs/AgainHolds.
+-- and table, `loadAtSeam` what a load leaves of table and memory. Proved in proofs/AtSeamHolds and, the last of them, in proofs/AgainHolds.
 use mathlib.Core.Path.{_≡_}
 use mathlib.Core.Bool.{Bool}
 use mathlib.Core.List.{List}

@@ -6,7 +6,6 @@ use lib.ListN.{replicate}
 use Rattle.lists.specs.Bounded.{lowFrom, fold}
 use Rattle.lists.specs.Bytes.{part, put}
 use Rattle.numbers.specs.Numbers.{bytesOf}
-use Rattle.memory_spans.specs.declared.Span.{Span}
 use Rattle.memory_spans.specs.Span.{span}
 use Rattle.load_header.specs.Header.{groups, typeAt, placeOf, pagePlace, imageStart}
 use Rattle.joined.specs.Joined.{joined}
@@ -38,9 +37,9 @@ page-in-data : pageStart small (span 0x110 0x40 ∷ span 0x150 0xB0 ∷ []) ≡ 
 unfolding pageStart pagePlace placeOf groups typeAt lowFrom
 page-in-data = refl
 
--- the largest region: 1000H paragraphs are 10000H bytes, and L has three bytes
-page-large : basePage alone (span 0xF000 0x1000 ∷ [])
-    ≡ 0xFF ∷ 0xFF ∷ 0 ∷ 0 ∷ 0xF0 ∷ 1 ∷ 0xFF ∷ 0xFF ∷ 0 ∷ 0 ∷ 0xF0 ∷ 0 ∷ replicate 36 0
+-- the largest region: FFFFH paragraphs are FFFF0H bytes, and L has a third byte
+page-large : basePage alone (span 0 0xFFFF ∷ [])
+    ≡ 0xEF ∷ 0xFF ∷ 0x0F ∷ 0 ∷ 0 ∷ 1 ∷ 0xEF ∷ 0xFF ∷ 0x0F ∷ 0 ∷ 0 ∷ 0 ∷ replicate 36 0
 unfolding basePage joined field fieldOf bytesOf shownOf lastOf regionOf placeOf groups typeAt lowFrom
 page-large = refl
 

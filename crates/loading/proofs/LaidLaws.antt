@@ -1,19 +1,17 @@
 -- The memory, as its parts are laid.
-use mathlib.Core.Path.{_≡_, refl, sym, ap, _∙_}
-use mathlib.Core.Bool.{Bool, true, false, _&&_}
+use mathlib.Core.Path.{_≡_, sym, ap, _∙_}
 use mathlib.Core.List.{List, _++_}
-use Prim.Native.Nat.{ℕ, zero, suc, _+_, _-_, _*_, _≤_, _<_, max}
-use native.Mathlib.Numerals.{add-one}
+use Prim.Native.Nat.{ℕ, zero, suc, _+_, _-_, _≤_, _<_}
 use native.Mathlib.Omega.{arith}
 use lib.ListN.{length, take, drop, getD, length-append, length-take, length-drop}
-use lib.Seq.{drop-at, length-take-le}
+use lib.Seq.{drop-at}
 use Rattle.lists.specs.Bytes.{part, put}
 use Rattle.memory_spans.specs.declared.Span.{Span}
-use Rattle.memory_spans.specs.Span.{places, paragraphBytes, none, end}
+use Rattle.memory_spans.specs.Span.{places, none}
 use Rattle.memory_regions.specs.declared.Regions.{Regions}
 use Rattle.memory_regions.specs.Places.{placesOf, padded}
 use Rattle.memory_regions.proofs.PlaceLaws.{padded-used}
-use Rattle.load_header.specs.Header.{lengthAt, need, imageStart}
+use Rattle.load_header.specs.Header.{lengthAt, imageStart}
 use Rattle.load_grants.specs.CodeGrants.{Behind}
 use Rattle.load_grants.proofs.GrantsLaws.{Fits}
 use Rattle.loading.specs.CodeLoad.{grantedIn, Held}

@@ -17,7 +17,7 @@ use Rattle.filecalls.specs.declared.Front.{Front}
 use Rattle.filecalls.specs.declared.Drive.{Drive}
 use Rattle.filecalls.specs.CodeFront.{joined}
 use Rattle.memory_spans.specs.declared.Span.{Span}
-use Rattle.memory_spans.specs.Span.{places, paragraphBytes, none, end}
+use Rattle.memory_spans.specs.Span.{places, paragraphBytes, none}
 use Rattle.memory_calls.specs.declared.Table.{Table}
 use Rattle.memory_regions.specs.declared.Regions.{Regions}
 use Rattle.memory_regions.specs.Places.{placesOf}

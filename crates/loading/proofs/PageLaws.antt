@@ -1,18 +1,17 @@
 -- The base page, as its code lays it.
-use mathlib.Core.Path.{_≡_, refl, sym, ap, _∙_}
+use mathlib.Core.Path.{_≡_, refl, sym, _∙_}
 use mathlib.Core.Bool.{true, false, _&&_}
-use mathlib.Core.List.{List, _∷_, _++_}
-use Prim.Native.Nat.{ℕ, suc, _+_, _-_, _*_, _≤_, _<_}
-use native.Mathlib.Numerals.{add-one}
+use mathlib.Core.List.{List}
+use Prim.Native.Nat.{ℕ, _+_, _-_, _≤_, _<_}
 use native.Mathlib.Omega.{arith}
 use lib.Dec.{eqb}
-use lib.ListN.{length, take, drop, getD, length-take, length-drop, length-append, List·getD-eq-default}
-use lib.Seq.{getD-take, getD-drop, take-all}
+use lib.ListN.{length, take, getD, length-take, length-drop, List·getD-eq-default}
+use lib.Seq.{getD-take, getD-drop}
 use Rattle.joined.specs.Joined.{joined}
 use Rattle.numbers.specs.Numbers.{bytesOf}
 use Rattle.memory_spans.specs.declared.Span.{Span}
 use Rattle.memory_spans.specs.Span.{none}
-use Rattle.load_header.specs.Header.{CODE, DATA, LAST-AUX, groups}
+use Rattle.load_header.specs.Header.{CODE, DATA, groups}
 use Rattle.loading.specs.Page.{fieldBytes, pageBytes, regionOf, shownOf, lastOf, fieldOf, field, basePage}
 use Rattle.loading.specs.CodeLoad.{grantedIn}
 

@@ -2,7 +2,7 @@
 ghost use mathlib.Core.Path.{_≡_};
 ghost use Prim.Native.Nat.{_+_, _-_, _*_, _≤_, _<_};
 ghost use lib.ListN.{length, getD};
-ghost use Rattle.memory_spans.specs.Span.{places, none};
+ghost use Rattle.memory_spans.specs.Span.{places, paragraphBytes, none};
 ghost use Rattle.load_header.specs.Header.{descriptors, groups};
 ghost use Rattle.loading.specs.Page.{fieldBytes, pageBytes, regionOf, shownOf, lastOf, fieldOf, field, basePage, pageStart};
 ghost use Rattle.loading.specs.CodeLoad.{grantedIn};
@@ -63,7 +63,7 @@ fn last_of(h: &[u8], n: usize, kind: usize) -> u8
 // How many bytes were granted, less 1; 0 where nothing was.
 fn bytes_less_1(paragraphs: usize) -> usize
     requires { ⌜ paragraphs < 65536 ⌝ }
-    ensures { λ r. ⌜ r ≡ 16 * paragraphs - 1 ⌝ }
+    ensures { λ r. ⌜ r ≡ paragraphBytes * paragraphs - 1 ⌝ }
 {
     if paragraphs == 0 {
         return 0;

@@ -1,9 +1,8 @@
 -- A memory call over bytes, by what its parts answer.
-use mathlib.Core.Path.{_≡_, refl, sym, ap, _∙_}
-use mathlib.Core.Bool.{Bool, true, false, not, cond, _&&_, true≢false}
+use mathlib.Core.Path.{_≡_, refl, sym, _∙_}
+use mathlib.Core.Bool.{Bool, true, false, cond, _&&_, true≢false}
 use mathlib.Core.List.{List}
 use Prim.Native.Nat.{ℕ, _≤_}
-use native.Mathlib.Omega.{arith}
 use borrow.Author.Tests.{eqb-true}
 use lib.Dec.{leb, ltb, eqb}
 use lib.ListN.{length}
@@ -14,11 +13,11 @@ use Rattle.memory_calls.specs.declared.Mcb.{Mcb}
 use Rattle.memory_calls.specs.declared.Reply.{Reply}
 use Rattle.memory_calls.specs.Answer.{numberOf}
 use Rattle.memory_calls.specs.Table.{withinRules}
-use Rattle.memory_calls.specs.Calls.{GET-MAX-MEM, ALLOC-MEM, FREE-ALL-MEM, serve, memoryCall}
+use Rattle.memory_calls.specs.Calls.{GET-MAX-MEM, ALLOC-MEM, FREE-ALL-MEM, memoryCall}
 use Rattle.memory_calls.proofs.CallLaws.{within-facts}
 use Rattle.memory_promises.proofs.Theorem.{call-keeps}
 use Rattle.memory_bytes.specs.TableBytes.{tableBytes, mcbBytes, tableOf, mcbOf, tableLaid, mcbLaid}
-use Rattle.memory_bytes.specs.Over.{MCB-LENGTH, Over, over, succeeded, mcbRefused, writtenBack, memoryOver}
+use Rattle.memory_bytes.specs.Over.{MCB-LENGTH, over, succeeded, mcbRefused, writtenBack, memoryOver}
 use Rattle.memory_bytes.proofs.BytesLaws.{used-few}
 
 -- ---- a call that succeeded is served, and its table is within the rules

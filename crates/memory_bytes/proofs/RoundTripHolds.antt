@@ -15,10 +15,9 @@ use Rattle.memory_spans.specs.Span.{places, paragraphs, none}
 use Rattle.memory_regions.specs.Places.{padded}
 use Rattle.memory_regions.proofs.PlaceLaws.{padded-length, padded-at}
 use Rattle.memory_calls.specs.declared.Table.{Table}
-use Rattle.memory_calls.specs.declared.Mcb.{Mcb}
 use Rattle.memory_calls.specs.Table.{piecesOf, regionsOf}
 use Rattle.memory_bytes.specs.TableBytes.{tableBytes, PIECES, REGIONS, spanBytes, spanAt, spansAt, usedIn, tableOf, spanLaid, spansLaid, tableLaid, mcbLaid}
-use Rattle.memory_bytes.specs.RoundTrip.{Short, Carried, LaidIsRead, ReadIsLaid, McbIsRead}
+use Rattle.memory_bytes.specs.RoundTrip.{Short, LaidIsRead, ReadIsLaid, McbIsRead}
 use Rattle.memory_bytes.proofs.BytesLaws.{spans-length, spans-place, span-length, spans-laid-length}
 
 -- ---- a span that was laid is read again, each of its two numbers

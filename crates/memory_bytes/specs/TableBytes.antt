@@ -2,7 +2,7 @@
 -- 16 bits each"; and the memory control block in five: M-Base, M-Length, M-Ext (000, 5.5.1). Numbers stand low byte first.
 use mathlib.Core.Bool.{cond}
 use mathlib.Core.List.{List, [], _∷_, _++_}
-use Prim.Native.Nat.{ℕ, zero, suc, _+_, _*_}
+use Prim.Native.Nat.{ℕ, zero, suc, _+_}
 use lib.Dec.{eqb}
 use lib.ListN.{length, getD}
 use Rattle.lists.specs.Bytes.{byte}

@@ -10,7 +10,7 @@ use Rattle.memory_spans.specs.Span.{span, covers, overlap, liesIn, anyOf, allOf
 use Rattle.memory_spans.specs.Rules.{apart, lawful}
 use Rattle.memory_spans.specs.Room.{taken, freeIn, run, room, hasRoom}
 use Rattle.memory_room.specs.Starts.{lowestStart, longest}
-use Rattle.memory_room.specs.Candidates.{roomBelow}
+use Rattle.memory_room.specs.CodeCandidates.{roomBelow}
 use Rattle.memory_room.proofs.CandidateLaws.{lowerOf, lowest-by, longest-is}
 use Rattle.memory_regions.specs.Places.{padded}
 use Rattle.memory_regions.specs.Freeing.{edge, freeable, left, freed}
@@ -79,6 +79,15 @@ beside = refl
 taken-there : memoryCall 54 32768 (table (span 256 16 ∷ [])) (mcb 271 8 9) ≡ refused NoRoom (table (span 256 16 ∷ [])) (mcb 271 8 9)
 unfolding memoryCall serve tested hasRoom room run freeIn taken covers mostOf padded withinRules lawful apart overlap liesIn anyOf allOf
 taken-there = refl
+
+-- an M-Base of 0 is paragraph 0, where there is no piece, and not "anywhere": 54 and 56
+tested-at-0 : memoryCall 54 32768 (table []) (mcb 0 8 9) ≡ refused NoRoom (table []) (mcb 0 8 9)
+unfolding memoryCall serve tested hasRoom room run freeIn taken covers mostOf padded withinRules lawful apart overlap liesIn anyOf allOf
+tested-at-0 = refl
+
+granted-at-0 : memoryCall 56 32768 (table []) (mcb 0 8 9) ≡ refused NoRoom (table []) (mcb 0 8 9)
+unfolding memoryCall serve grantedAt hasRoom room run freeIn taken covers mostOf padded withinRules lawful apart overlap liesIn anyOf allOf
+granted-at-0 = refl
 
 -- four regions that leave runs of 8, 16 and 16 free paragraphs, from 110H, 128H and 148H on
 abbrev gaps : List Span

@@ -1,6 +1,6 @@
 -- Laws of a free: what the first region that matches leaves, and what "start or end" tells.
 use mathlib.Core.Path.{_≡_, refl, sym, ap, _∙_}
-use mathlib.Core.Bool.{Bool, true, false, cond, _&&_, _||_}
+use mathlib.Core.Bool.{Bool, true, false, cond, _||_}
 use mathlib.Core.List.{List, [], _∷_, _++_}
 use mathlib.Core.Logic.{_⊎_, inl, inr}
 use Prim.Native.Nat.{ℕ, zero, suc, _+_, _-_, _≤_, _<_}
@@ -15,7 +15,8 @@ use Rattle.memory_spans.specs.declared.Span.{Span}
 use Rattle.memory_spans.specs.Span.{paragraphs, none, end, liesIn, anyOf}
 use Rattle.memory_spans.proofs.SpanLaws.{LiesIn, lies-facts}
 use Rattle.memory_regions.proofs.PlaceLaws.{used-length}
-use Rattle.memory_regions.specs.Freeing.{edge, left, freed, firstEdge}
+use Rattle.memory_regions.specs.Freeing.{edge, left, freed}
+use Rattle.memory_regions.specs.CodeFreeing.{firstEdge}
 
 -- the first match, by its place
 pub freed-low : (part : Span) (l : List Span) (at : ℕ)

@@ -2,12 +2,10 @@
 -- but one region's start or end".
 use mathlib.Core.Bool.{Bool, cond, not, _&&_, _||_}
 use mathlib.Core.List.{List, [], _∷_, _++_}
-use Prim.Native.Nat.{ℕ, _-_}
+use Prim.Native.Nat.{_-_}
 use lib.Dec.{eqb}
-use lib.ListN.{getD, length}
-use Rattle.lists.specs.Bounded.{lowest}
 use Rattle.memory_spans.specs.declared.Span.{Span}
-use Rattle.memory_spans.specs.Span.{span, none, end, liesIn, anyOf}
+use Rattle.memory_spans.specs.Span.{span, end, liesIn, anyOf}
 
 -- the part is the region's end, or its start; or both, and so all of it
 unfoldable pub edge : Span → Span → Bool
@@ -32,7 +30,3 @@ left part region =
 unfoldable pub freed : Span → List Span → List Span
 freed part [] = []
 freed part (r ∷ l) = let rest = freed part l in cond (edge part r) (left part r ++ l) (r ∷ rest)
-
--- the place of the first such region, their number where there is none
-unfoldable pub firstEdge : Span → List Span → ℕ
-firstEdge part l = lowest (length l) (λ i. edge part (getD l i none))

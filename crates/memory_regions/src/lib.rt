@@ -7,7 +7,8 @@ ghost use lib.Dec.{ltb};
 ghost use lib.ListN.{take, drop, getD};
 ghost use Rattle.memory_spans.specs.Span.{places, paragraphs, none, end, anyOf};
 ghost use Rattle.memory_regions.specs.Places.{padded, placesOf};
-ghost use Rattle.memory_regions.specs.Freeing.{edge, left, freed, firstEdge};
+ghost use Rattle.memory_regions.specs.Freeing.{edge, left, freed};
+ghost use Rattle.memory_regions.specs.CodeFreeing.{firstEdge};
 use memory_spans::PLACES;
 use memory_spans::Span;
 

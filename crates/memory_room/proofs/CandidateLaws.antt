@@ -22,7 +22,7 @@ use Rattle.memory_spans.proofs.MemberLaws.{In, Hit, any-true}
 use Rattle.memory_spans.proofs.SearchMore.{low-or}
 use Rattle.memory_spans.proofs.RoomLaws.{Stop, low-stop, stop-low, room-facts, room-test, Roomy, has-roomy, roomy-has, free-in-test, free-in-covers, free-in-clear}
 use Rattle.memory_room.specs.Starts.{lowestStart, mostFrom, longest}
-use Rattle.memory_room.specs.Candidates.{atOne, roomBelow}
+use Rattle.memory_room.specs.CodeCandidates.{atOne, roomBelow}
 use Rattle.memory_room.proofs.MostLaws.{MostAt, most-from-hit, most-from-le, most-from-at, most-of-le}
 
 -- ---- one candidate more

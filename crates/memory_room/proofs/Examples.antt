@@ -8,7 +8,7 @@ use Rattle.memory_spans.specs.Span.{span, covers, overlap, liesIn, anyOf, allOf
 use Rattle.memory_spans.specs.Rules.{apart, lawful}
 use Rattle.memory_spans.specs.Room.{taken, freeIn, run, room, hasRoom}
 use Rattle.memory_room.specs.declared.Granted.the-variants.{Given, Nowhere}
-use Rattle.memory_room.specs.Candidates.{roomBelow}
+use Rattle.memory_room.specs.CodeCandidates.{roomBelow}
 use Rattle.memory_room.proofs.CandidateLaws.{lowerOf, lowest-by, longest-is}
 use Rattle.memory_room.specs.Starts.{lowestStart, longest, grantAt, grantOf}
 

@@ -8,7 +8,7 @@ ghost use Rattle.lists.specs.Bounded.{lowFrom};
 ghost use Rattle.memory_spans.specs.Span.{places, paragraphs, end, mostOf};
 ghost use Rattle.memory_spans.specs.Room.{room, hasRoom};
 ghost use Rattle.memory_room.specs.Starts.{lowestStart, longest, grantOf, grantAt};
-ghost use Rattle.memory_room.specs.Candidates.{atOne, roomBelow};
+ghost use Rattle.memory_room.specs.CodeCandidates.{atOne, roomBelow};
 use memory_spans::PARAGRAPHS;
 use memory_spans::PLACES;
 use memory_spans::Span;

@@ -11,7 +11,7 @@ use Rattle.lists.proofs.BoolLaws.{and-parts}
 use Rattle.lists.proofs.BoundedLaws.{Low, low-le, low-hit, low-miss, low-no, low-is}
 use Rattle.memory_spans.specs.declared.Span.{Span}
 use Rattle.memory_spans.specs.Span.{end, covers, anyOf}
-use Rattle.memory_spans.specs.Meeting.{Met}
+use Rattle.memory_spans.specs.CodeMeeting.{Met}
 use Rattle.memory_spans.specs.Room.{taken, freeIn, run, room, hasRoom}
 use Rattle.memory_spans.proofs.SpanLaws.{Covers, covers-facts, covers-test, covers-not}
 use Rattle.memory_spans.proofs.MemberLaws.{In, most-hit}

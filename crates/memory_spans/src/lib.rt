@@ -5,7 +5,7 @@ ghost use lib.ListN.{take, drop};
 ghost use Rattle.lists.specs.Bounded.{lowFrom};
 ghost use Rattle.memory_spans.specs.Span.{places, paragraphs, end, covers, overlap, liesIn, anyOf, allOf};
 ghost use Rattle.memory_spans.specs.Rules.{apart, inMemory, inOne, lawful};
-ghost use Rattle.memory_spans.specs.Meeting.{Met};
+ghost use Rattle.memory_spans.specs.CodeMeeting.{Met};
 ghost use Rattle.memory_spans.specs.Room.{taken, freeIn, run, room, hasRoom};
 
 // A physical piece or a granted region: its first paragraph and how many it has.
@@ -161,7 +161,7 @@ pub fn is_lawful(
     inside & pieces_apart & regions_apart & in_pieces(pieces, n, regions, m)
 }
 
-// Does paragraph `start` come behind the region, or the region behind paragraph `stop`? If not, where from `start` on it is met.
+// Where the region is first met from `start` on, `stop` where it is not met below that.
 fn met(region: Span, start: usize, stop: usize) -> usize
     requires { ⌜ start ≤ stop ⌝ }
     ensures { λ r. ⌜ (r ≤ stop) × ((start ≤ r) × Met region start stop r) ⌝ }

@@ -1,2 +1,2 @@
--- The memory calls and load as exported calls leave them, and what holds of any run of them.
+-- Load as an exported call leaves it.
 pub mod Load

@@ -4,7 +4,7 @@ use Rattle.load_header.proofs.HeaderLaws.{every-zero}
 use Rattle.lists.proofs.BoundedLaws.{Passed, passed-start, passed-next, passed-fails, passed-all}
 use borrow.Author.Tests.{not-true, not-false}
 use Prim.Native.Nat.{_≤_, _-_}
-use mathlib.Core.Path.{_≡_, sym, ap, _∙_}
+use mathlib.Core.Path.{sym, _∙_}
 use borrow.Author.Needs.{needs}
 use Rattle.load_header.proofs.are_good.Statement.{statement}
 use Rattle.load_header.proofs.are_good.Tie as tie

@@ -4,7 +4,7 @@ use Rattle.lists.proofs.AnyLaws.{AnySoFar, asked-start, asked-next, asked-hit, 
 use borrow.Author.Tests.{eq-eqb, ne-eqb}
 use lib.Dec.{eqb}
 use Prim.Native.Nat.{_≤_, _-_}
-use mathlib.Core.Path.{_≡_, sym, ap, _∙_}
+use mathlib.Core.Path.{sym, _∙_}
 use borrow.Author.Needs.{needs}
 use Rattle.load_header.proofs.is_given.Statement.{statement}
 use Rattle.load_header.proofs.is_given.Tie as tie

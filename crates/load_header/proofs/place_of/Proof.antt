@@ -5,7 +5,7 @@ use Rattle.lists.proofs.BoundedLaws.{Searched, searched-start, searched-next, s
 use borrow.Author.Tests.{eq-eqb, ne-eqb}
 use lib.Dec.{eqb}
 use Prim.Native.Nat.{_≤_, _-_}
-use mathlib.Core.Path.{_≡_, sym, ap, _∙_}
+use mathlib.Core.Path.{sym, _∙_}
 use borrow.Author.Needs.{needs}
 use Rattle.load_header.proofs.place_of.Statement.{statement}
 use Rattle.load_header.proofs.place_of.Tie as tie

@@ -3,7 +3,7 @@ use Rattle.load_header.specs.Header.{typeAt}
 use borrow.Author.Tests.{eq-eqb, ne-eqb}
 use native.Mathlib.Omega.{arith}
 use Prim.Native.Nat.{ℕ, _%_}
-use mathlib.Core.Path.{_≡_, sym, ap, _∙_}
+use mathlib.Core.Path.{sym, ap, _∙_}
 use borrow.Author.Needs.{needs}
 use Rattle.load_header.proofs.type_at.Statement.{statement}
 use Rattle.load_header.proofs.type_at.Tie as tie

@@ -6,7 +6,7 @@ use Rattle.disk_geometry.specs.Geometry.{recordBytes}
 use borrow.Author.Tests.{not-true, not-false}
 use lib.ListN.{length}
 use Prim.Native.Nat.{_-_}
-use mathlib.Core.Path.{_≡_, refl, sym, ap, _∙_}
+use mathlib.Core.Path.{_≡_, refl, sym, _∙_}
 use borrow.Author.Needs.{needs}
 use Rattle.load_records.proofs.why_unread.Statement.{statement}
 use Rattle.load_records.proofs.why_unread.Tie as tie

@@ -1,11 +1,11 @@
 -- The spans of the places passed so far are read.
-use Rattle.memory_bytes.specs.TableBytes.{spanBytes, spansAt}
+use Rattle.memory_bytes.specs.TableBytes.{spansAt}
 use Rattle.memory_bytes.proofs.BytesLaws.{spans-length, spans-place, padded-full}
 use Rattle.memory_regions.proofs.PlaceLaws.{Laid, laid-start, laid-next, laid-end}
 use Rattle.memory_spans.specs.Span.{places}
 use native.Mathlib.Omega.{arith}
 use Prim.Native.Nat.{_-_}
-use mathlib.Core.Path.{_≡_, sym, _∙_}
+use mathlib.Core.Path.{sym, _∙_}
 use borrow.Author.Needs.{needs}
 use Rattle.memory_bytes.proofs.spans_at.Statement.{statement}
 use Rattle.memory_bytes.proofs.spans_at.Tie as tie

@@ -1,5 +1,5 @@
 -- The largest so far and those from place i on give the whole.
-use Rattle.memory_room.specs.Candidates.{roomBelow}
+use Rattle.memory_room.specs.CodeCandidates.{roomBelow}
 use Rattle.memory_spans.proofs.SpanLaws.{Kept, kept-start, kept-next, kept-end}
 use Rattle.memory_spans.specs.Span.{end}
 use lib.ListN.{length, take}

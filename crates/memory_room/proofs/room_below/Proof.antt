@@ -1,5 +1,5 @@
 -- Either way the definition's case.
-use Rattle.memory_room.specs.Candidates.{roomBelow}
+use Rattle.memory_room.specs.CodeCandidates.{roomBelow}
 use borrow.Author.Tests.{lt-ltb, le-ltb}
 use borrow.Author.Needs.{needs}
 use Rattle.memory_room.proofs.room_below.Statement.{statement}

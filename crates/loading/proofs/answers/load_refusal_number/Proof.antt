@@ -1,5 +1,4 @@
 -- A refusal of the file calls has their number.
-use mathlib.Core.Path.{_≡_, refl, sym, ap, _∙_}
 use borrow.Author.Needs.{needs}
 use Rattle.loading.proofs.answers.load_refusal_number.Statement.{statement}
 use Rattle.loading.proofs.answers.load_refusal_number.Tie as tie

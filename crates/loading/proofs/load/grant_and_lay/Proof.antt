@@ -8,7 +8,7 @@ use Rattle.load_records.specs.Records.{image}
 use Rattle.load_records.specs.CodeReading.{bare}
 use native.Mathlib.Omega.{arith}
 use Prim.Native.Nat.{_+_, _-_, _*_}
-use mathlib.Core.Path.{_≡_, refl, sym, ap, _∙_}
+use mathlib.Core.Path.{_≡_}
 use borrow.Author.Needs.{needs}
 use Rattle.loading.proofs.load.grant_and_lay.Statement.{statement}
 use Rattle.loading.proofs.load.grant_and_lay.Tie as tie

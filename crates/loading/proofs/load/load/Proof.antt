@@ -1,7 +1,7 @@
 -- The file is read, and then its groups are placed.
 use Rattle.loading.proofs.LoadLaws.{not-read, was-read, load-any}
 use borrow.Author.Tests.{not-true, not-false}
-use mathlib.Core.Path.{_≡_, refl, sym, ap, _∙_}
+use mathlib.Core.Path.{sym, _∙_}
 use mathlib.Core.List.{List}
 use Prim.Native.Nat.{ℕ}
 use borrow.Author.Needs.{needs}

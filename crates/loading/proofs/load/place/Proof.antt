@@ -4,7 +4,7 @@ use Rattle.memory_calls.proofs.CallLaws.{within-facts}
 use borrow.Author.Tests.{not-true, not-false}
 use native.Mathlib.Omega.{arith}
 use Prim.Native.Nat.{ℕ, _-_}
-use mathlib.Core.Path.{_≡_, refl, sym, ap, _∙_}
+use mathlib.Core.Path.{sym, ap, _∙_}
 use borrow.Author.Needs.{needs}
 use Rattle.loading.proofs.load.place.Statement.{statement}
 use Rattle.loading.proofs.load.place.Tie as tie

@@ -1,6 +1,5 @@
 -- M80 is the last byte of the first field.
 use Rattle.loading.proofs.PageLaws.{last-one, last-zero}
-use borrow.Author.Needs.{needs}
 use Rattle.loading.proofs.page.last_of.Statement.{statement}
 use Rattle.loading.proofs.page.last_of.Tie as tie
 

@@ -1,6 +1,6 @@
 -- The start of the region that has the base page.
 use Rattle.loading.specs.Page.{pageStart}
-use mathlib.Core.Path.{_≡_, refl, sym, ap, _∙_}
+use mathlib.Core.Path.{_∙_}
 use borrow.Author.Needs.{needs}
 use Rattle.loading.proofs.page.page_start.Statement.{statement}
 use Rattle.loading.proofs.page.page_start.Tie as tie

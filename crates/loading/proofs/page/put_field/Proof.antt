@@ -1,7 +1,6 @@
 -- The six bytes are the definition's.
 use Rattle.loading.specs.Page.{fieldOf}
 use Rattle.numbers.specs.Numbers.{bytesOf}
-use mathlib.Core.Path.{_≡_, refl, sym, ap, _∙_}
 use borrow.Author.Needs.{needs}
 use Rattle.loading.proofs.page.put_field.Statement.{statement}
 use Rattle.loading.proofs.page.put_field.Tie as tie

@@ -1,6 +1,6 @@
 -- By the place of the type.
 use Rattle.loading.specs.Page.{regionOf}
-use mathlib.Core.Path.{_≡_, refl, sym, ap, _∙_}
+use mathlib.Core.Path.{_∙_}
 use borrow.Author.Needs.{needs}
 use Rattle.loading.proofs.page.region_of.Statement.{statement}
 use Rattle.loading.proofs.page.region_of.Tie as tie

@@ -1,4 +1,5 @@
--- A step of the search for the first granted paragraph: none of the region from start up to r, and r is where it is met, or stop.
+-- A step of the code's search for the first granted paragraph: none of the region from start up to r, and r is where it is met, or
+-- stop; not for the reader of the paper.
 use mathlib.Core.Path.{_≡_}
 use mathlib.Core.Bool.{true, false}
 use Prim.Native.Nat.{ℕ, _≤_, _<_}

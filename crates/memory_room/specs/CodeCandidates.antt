@@ -1,5 +1,5 @@
--- The paragraphs that the code looks at: those of pieces, and those straight behind a region. That no other start needs a look is
--- shown in proofs/.
+-- The paragraphs that the code looks at: those where a piece begins, and those straight behind a region. That no other start needs a
+-- look is shown in proofs/. Not for the reader of the paper.
 use mathlib.Core.Bool.{Bool, cond, _&&_}
 use mathlib.Core.List.{List}
 use Prim.Native.Nat.{ℕ}
