@@ -71,7 +71,8 @@ const struct command COMMANDS[] = {
      fresh_image},
     {"gencmd", "IN OUT", "Rh", 2, 2, false,
      "Makes a CMD file, which the machine can run, of a hex file; both are files of this machine.\n"
-     "IN may be - for standard input, OUT - for standard output. A file OUT that is there is replaced only with --replace.",
+     "IN may be - for standard input, OUT - for standard output. A file OUT that is there is replaced only with --replace.\n"
+     "IN may have up to 16777216 bytes.",
      gencmd},
 };
 const int COMMANDS_COUNT = sizeof COMMANDS / sizeof *COMMANDS;

@@ -10,6 +10,9 @@ def zeros(count):
     return bytes(count)
 
 
+# A line that is not read, right behind the end line: its sum is FFH, and it gives 44H at 0005H.
+BEHIND = b":0100050044B5"
+
 # The code group alone has the base page, so 16 paragraphs: 128 + 256 bytes are 3 records.
 THREE_FILE = bytes.fromhex("01 1000 0000 1000 1000") + zeros(119) + zeros(5) + bytes.fromhex("112233") + zeros(248)
 
@@ -34,7 +37,7 @@ FOUR_FILE = (
 # Code reaches to FFFFH: 4,096 paragraphs, 1000H; 128 + 65,536 bytes are 513 records.
 LAST_FILE = bytes.fromhex("01 0010 0000 0010 0010") + zeros(119) + zeros(65535) + b"\x11"
 
-# A byte of 256 in all four groups: each sum wraps around.
+# Three bytes FFH: 03 + FF + FF + FF = 300, a sum that wraps around by itself, so the checksum is 00.
 SUMS = b":03000000FFFFFF00\n"
 SUMS_FILE = bytes.fromhex("01 1000 0000 1000 1000") + zeros(119) + b"\xff\xff\xff" + zeros(253)
 
@@ -50,6 +53,19 @@ SMALL_FILE = (
     + zeros(112)
 )
 
+# Code with extra and without data has the base page: 16 paragraphs, and 2 for the byte at 0010H; 128 + 16 * 18 = 416 bytes in 4 records.
+CODE_EXTRA = b":01000081017D\n:010010843338\n" + END
+CODE_EXTRA_FILE = (
+    bytes.fromhex("01 1000 0000 1000 1000  03 0200 0000 0200 0200")
+    + zeros(110)
+    + b"\x01"
+    + zeros(255)
+    + zeros(16)
+    + b"\x33"
+    + zeros(15)
+    + zeros(96)
+)
+
 
 def cases():
     yield "three bytes of code", THREE + END, LONGEST, 0, THREE_FILE
@@ -57,12 +73,15 @@ def cases():
     yield "code and data", SMALL, LONGEST, 0, SMALL_FILE
     yield "a byte at FFFFH", b":01FFFF0011F0\n" + END, LONGEST, 0, LAST_FILE
     yield "a line whose sum is FFH + FFH + FFH + 03H", SUMS + END, LONGEST, 0, SUMS_FILE
-    yield "text before, between and behind", b"SIGLA 00\r\n" + THREE[:-1] + b"FFFF GH" + END + b":03", LONGEST, 0, THREE_FILE
+    yield "text before, between and behind", b"SIGLA 00\r\n" + THREE[:-1] + b"FFFF GH" + END[:-1] + BEHIND, LONGEST, 0, THREE_FILE
+    yield "code and extra", CODE_EXTRA, LONGEST, 0, CODE_EXTRA_FILE
     yield "lines with nothing between them", THREE[:-1] + END, LONGEST, 0, THREE_FILE
     yield "an end line with a byte beyond FFFFH", THREE + b":02FFFF010000FF", LONGEST, 0, THREE_FILE
     yield "just enough room", THREE + END, 384, 0, THREE_FILE
     yield "a byte too little", THREE + END, 383, 76, b""
     yield "no room at all", THREE + END, 0, 76, b""
+    yield "no end and no room", THREE, 0, 74, b""
+    yield "no code and no room", END, 0, 75, b""
     for what, text, number in refused():
         yield f"{number} for {what}", text, LONGEST, number, b""
 
@@ -74,7 +93,8 @@ def refused():
     yield "a line that the text's end cuts off", THREE[:-2], 70
     yield "a colon and no more", b":", 70
     yield "an end line that is cut off", THREE + END[:-2], 70
-    yield "a sum of 1", b":0100000011F0\n" + END, 71
+    yield "a sum of 1", b":0100000011EF\n" + END, 71
+    yield "a sum of FFH", b":0100000011ED\n" + END, 71
     yield "an end line's sum", THREE + b":00000001FE\n", 71
     yield "type 02", b":020000020000FC\n" + END, 72
     yield "type 03", b":00000003FD\n" + END, 72

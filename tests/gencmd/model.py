@@ -32,6 +32,18 @@ def line_at(text, at):
     return bytes.fromhex(digits.decode())
 
 
+def refusal_of(kind, address, count):
+    """of a line that is not the end: 72 for its type, then 73 for its address, or nothing"""
+    if kind not in GROUPS:
+        return 72
+    return 73 if address + count > ADDRESSES else 0
+
+
+def give(group, place, byte):
+    """where lines overlap, the later one counts"""
+    group[place] = byte
+
+
 def groups_of(text):
     """the bytes that the lines give, by group and address"""
     groups = {}
@@ -41,12 +53,11 @@ def groups_of(text):
         address, kind, data = int.from_bytes(line[1:3], "big"), line[3], line[4:-1]
         if kind == END:
             return groups
-        if kind not in GROUPS:
-            raise Refused(72)
-        if address + len(data) > ADDRESSES:
-            raise Refused(73)
+        number = refusal_of(kind, address, len(data))
+        if number:
+            raise Refused(number)
         for place, byte in enumerate(data, address):
-            groups.setdefault(GROUPS[kind], {})[place] = byte
+            give(groups.setdefault(GROUPS[kind], {}), place, byte)
         at = text.find(b":", at + 1 + 2 * len(line))
     raise Refused(74)
 

@@ -42,7 +42,8 @@ static void three_bytes(void)
     makes("the same with just enough room", THREE END, 384, 0, file, sizeof file);
     makes("a byte too little: 76, nothing changes", THREE END, 383, CHURAWEL_REFUSED_HEX_ROOM, file, 0);
     makes("no room at all: 76", THREE END, 0, CHURAWEL_REFUSED_HEX_ROOM, file, 0);
-    makes("text around lines, and a wrong line behind the end", "SIGLA 00\r\n:0300050011223392FFFF GH" END ":03", FILE_MOST, 0, file, sizeof file);
+    makes("text around lines, and behind the end a wrong line that gives another byte",
+          "SIGLA 00\r\n:0300050011223392FFFF GH:00000001FF:0100050044B5", FILE_MOST, 0, file, sizeof file);
 }
 
 // Code 02 04 05, since the later line counts; data at 0100H; stack (83) at 000FH, and extra (84) at 0010H, which stands first.
@@ -72,6 +73,7 @@ static void each_refusal(void)
     refuses_text("a wrong sum before small letters: 71", ":0100000011EF\n:000000ffFF\n" END, CHURAWEL_REFUSED_HEX_SUM);
     refuses_text("no text: 74", "", CHURAWEL_REFUSED_HEX_NO_END);
     refuses_text("no end line: 74", THREE, CHURAWEL_REFUSED_HEX_NO_END);
+    makes("no end line and no room: 74", THREE, 0, CHURAWEL_REFUSED_HEX_NO_END, out, 0);
     refuses_text("data alone: 75", ":01000082225B\n" END, CHURAWEL_REFUSED_HEX_NO_CODE);
 }
 

@@ -1,9 +1,11 @@
 // Reads a hex text from standard input and writes its CMD file to standard output. A text that is refused, or that has more
 // bytes than the program has room for, is a line on standard error, and nothing is written. A file that standard output does not take
 // whole is a line there too.
+ghost use mathlib.Core.Path.{_≡_};
 ghost use Prim.Native.Nat.{_≤_};
-ghost use lib.ListN.{length};
+ghost use lib.ListN.{length, take};
 ghost use Rattle.gencmd_file.specs.Longest.{longest};
+ghost use Rattle.gencmd.specs.Said.{lineBytes, refused, tooLong};
 use gencmd_file::Answer;
 use gencmd_file::LONGEST;
 use gencmd_lines::Refusal;
@@ -18,29 +20,49 @@ const INPUT_BYTES: usize = TEXT_BYTES + 1;
 
 const LINE_BYTES: usize = 64;
 
-// The first n bytes of a line, on standard error.
-fn complain(line: &[u8], n: usize) {
-    if n <= line.len() {
-        io::write_all(STDERR_FILENO, &line[0..n]);
-    }
+// The line of a refusal, whole, in the first bytes of `line`, and how many they are.
+fn lay_refusal(line: &mut [u8], why: Refusal) -> usize
+    requires { ⌜ lineBytes ≤ length (now line) ⌝ }
+    ensures { λ r. ⌜
+        (take r (now (line .exit)) ≡ refused why)
+        × (r ≤ length (now (line .exit)))
+        ⌝ }
+{
+    let a = text::put_bytes(line, 0, b"REFUSED ");
+    let b = text::put_decimal(line, a, lists::wide(gencmd_lines::number_of(why)));
+    text::put_byte(line, b, b'\n')
 }
 
-// The line of a refusal.
+// The line of a text that is too long, in the same way.
+fn lay_too_long(line: &mut [u8]) -> usize
+    requires { ⌜ lineBytes ≤ length (now line) ⌝ }
+    ensures { λ r. ⌜
+        (take r (now (line .exit)) ≡ tooLong)
+        × (r ≤ length (now (line .exit)))
+        ⌝ }
+{
+    let a = text::put_bytes(line, 0, b"REFUSED: the text has more than ");
+    let b = text::put_decimal(line, a, TEXT_BYTES);
+    text::put_bytes(line, b, b" bytes\n")
+}
+
+// The first n bytes of a line, on standard error.
+fn complain(line: &[u8], n: usize)
+    requires { ⌜ n ≤ length (now line) ⌝ }
+{
+    io::write_all(STDERR_FILENO, &line[0..n]);
+}
+
 fn refuse(why: Refusal) {
     let mut line = [0u8; LINE_BYTES];
-    let a = text::put_bytes(&mut line, 0, b"REFUSED ");
-    let b = text::put_decimal(&mut line, a, lists::wide(gencmd_lines::number_of(why)));
-    let c = text::put_byte(&mut line, b, b'\n');
-    complain(&line, c);
+    let n = lay_refusal(&mut line, why);
+    complain(&line, n);
 }
 
-// The line of a text that is too long.
 fn refuse_length() {
     let mut line = [0u8; LINE_BYTES];
-    let a = text::put_bytes(&mut line, 0, b"REFUSED: the text has more than ");
-    let b = text::put_decimal(&mut line, a, TEXT_BYTES);
-    let c = text::put_bytes(&mut line, b, b" bytes\n");
-    complain(&line, c);
+    let n = lay_too_long(&mut line);
+    complain(&line, n);
 }
 
 // The file, on standard output, or a line that tells that not all of it was taken.

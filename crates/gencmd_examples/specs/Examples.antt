@@ -9,13 +9,14 @@ use Rattle.gencmd_lines.specs.Refusal.{refusalNumber}
 use Rattle.gencmd_lines.specs.Digits.{digitOf, lineByte}
 use Rattle.gencmd_lines.specs.Line.{isSpelled, sumFrom, sumOf, groupOfType, dataRefusal, lineRefusal}
 use Rattle.gencmd_lines.specs.Lines.{linesOf, linesIn, linesFrom, linesRefusal, dataLines}
+use Rattle.gencmd_groups.specs.declared.Groups.{Groups}
 use Rattle.gencmd_groups.specs.Groups.{given, byteAt, listFrom, reachOf, reaches, sizesOf}
 use Rattle.gencmd_file.specs.declared.Answer.the-variants.{Written, Refused}
 use Rattle.gencmd_lines.specs.declared.Refusal.the-variants.{Room}
 use Rattle.gencmd_file.specs.File.{descriptor, descriptors, header, image, fileLength, fileWith}
 use Rattle.gencmd_file.specs.Gencmd.{after, refusalOf, gencmd}
 use Rattle.gencmd_file.specs.Longest.{longest}
-use Rattle.gencmd_examples.specs.Texts.{end, three, four, among, last, fourLast, beyond, none-at-last, wrong, small, letter-g, colon-within, short, type-02, type-03, type-80, type-85, type-02-beyond, type-02-wrong, data-byte, no-byte, odd-end, wrong-end, short-end}
+use Rattle.gencmd_examples.specs.Texts.{end, three, four, among, last, fourLast, beyond, none-at-last, wrong, small, letter-g, colon-within, short, type-02, type-03, type-80, type-85, type-02-beyond, type-02-wrong, data-byte, code-and-data, code-and-extra, no-byte, odd-end, wrong-end, short-end}
 
 abbrev zeros : ℕ → List ℕ
 zeros n = replicate n 0
@@ -52,15 +53,23 @@ number text room = refusalNumber (refusalOf text room)
 abbrev lines : List ℕ → ℕ
 lines text = refusalNumber (linesRefusal (linesOf text))
 
--- the length of a text's file, without its bytes
+-- the paragraphs of a text's groups, and the length of its file, without its bytes
+abbrev sizesIn : List ℕ → Groups
+sizesIn text = sizesOf (reaches (linesIn text))
+
+abbrev sizes : ℕ → ℕ → ℕ → ℕ → Groups
+sizes code «data» extra stack = record { code = code; «data» = «data»; extra = extra; stack = stack }
+
 abbrev longFile : List ℕ → ℕ
-longFile text = fileLength (sizesOf (reaches (linesIn text)))
+longFile text = fileLength (sizesIn text)
 
 pub record Examples : Type 0 where
   code-alone : gencmd (three ++ end) (buffer 400) ≡ after (Written 384) (threeFile ++ buffer 16)
   four-groups : gencmd four (buffer 513) ≡ after (Written 512) (fourFile ++ buffer 1)
-  -- text around lines is ignored, and nothing is read behind the end line, not even a line whose sum is wrong
+  -- text around lines is ignored, and nothing is read behind the end line: a line there is not refused, and gives no byte
   ignored : gencmd among (buffer 384) ≡ after (Written 384) threeFile
+  -- the base page is in the data group, or else in the code group, and that one has 16 paragraphs; the others as many as their bytes need
+  page-groups : (sizesIn code-and-data ≡ sizes 1 16 0 0) × (sizesIn code-and-extra ≡ sizes 16 0 2 0)
   -- refused: every byte stays
   refused : gencmd (three ++ end) (buffer 383) ≡ after (Refused Room) (buffer 383)
   -- 70: small letters, a letter behind F, a colon within a line, a line that the text's end cuts off
@@ -76,7 +85,8 @@ pub record Examples : Type 0 where
   -- of one line 70, 71, 72, 73 in this order; of two lines the first; no test of a line comes after 74
   first-line-first : (number (type-02-wrong ++ end) 400 ∷ number (type-02-beyond ++ end) 400 ∷ number (wrong ++ (small ++ end)) 400
       ∷ number (beyond ++ (wrong ++ end)) 400 ∷ number (three ++ wrong) 400 ∷ []) ≡ (71 ∷ 72 ∷ 71 ∷ 73 ∷ 71 ∷ [])
-  no-end : (number [] 400 ∷ number three 400 ∷ number data-byte 400 ∷ []) ≡ (74 ∷ 74 ∷ 74 ∷ [])
+  -- 74 comes before 75 and 76
+  no-end : (number [] 400 ∷ number three 400 ∷ number data-byte 400 ∷ number three 0 ∷ []) ≡ (74 ∷ 74 ∷ 74 ∷ 74 ∷ [])
   -- a line without bytes gives no code byte; 75 comes before 76
   no-code : (number end 400 ∷ number (data-byte ++ end) 400 ∷ number (no-byte ++ end) 400 ∷ number end 0 ∷ []) ≡ (75 ∷ 75 ∷ 75 ∷ 75 ∷ [])
   room : (number (three ++ end) 383 ∷ number (three ++ end) 384 ∷ number four 511 ∷ number four 512 ∷ []) ≡ (76 ∷ 0 ∷ 76 ∷ 0 ∷ [])
@@ -90,6 +100,7 @@ examples-hold =
       code-alone = refl;
       four-groups = refl;
       ignored = refl;
+      page-groups = (refl, refl);
       refused = refl;
       digits = refl;
       sums = refl;

@@ -18,9 +18,10 @@ four =
     letters ":01000081017D\n" ++ (letters ":020000000203F9\n" ++ (letters ":01000F834429\n" ++ (letters ":010010843338\n"
     ++ (letters ":01010082225A\n" ++ (letters ":02000181040573\n" ++ end)))))
 
--- the three bytes with text before, between and behind: a name, digits behind a checksum, and a line right behind another's end
+-- the three bytes with text before, between and behind: a name, digits behind a checksum, and right behind the end line a line whose sum
+-- is wrong and that gives another byte, 44 at 0005H
 abbrev pub among : List ℕ
-among = letters "SIGLA 00\r\n:0300050011223392FFFF GH:00000001FF:0300050011223300"
+among = letters "SIGLA 00\r\n:0300050011223392FFFF GH:00000001FF:0100050044B5"
 
 -- a byte at FFFFH, and one beyond it; a line without bytes at FFFFH: 01 + FF + FF + 11 = 210, 02 + FF + FF + 11 + 22 = 233,
 -- FF + FF = 1FE
@@ -82,6 +83,13 @@ no-byte = letters ":0000000000\n"
 
 abbrev pub odd-end : List ℕ
 odd-end = letters ":02FFFF010000FF\n"
+
+-- a byte of code with one of data, and with one of extra at 0010H: 01 + 81 + 01 = 83, 01 + 10 + 84 + 33 = C8
+abbrev pub code-and-data : List ℕ
+code-and-data = letters ":01000081017D\n" ++ (data-byte ++ end)
+
+abbrev pub code-and-extra : List ℕ
+code-and-extra = letters ":01000081017D\n" ++ (letters ":010010843338\n" ++ end)
 
 -- an end line with a wrong sum, and one that is cut off
 abbrev pub wrong-end : List ℕ

@@ -1,5 +1,5 @@
--- Where the file has what: the header first, then each group behind the one before, by paragraphs. This is what a loader
--- relies on.
+-- Where the file has what: the header first, then each group behind the one before, by paragraphs. For the reader, beside `fileWith`: what a
+-- loader finds in the file is `FileLoads` (room gencmd_loads), which is proved without it.
 use mathlib.Core.Path.{_≡_}
 use mathlib.Core.List.{List}
 use Prim.Native.Nat.{ℕ, _+_, _*_}

@@ -6,16 +6,17 @@ use Prim.Native.Nat.{ℕ, zero, suc, _+_, _≤_, _<_}
 use native.Mathlib.Omega.{arith}
 use lib.Dec.{eqb}
 use lib.ListN.{length, getD}
+use Rattle.memory_spans.specs.Span.{paragraphs}
 use Rattle.load_header.specs.Header.{CODE, DATA, EXTRA, STACK}
 use Rattle.gencmd_groups.specs.declared.Groups.{Groups}
 use Rattle.gencmd_groups.specs.CodeMeasure.{SizeWithin}
 use Rattle.gencmd_loads.specs.Loads.{Group, nobody, there, groupsOf}
 
--- a type above b, and at most 4; a number of 16 bits
+-- a type above b, and at most that of the stack; a number of 16 bits
 pub record Small (b : ℕ) (g : Group) : Type 0 where
   pub low : b < g .type
-  pub high : g .type < 5
-  pub word : g .size < 65536
+  pub high : g .type ≤ STACK
+  pub word : g .size < paragraphs
 
 -- types that rise from above b
 abbrev pub Rising : ℕ → List Group → Type 0
@@ -29,7 +30,7 @@ rising-from : (b c : ℕ) (gs : List Group) → b ≤ c → Rising c gs → Risi
 rising-from b c [] h r = tt
 rising-from b c (g ∷ gs) h r = (small-from b c g h (r .0), r .1)
 
-rising-there : (b g n : ℕ) (gs : List Group) → b < g → g < 5 → n < 65536 → Rising g gs → Rising b (there g n ++ gs)
+rising-there : (b g n : ℕ) (gs : List Group) → b < g → g ≤ STACK → n < paragraphs → Rising g gs → Rising b (there g n ++ gs)
 rising-there b g n gs h k w r = go (eqb n 0)
   where
     go : (t : Bool) → Rising b (cond t [] (record { type = g; size = n } ∷ []) ++ gs)
@@ -62,6 +63,6 @@ rising-less b (g ∷ gs) r j zero h k = absurd (omega arith)
 rising-less b (g ∷ gs) r zero (suc i) h k = rising-at (g .type) gs (r .1) i (omega arith) .low
 rising-less b (g ∷ gs) r (suc j) (suc i) h k = rising-less (g .type) gs (r .1) j i (omega arith) (omega arith)
 
-pub rising-few : (b : ℕ) (gs : List Group) → b < 5 → Rising b gs → b + length gs < 5
+pub rising-few : (b : ℕ) (gs : List Group) → b ≤ STACK → Rising b gs → b + length gs ≤ STACK
 rising-few b [] h r = omega arith
 rising-few b (g ∷ gs) h r = let k = rising-few (g .type) gs (r .0 .high) (r .1) in omega (arith, r .0 .low)

@@ -10,7 +10,7 @@ use lib.Dec.{eqb, ltb}
 use lib.ListN.{length, getD}
 use Rattle.lists.specs.Bounded.{any, every}
 use Rattle.lists.proofs.BoundedLaws.{low-is, low-no, any-none, every-intro}
-use Rattle.load_header.specs.Header.{CODE, DATA, pageParagraphs, lengthAt, leastAt, groups, typeAt, need, goodGroup, placeOf, has, pagePlace, goodHeader}
+use Rattle.load_header.specs.Header.{CODE, DATA, LAST-AUX, pageParagraphs, lengthAt, leastAt, groups, typeAt, need, goodGroup, placeOf, has, pagePlace, goodHeader}
 use Rattle.gencmd_groups.specs.declared.Groups.{Groups}
 use Rattle.gencmd_groups.specs.Groups.{rounded, sizesOf}
 use Rattle.gencmd_groups.specs.CodeMeasure.{SizeWithin}
@@ -71,8 +71,8 @@ module _ (s : Groups) (w : SizeWithin s) (p : Paged s) where
       let k = rising-at 0 gs (rising s w) m l in
       rw (
         says .type m l,
-        le-leb 1 (getD gs m nobody .type) (omega (arith, k .low)),
-        le-leb (getD gs m nobody .type) 8 (omega (arith, k .high)),
+        le-leb CODE (getD gs m nobody .type) (omega (arith, k .low)),
+        le-leb (getD gs m nobody .type) LAST-AUX (omega (arith, k .high)),
         any-none (λ j. eqb (typeAt h j) (getD gs m nobody .type)) 0 m
             (λ j a b. rw (says .type j (omega arith)) (ne-eqb (getD gs j nobody .type) (getD gs m nobody .type) (λ e. let z = rising-less 0 gs (rising s w) j m (omega arith) l in omega arith))),
       )

@@ -12,7 +12,7 @@ use Rattle.lists.specs.Bytes.{byte}
 use Rattle.lists.specs.Bounded.{lowFrom}
 use Rattle.lists.proofs.BoundedLaws.{low-is}
 use Rattle.numbers.specs.Numbers.{bytesOf, two}
-use Rattle.load_header.specs.Header.{CODE, DATA, EXTRA, STACK, descriptors as places, descriptorBytes, formAt, lengthAt, baseAt, leastAt, mostAt, groups, typeAt}
+use Rattle.load_header.specs.Header.{CODE, DATA, EXTRA, STACK, SHARED-CODE, descriptors as places, descriptorBytes, formAt, lengthAt, baseAt, leastAt, mostAt, groups, typeAt}
 use Rattle.gencmd_groups.specs.declared.Groups.{Groups}
 use Rattle.gencmd_groups.specs.CodeMeasure.{SizeWithin}
 use Rattle.gencmd_file.specs.File.{headerBytes, descriptor, descriptors, header}
@@ -79,13 +79,13 @@ zero-behind gs k =
     first (suc k) = refl
 
 -- ---- as load reads them
-back : (n : ℕ) → n < 65536 → n % 256 + 256 * (n / 256 % 256) ≡ n
+back : (n : ℕ) → n < 256 * 256 → n % 256 + 256 * (n / 256 % 256) ≡ n
 back n h = omega arith
 
-type-is : (x : ℕ) → 0 < x → x < 5 → cond (eqb (x % 256 % 16) 9) 1 (x % 256 % 16) ≡ x
+type-is : (x : ℕ) → 0 < x → x ≤ STACK → cond (eqb (x % 256 % 16) SHARED-CODE) CODE (x % 256 % 16) ≡ x
 type-is x h k =
     let z : x % 256 % 16 ≡ x = omega arith in
-    rw (z, ne-eqb x 9 (λ e. omega arith))
+    rw (z, ne-eqb x SHARED-CODE (λ e. omega arith))
 
 module _ (gs : List Group) (k : ℕ) (r : Rising 0 gs) where
   abbrev h : List ℕ

@@ -1,4 +1,4 @@
--- The file that gencmd writes loads.
+-- The file that gencmd writes loads; and an example.
 pub mod GroupLaws
 pub mod HeaderSays
 pub mod HeaderGood
@@ -8,3 +8,4 @@ pub mod GrantsExact
 pub mod PutsLaws
 pub mod MemoryHas
 pub mod Theorem
+pub mod Examples

@@ -62,7 +62,7 @@ pub record HasRoom (bytes : ℕ) (h : List ℕ) (t : Table) : Type 0 where
   pub left : t .granted + groups h ≤ places
   pub all : length (grantsOf h t) ≡ groups h
 
--- what load leaves: 0, the groups' regions behind the others, each as long as its group, and in each the group's bytes
+-- the region that group i of a header is granted
 abbrev pub regionAt : List ℕ → Table → ℕ → Span
 regionAt h t i = getD (grantsOf h t) i none
 
@@ -73,6 +73,7 @@ pub record Holds (h : List ℕ) (g a : ℕ) : Type 0 where
   pub type : typeAt h place ≡ g
   pub inside : a < paragraphBytes * lengthAt h place
 
+-- what load leaves: 0, the groups' regions behind the others, each as long as its group, and in each the group's bytes
 pub record Leaves (ls : List Line) (h : List ℕ) (t : Table) (after : After) : Type 0 where
   pub answer : numberOf (after .reply .answer) ≡ 0
   pub table : after .reply .table ≡ withRegions t (regionsOf t ++ grantsOf h t)

@@ -1,0 +1,2 @@
+-- What the program says, whole and by examples.
+pub mod SaidLaws

@@ -1,0 +1,2 @@
+-- What the program says on standard error.
+pub mod Said

@@ -1,0 +1,2 @@
+-- Answers at the seam, evaluated.
+pub mod Examples
