@@ -13,7 +13,7 @@ use Rattle.disk_volume.specs.Name.{TOPBIT, nameOf}
 use Rattle.disk_volume.specs.Entry.{Entry, isEmpty, blockIn, ofFile}
 use Rattle.disk_volume.specs.Directory.{slotAt, findSlot}
 
--- "sixteen block numbers, 0 for none": place p of an entry's map names a block; how many places do
+-- "sixteen block numbers, 0 for none", or (xi) "eight to an entry": place p of an entry's map names a block; how many places do
 abbrev pub isUsed : Geometry → Entry → ℕ → Bool
 isUsed g e p = not (eqb (blockIn g e p) 0)
 
