@@ -10,7 +10,7 @@ use Rattle.call_fcb.specs.Fcb.{random}
 use Rattle.call_answers.specs.declared.Refusal.{Refusal}
 use Rattle.call_answers.specs.declared.Refusal.the-variants.{Protected, NoGroup}
 use Rattle.call_answers.specs.declared.Answer.the-variants.{Done, Refused}
-use Rattle.call_answers.specs.Refusal.{isNone, firstMet}
+use Rattle.call_answers.specs.Refusal.{Test, isNone, firstMet}
 use Rattle.call_read.specs.Read.{readTests, readBytes}
 use Rattle.call_write.specs.Rewrite.{withFirstTwo, shownBytes}
 use Rattle.call_write.specs.CodeWrite.{Wrote}
@@ -35,37 +35,38 @@ module _ (d : Drive) (v f : List ℕ) where
   abbrev zeros : List ℕ
   zeros = replicate 128 0
 
+  -- the tests of the directory
+  abbrev reads : List Test
+  reads = readTests (d .geometry) v (d .user) (nameOf f) (random f) NoGroup
+
   -- the read of it, refused by what is lent, and by the directory or not
   unshown : isNone (firstMet (randomLent d v f 128)) ≡ false → readRandomLeaves d v f zeros .buffer ≡ zeros
   unfolding readRandomAct outcome
   unshown no-read =
       let e : isNone (firstMet (randomTests d v f zeros)) ≡ false = rw (random-lent d v f zeros) no-read in
-      rw (stops (randomTests d v f zeros) (readTests (d .geometry) v (d .user) (nameOf f) (random f) NoGroup) (readDone d v f (random f) (random f % 128)) e)
+      rw (stops (randomTests d v f zeros) reads (readDone d v f (random f) (random f % 128)) e)
+
+  by-tests : outcome d v f zeros (unless reads (readDone d v f (random f) (random f % 128))) .buffer ≡ shownBytes (d .geometry) v (d .user) (nameOf f) (random f)
+  unfolding unless outcome readDone shownBytes
+  by-tests = go (isNone (firstMet reads))
+    where
+      go : (t : Bool) → outcome d v f zeros (cond t (readDone d v f (random f) (random f % 128)) (deny (firstMet reads))) .buffer
+          ≡ cond t (readBytes (d .geometry) v (d .user) (nameOf f) (random f)) zeros
+      go true = refl
+      go false = refl
 
   pub shown-random : isNone (firstMet (randomLent d v f 128)) ≡ true
       → readRandomLeaves d v f zeros .buffer ≡ shownBytes (d .geometry) v (d .user) (nameOf f) (random f)
   unfolding readRandomAct
   shown-random none =
-      let ts = readTests (d .geometry) v (d .user) (nameOf f) (random f) NoGroup in
       let e : isNone (firstMet (randomTests d v f zeros)) ≡ true = rw (random-lent d v f zeros) none in
-      rw (passes (randomTests d v f zeros) ts (readDone d v f (random f) (random f % 128)) e) by-tests
-    where
-      by-tests : outcome d v f zeros (unless (readTests (d .geometry) v (d .user) (nameOf f) (random f) NoGroup) (readDone d v f (random f) (random f % 128))) .buffer
-          ≡ shownBytes (d .geometry) v (d .user) (nameOf f) (random f)
-      unfolding unless outcome readDone shownBytes
-      by-tests = go (isNone (firstMet (readTests (d .geometry) v (d .user) (nameOf f) (random f) NoGroup)))
-        where
-          go : (t : Bool)
-              → outcome d v f zeros (cond t (readDone d v f (random f) (random f % 128)) (deny (firstMet (readTests (d .geometry) v (d .user) (nameOf f) (random f) NoGroup)))) .buffer
-              ≡ cond t (readBytes (d .geometry) v (d .user) (nameOf f) (random f)) zeros
-          go true = refl
-          go false = refl
+      rw (passes (randomTests d v f zeros) reads (readDone d v f (random f) (random f % 128)) e) by-tests
 
   read-length : length (readRandomLeaves d v f zeros .buffer) ≡ 128
+  unfolding randomLent
   read-length = go (isNone (firstMet (randomLent d v f 128))) refl
     where
       go : (t : Bool) → isNone (firstMet (randomLent d v f 128)) ≡ t → length (readRandomLeaves d v f zeros .buffer) ≡ 128
-      unfolding randomLent
       go true none =
           let l : Lent d (length v) (length f) 128 = named-clear d v f 128 false (both-clear (namedTests d v f 128 false) _ none .0) in
           ap length (shown-random none) ∙ length-shown (d .geometry) v (d .user) (nameOf f) (random f) (l .state .law) (l .volume)
@@ -105,7 +106,7 @@ module _ (d : Drive) (v f : List ℕ) where
       unfolding rewrittenBytes
       rewrite-decided {why} {s} {v′} {f′} {h′} {n} {left} e p w q =
           let b : withFirstTwo low high (shownBytes (d .geometry) v (d .user) (nameOf f) n) ≡ bytes =
-              ap (λ (k : ℕ). withFirstTwo low high (shownBytes (d .geometry) v (d .user) (nameOf f) k)) e ∙ ap (λ (r : List ℕ). withFirstTwo low high r) (sym (shown-random none)) in
+          ap (λ (k : ℕ). withFirstTwo low high (shownBytes (d .geometry) v (d .user) (nameOf f) k)) e ∙ ap (λ (r : List ℕ). withFirstTwo low high r) (sym (shown-random none)) in
           let w′ : Wrote (d .geometry) false v f bytes (d .user) (d .held) n (n % 128) most why v′ f′ h′ left = rw b at w in
           write-decided d v f n (n % 128) false bytes most p w′ q
           ∙ ap (cutOutcome most d v f bytes) (ap (λ (k : ℕ). unless (directoryTests d v f k) (writeDone d v f k (k % 128) false bytes)) e ∙ sym (passes (randomTests d v f bytes) _ _ lent-passed))

@@ -44,7 +44,16 @@ impl Front {
         let cr = (n % Geometry::EXTENT_RECORDS) as u8;
         let user = self.user;
         let answer = call_write::rewrite::rewrite_record(
-            g, volume, fcb, low, high, user, held, n, cr, left,
+            g,
+            volume,
+            fcb,
+            low,
+            high,
+            user,
+            held,
+            n,
+            cr,
+            left,
         );
         self.answered(answer, 0)
     }
