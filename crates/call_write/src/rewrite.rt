@@ -1,5 +1,6 @@
 // A record read and written again with its first two bytes changed, by one search of the directory.
 ghost use mathlib.Core.Path.{_≡_};
+ghost use mathlib.Core.Bool.{false};
 ghost use Prim.Native.Nat.{_<_};
 ghost use lib.ListN.{length};
 ghost use Rattle.disk_held.specs.Held.{heldWords};
@@ -7,7 +8,6 @@ ghost use Rattle.disk_geometry.specs.Geometry.{blocks};
 ghost use Rattle.disk_volume.specs.Name.{nameOf};
 ghost use Rattle.disk_volume.specs.CodeLent.{VolumeAnd, IsVolume, IsEntry, IsFcb, IsRecord};
 ghost use Rattle.call_fcb.specs.Fcb.{fileRecords};
-ghost use mathlib.Core.Bool.{false};
 ghost use Rattle.call_write.specs.Rewrite.{withFirstTwo, shownBytes};
 ghost use Rattle.call_write.specs.CodeWrite.{countedBytes, Wrote};
 use crate::write;

@@ -1,6 +1,6 @@
 -- A record read and written again with its first two bytes changed, by one search of the directory: a random write of the bytes
--- that a random read of the same control block leaves in a buffer of zeros, but for these two. Who lends it no buffer is refused as
--- if one of the right length had been lent. The desk rewrites a siglum by it (request (x)).
+-- that a random read of the same control block leaves in a buffer of zeros, but for these two. No buffer is lent, so 35 is not
+-- answered. The desk rewrites a siglum by it (request (x)).
 use mathlib.Core.List.{List}
 use Prim.Native.Nat.{ℕ}
 use lib.ListN.{replicate}
