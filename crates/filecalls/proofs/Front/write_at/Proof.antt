@@ -39,7 +39,7 @@ returns-2 : tie.Need-returns-2
 returns-2 c =
     let a = c .before .before .before .before .before .before .before .before .before .before .before .before .before .before .before .args in
     let w = c .before .before .before .before .before .write-record .ensures in
-    write-decided (joined (a .self) (now (a .held))) (now (a .volume)) (now (a .fcb)) (a .n) (a .cr) (a .fills) (now (a .buffer)) (now (a .left)) (c .before .before .before .before .before .before .before .before .before .before .before .if1 .left) (w .0) (w .1 .0) (w .1 .1 .0) (w .1 .1 .1 .0) (w .1 .1 .1 .1) (c .answered .ensures _)
+    write-decided (joined (a .self) (now (a .held))) (now (a .volume)) (now (a .fcb)) (a .n) (a .cr) (a .fills) (now (a .buffer)) (now (a .left)) (c .before .before .before .before .before .before .before .before .before .before .before .if1 .left) w (c .answered .ensures _)
 
 pub write-at-spec : {M : Type 1} → statement M
 write-at-spec =

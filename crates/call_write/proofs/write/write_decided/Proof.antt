@@ -1,0 +1,57 @@
+-- The entry grows, the stores are made, and a block that is newly taken is held.
+use mathlib.Core.Path.{_∙_}
+use native.Mathlib.Omega.{arith}
+use borrow.Author.Needs.{needs}
+use Rattle.disk_geometry.proofs.GeometryLaws.{bounds}
+use Rattle.call_write.proofs.write.write_decided.Statement.{statement}
+use Rattle.call_write.proofs.write.write_decided.Tie as tie
+
+write-entry-requires : tie.Need-write-entry-requires
+write-entry-requires c κs = search needs
+
+carry-out-requires : tie.Need-carry-out-requires
+carry-out-requires c κs =
+    let p = c .before .before .before .before .before .before .before .before .before .before .before .before .before .before .pre in
+    (p .0 .0, ((p .1 .0 .0, (p .1 .0 .1 .0, search needs)), (p .1 .1 .1 .0, (p .1 .1 .1 .1, p .1 .0 .1 .1))))
+
+-- the words have a bit for the block
+hold-if-requires : tie.Need-hold-if-requires
+hold-if-requires c κs =
+    let s = c .before .before .before .before .before .before .before .before .before .before .before .before .before .before .before .before .before .before .before .before in
+    omega (arith, s .pre .1 .1 .1 .1, bounds (s .args .g) (s .pre .0 .0 .0) .blocks-high, s .pre .0 .1)
+
+same-length : tie.Need-same-length
+same-length c = search needs
+
+same-length-2 : tie.Need-same-length-2
+same-length-2 c = search needs
+
+same-length-3 : tie.Need-same-length-3
+same-length-3 c = search needs
+
+same-length-4 : tie.Need-same-length-4
+same-length-4 c = search needs
+
+returns : tie.Need-returns
+returns c =
+    let e = c .before .before .before .before .before .before .before .before .before .before .before .before .before .before .before .before .write-entry .ensures in
+    let o = c .before .before .before .before .before .before .before .before .carry-out .ensures in
+    record {
+      volume-is = o .0 ∙ rw e;
+      fcb-is = o .1 .0 ∙ rw e;
+      held-is = c .before .before .hold-if .ensures;
+      left-is = o .1 .1 ∙ rw e;
+    }
+
+pub write-decided-spec : {M : Type 1} → statement M
+write-decided-spec =
+    tie.close
+    (tie.spec
+    write-entry-requires
+    carry-out-requires
+    hold-if-requires
+    same-length
+    same-length-2
+    same-length-3
+    same-length-4
+    returns)
