@@ -31,7 +31,7 @@ use Rattle.call_entry.specs.Grown.{likeEntry}
 use Rattle.call_entry.proofs.GrowLaws.{like-extent}
 use Rattle.call_decide.specs.Write.{hasGroup, baseEntry, needsBlock, writeBlock, writeTests}
 use Rattle.call_decide.specs.CodePlan.{Decided}
-use Rattle.call_decide.proofs.WriteLaws.{length-base, write-passed}
+use Rattle.call_decide.proofs.WriteLaws.{write-passed}
 use Rattle.call_write.specs.Rewrite.{shownBytes}
 use Rattle.call_write.specs.CodeWrite.{Carried, Wrote, countedBytes}
 
@@ -54,12 +54,7 @@ module _ (g : Geometry) (fills : Bool) (v fcb b : List ℕ) (u : ℕ) (held : Li
       left-is = rw none (c .left-is ∙ rw (d .entry-is, d .slot-is, d .block-is, d .fresh-is));
     }
 
-    -- the entry is a whole one, and slot and block lie in the volume
-    pub entry-fits : lawful g ≡ true → length v ≡ bytes g → length e ≡ 32
-    entry-fits good size =
-        ap length (d .entry-is)
-        ∙ length-base g v u (nameOf fcb) n good size (write-passed g held v u (nameOf fcb) n (ap isNone (sym why) ∙ none) .file)
-
+    -- slot and block lie in the volume
     pub slot-fits : slot < slots g
     slot-fits = rw (d .slot-is) (write-passed g held v u (nameOf fcb) n (ap isNone (sym why) ∙ none) .slot-in)
 

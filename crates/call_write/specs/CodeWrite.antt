@@ -3,9 +3,8 @@ use mathlib.Core.Path.{_≡_}
 use mathlib.Core.Bool.{Bool, cond, _&&_}
 use mathlib.Core.List.{List}
 use Prim.Native.Nat.{ℕ, _-_}
-use lib.ListN.{length, replicate}
+use lib.ListN.{length}
 use Rattle.disk_geometry.specs.declared.Geometry.{Geometry}
-use Rattle.disk_geometry.specs.Geometry.{recordBytes}
 use Rattle.disk_volume.specs.Name.{nameOf}
 use Rattle.disk_volume.specs.Entry.{Entry}
 use Rattle.disk_volume.specs.Record.{counted, recordAt}
@@ -17,6 +16,7 @@ use Rattle.call_entry.specs.Grown.{writtenEntry}
 use Rattle.call_store.specs.Stores.{dataThenEntry}
 use Rattle.call_decide.specs.Write.{needsBlock, writeBlock, entryAfter, writeTests}
 use Rattle.call_write.specs.Write.{writeStores, holdIf}
+use Rattle.call_write.specs.Rewrite.{withFirstTwo}
 
 -- the stores of a write that is decided: into this block, and by the entry e that grows in this slot
 abbrev pub decidedStores : Geometry → Bool → List ℕ → List ℕ → ℕ → ℕ → ℕ → Bool → Entry → List Store
@@ -34,6 +34,10 @@ pub record Carried (g : Geometry) (fills : Bool) (v fcb b held : List ℕ) (n cr
 -- record n by the entry e, if that counts it
 abbrev pub countedBytes : Geometry → List ℕ → Entry → ℕ → ℕ → List ℕ → List ℕ
 countedBytes g v e n block b = cond (counted g e n) (recordAt g v block n) b
+
+-- the bytes of a write, laid over others, by the entry e that grows
+abbrev pub laidBytes : Geometry → List ℕ → Entry → ℕ → ℕ → List ℕ → Bool → ℕ → ℕ → List ℕ → List ℕ
+laidBytes g v e n block b again low high over = cond again (withFirstTwo low high (countedBytes g v e n block over)) b
 
 -- what a write of record n with the bytes b answers, and all that it leaves: a refusal alters nothing
 module _ (g : Geometry) (fills : Bool) (v fcb b : List ℕ) (u : ℕ) (held : List ℕ) (n cr most : ℕ) where

@@ -1,5 +1,6 @@
 -- A record read and written again with its first two bytes changed: the bytes that are written. A reading record "has its siglum
 -- in bytes 0 and 1", and the desk changes these alone (request (x)).
+use mathlib.Core.Bool.{Bool, cond}
 use mathlib.Core.List.{List}
 use Prim.Native.Nat.{ℕ}
 use lib.ListN.{set, replicate}
@@ -17,3 +18,7 @@ withFirstTwo low high r = set (set r 0 low) 1 high
 unfoldable pub shownBytes : Geometry → List ℕ → ℕ → List ℕ → ℕ → List ℕ
 shownBytes g v u name n =
     unlessRefused (firstMet (readTests g v u name n NoGroup)) (readBytes g v u name n) (replicate recordBytes 0)
+
+-- the bytes of a write of record n: those of the buffer, or, if it is written `again`, those that a read shows, but for the first two
+abbrev pub bytesOf : Geometry → List ℕ → ℕ → List ℕ → ℕ → List ℕ → Bool → ℕ → ℕ → List ℕ
+bytesOf g v u name n b again low high = cond again (withFirstTwo low high (shownBytes g v u name n)) b

@@ -1,13 +1,16 @@
 // The write of a record: decided first, by reading alone, and then carried out by stores with no test in between.
 ghost use mathlib.Core.Path.{_≡_};
 ghost use Prim.Native.Nat.{_<_};
-ghost use lib.ListN.{length};
+ghost use lib.ListN.{length, replicate};
 ghost use Rattle.disk_held.specs.Held.{heldWords, room};
-ghost use Rattle.disk_geometry.specs.Geometry.{slots, blocks};
+ghost use Rattle.disk_geometry.specs.Geometry.{slots, blocks, recordBytes};
+ghost use Rattle.disk_volume.specs.Name.{nameOf};
 ghost use Rattle.disk_volume.specs.CodeLent.{IsVolume, IsEntry, IsFcb, IsRecord};
 ghost use Rattle.call_fcb.specs.Fcb.{fileRecords};
 ghost use Rattle.call_write.specs.Write.{holdIf};
-ghost use Rattle.call_write.specs.CodeWrite.{Carried, Wrote};
+ghost use Rattle.call_write.specs.Rewrite.{bytesOf};
+ghost use Rattle.call_write.specs.CodeWrite.{laidBytes, Carried, Wrote};
+use crate::rewrite;
 use call_answers::Refusal;
 use call_decide::WritePlan;
 use disk_geometry::Geometry;
@@ -25,13 +28,17 @@ fn hold_if(held: &mut [u64], fresh: bool, b: usize)
 }
 
 // Carries out the write of record n that was decided, as long as a store is left: e is the entry that grows. If it `fills`, a
-// block that the record's place is given is first filled with zeros.
-pub(crate) fn write_decided(
+// block that the record's place is given is first filled with zeros. If the record is written `again`, its bytes are those that
+// stand, but for the first two.
+fn write_decided(
     g: Geometry,
     fills: bool,
     volume: &mut [u8],
     fcb: &mut [u8],
     buffer: &[u8],
+    again: bool,
+    low: u8,
+    high: u8,
     e: &mut [u8],
     plan: WritePlan,
     held: &mut [u64],
@@ -43,11 +50,26 @@ pub(crate) fn write_decided(
     requires { ⌜ IsFcb (now fcb) × (IsRecord (now buffer) × (n < fileRecords)) ⌝ }
     requires { ⌜ IsEntry (now e) × ((plan .slot < slots g) × (plan .block < blocks g)) ⌝ }
     ensures { λ _. ⌜
-        Carried g fills (now (volume .entry)) (now (fcb .entry)) (now (buffer .entry)) (now (held .entry)) n cr (now (left .entry))
+        Carried g fills (now (volume .entry)) (now (fcb .entry))
+        (laidBytes g (now (volume .entry)) (now (e .entry)) n (plan .block) (now (buffer .entry)) again low high (replicate recordBytes 0))
+        (now (held .entry)) n cr (now (left .entry))
         (plan .slot) (plan .block) (plan .fresh) (now (e .entry))
         (now (volume .exit)) (now (fcb .exit)) (now (held .exit)) (now (left .exit))
         ⌝ }
 {
+    let mut bytes = [0u8; Geometry::RECORD_BYTES];
+    rewrite::lay_bytes(
+        g,
+        volume,
+        e,
+        n,
+        plan.block,
+        buffer,
+        again,
+        low,
+        high,
+        &mut bytes,
+    );
     call_entry::write_entry(g, e, n, plan.block);
     let fill = fills & plan.fresh;
     call_store::carry_out(
@@ -55,7 +77,7 @@ pub(crate) fn write_decided(
         fill,
         volume,
         fcb,
-        buffer,
+        &bytes,
         e,
         plan.slot,
         plan.block,
@@ -68,12 +90,16 @@ pub(crate) fn write_decided(
 
 // Writes record n of the file that the control block names, as long as a store is left, and sets the control block to it,
 // with this cr; or refuses, and alters nothing. If it `fills`, a block that the record's place is given is first filled with zeros.
+// Its bytes are the buffer's, or, if the record is written `again`, those that a read shows, but for the first two.
 pub fn write_record(
     g: Geometry,
     fills: bool,
     volume: &mut [u8],
     fcb: &mut [u8],
     buffer: &[u8],
+    again: bool,
+    low: u8,
+    high: u8,
     user: u8,
     held: &mut [u64],
     n: usize,
@@ -83,7 +109,9 @@ pub fn write_record(
     requires { ⌜ IsVolume g (now volume) × (length (now held) ≡ heldWords) ⌝ }
     requires { ⌜ IsFcb (now fcb) × (IsRecord (now buffer) × (n < fileRecords)) ⌝ }
     ensures { λ r. ⌜
-        Wrote g fills (now (volume .entry)) (now (fcb .entry)) (now (buffer .entry)) user (now (held .entry)) n cr (now (left .entry))
+        Wrote g fills (now (volume .entry)) (now (fcb .entry))
+        (bytesOf g (now (volume .entry)) user (nameOf (now (fcb .entry))) n (now (buffer .entry)) again low high)
+        user (now (held .entry)) n cr (now (left .entry))
         r (now (volume .exit)) (now (fcb .exit)) (now (held .exit)) (now (left .exit))
         ⌝ }
 {
@@ -107,6 +135,9 @@ pub fn write_record(
         volume,
         fcb,
         buffer,
+        again,
+        low,
+        high,
         &mut e,
         plan,
         held,

@@ -7,7 +7,6 @@ ghost use Rattle.filecalls.specs.Rewrite.{rewrittenBytes};
 ghost use Rattle.filecalls.specs.CodeFront.{joined, joinedReply};
 use crate::Front;
 use crate::FrontReply;
-use call_answers::Refusal;
 use disk_geometry::Geometry;
 use disk_held::WORDS;
 
@@ -36,25 +35,21 @@ impl Front {
         if !call_answers::is_none(why) {
             return self.refused(why);
         }
-        if self.protected {
-            return self.refused(Refusal::Protected);
-        }
-        let g = self.geometry;
+        let buffer = [0u8; Geometry::RECORD_BYTES];
         let n = call_fcb::random_of(fcb);
         let cr = (n % Geometry::EXTENT_RECORDS) as u8;
-        let user = self.user;
-        let answer = call_write::rewrite::rewrite_record(
-            g,
+        self.write_at(
+            held,
             volume,
             fcb,
+            &buffer,
+            true,
             low,
             high,
-            user,
-            held,
             n,
             cr,
+            false,
             left,
-        );
-        self.answered(answer, 0)
+        )
     }
 }

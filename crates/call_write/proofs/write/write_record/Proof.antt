@@ -1,6 +1,8 @@
 -- A refusal comes before every store. Where no test is met, what was decided is what is defined, and it lies in the volume.
-use mathlib.Core.Path.{_≡_, sym, _∙_}
-use mathlib.Core.Bool.{true, false}
+use mathlib.Core.Path.{_≡_, sym, ap, _∙_}
+use mathlib.Core.Bool.{true, false, cond}
+use mathlib.Core.List.{List}
+use Prim.Native.Nat.{ℕ}
 use denote.Ref.{now}
 use borrow.Author.Tests.{not-true, not-false}
 use borrow.Author.Needs.{needs}
@@ -8,7 +10,8 @@ use Rattle.lists.specs.Bytes.{part}
 use Rattle.disk_volume.specs.Name.{nameAt, nameOf}
 use Rattle.call_answers.specs.Refusal.{isNone}
 use Rattle.call_decide.specs.CodePlan.{Decided}
-use Rattle.call_write.proofs.DecidedLaws.{wrote-nothing, wrote, slot-fits, block-fits}
+use Rattle.call_write.specs.Rewrite.{withFirstTwo, bytesOf}
+use Rattle.call_write.proofs.DecidedLaws.{wrote-nothing, wrote, slot-fits, block-fits, shown-counted}
 use Rattle.call_write.proofs.write.write_record.Statement.{statement}
 use Rattle.call_write.proofs.write.write_record.Tie as tie
 
@@ -18,6 +21,10 @@ none-met c = sym (c .before .is-none .ensures) ∙ not-false (c .before .is-none
 decided : (c : tie.Else1) → (let a = c .before .before .before .before .before .before .before .before .before .before .before .before .before .args in let r = c .before .before .before .decide .result in Decided (a .g) (now (a .held)) (now (a .volume)) (a .user) (nameOf (now (a .fcb))) (a .n) (r .slot) (r .block) (r .fresh) (c .before .before .before .decide .last .1 .1 .1 .1 .1 .1 .0))
 unfolding nameAt part
 decided c = c .before .before .before .decide .ensures .1 (none-met c)
+
+-- the bytes that are written
+abbrev bytes : (s : tie.Start) → List ℕ
+bytes s = let a = s .args in bytesOf (a .g) (now (a .volume)) (a .user) (nameOf (now (a .fcb))) (a .n) (now (a .buffer)) (a .again) (a .low) (a .high)
 
 sub-decide : tie.Need-sub-decide
 sub-decide c = search needs
@@ -49,9 +56,10 @@ same-length-3 c = search needs
 returns : tie.Need-returns
 unfolding nameAt part
 returns c =
-    let a = c .before .before .before .before .before .before .before .before .before .before .before .before .before .args in
+    let s = c .before .before .before .before .before .before .before .before .before .before .before .before .before in
+    let a = s .args in
     let met : isNone (c .before .before .before .decide .result .why) ≡ false = sym (c .before .is-none .ensures) ∙ not-true (c .before .is-none .result) (c .if1 .taken) in
-    wrote-nothing (a .g) (a .fills) (now (a .volume)) (now (a .fcb)) (now (a .buffer)) (a .user) (now (a .held)) (a .n) (a .cr) (now (a .left)) (c .before .before .before .decide .ensures .0) met
+    wrote-nothing (a .g) (a .fills) (now (a .volume)) (now (a .fcb)) (bytes s) (a .user) (now (a .held)) (a .n) (a .cr) (now (a .left)) (c .before .before .before .decide .ensures .0) met
 
 slice-aggregate-write-decided : tie.Need-slice-aggregate-write-decided
 slice-aggregate-write-decided c = search needs
@@ -70,8 +78,8 @@ write-decided-requires c κs =
         (
           search needs,
           (
-            slot-fits (a .g) (a .fills) (now (a .volume)) (now (a .fcb)) (now (a .buffer)) (a .user) (now (a .held)) (a .n) (a .cr) (now (a .left)) w none d,
-            block-fits (a .g) (a .fills) (now (a .volume)) (now (a .fcb)) (now (a .buffer)) (a .user) (now (a .held)) (a .n) (a .cr) (now (a .left)) w none d,
+            slot-fits (a .g) (a .fills) (now (a .volume)) (now (a .fcb)) (bytes s) (a .user) (now (a .held)) (a .n) (a .cr) (now (a .left)) w none d,
+            block-fits (a .g) (a .fills) (now (a .volume)) (now (a .fcb)) (bytes s) (a .user) (now (a .held)) (a .n) (a .cr) (now (a .left)) w none d,
           ),
         ),
       ),
@@ -89,9 +97,14 @@ same-length-6 c = search needs
 returns-2 : tie.Need-returns-2
 unfolding nameAt part
 returns-2 c =
-    let a = c .before .before .before .before .before .before .before .before .before .before .before .before .before .before .before .before .before .before .before .before .before .before .before .before .before .before .args in
+    let s = c .before .before .before .before .before .before .before .before .before .before .before .before .before .before .before .before .before .before .before .before .before .before .before .before .before .before in
+    let a = s .args in
     let e = c .before .before .before .before .before .before .before .before .before .before .before .before .before in
-    wrote (a .g) (a .fills) (now (a .volume)) (now (a .fcb)) (now (a .buffer)) (a .user) (now (a .held)) (a .n) (a .cr) (now (a .left)) (c .before .before .before .before .before .before .before .before .before .before .before .before .before .before .before .before .decide .ensures .0) (none-met e) (decided e) (c .before .before .before .before .before .before .before .write-decided .ensures)
+    let w = c .before .before .before .before .before .before .before .before .before .before .before .before .before .before .before .before .decide .ensures .0 in
+    let d = decided e in
+    let shown = shown-counted (a .g) (now (a .held)) (now (a .volume)) (a .user) (nameOf (now (a .fcb))) (a .n) (s .pre .0 .0 .0) (s .pre .0 .0 .1) (ap isNone (sym w) ∙ none-met e) (d .entry-is) (d .block-is) in
+    let b = ap (λ (x : List ℕ). cond (a .again) (withFirstTwo (a .low) (a .high) x) (now (a .buffer))) shown in
+    wrote (a .g) (a .fills) (now (a .volume)) (now (a .fcb)) (bytes s) (a .user) (now (a .held)) (a .n) (a .cr) (now (a .left)) w (none-met e) d (rw b at (c .before .before .before .before .before .before .before .write-decided .ensures))
 
 pub write-record-spec : {M : Type 1} → statement M
 write-record-spec =
