@@ -1,4 +1,4 @@
 // The writes, over what is lent to them.
 
-pub mod rewrite;
+mod rewrite;
 pub mod write;

@@ -2,22 +2,21 @@
 -- record finds, and they are as many as a buffer has.
 use mathlib.Core.Path.{_≡_, refl, sym, ap, _∙_}
 use mathlib.Core.Bool.{Bool, true, false, not, cond}
-use mathlib.Core.List.{List, _++_}
+use mathlib.Core.List.{List}
 use Prim.Native.Nat.{ℕ, _%_}
 use lib.ListN.{length, set, replicate, length-set}
 use Rattle.disk_volume.specs.Name.{nameOf}
 use Rattle.call_fcb.specs.Fcb.{random}
 use Rattle.call_answers.specs.declared.Refusal.{Refusal}
-use Rattle.call_answers.specs.declared.Refusal.the-variants.{Protected, NoGroup}
-use Rattle.call_answers.specs.declared.Answer.the-variants.{Done, Refused}
+use Rattle.call_answers.specs.declared.Refusal.the-variants.{NoGroup}
+use Rattle.call_answers.specs.declared.Answer.the-variants.{Refused}
 use Rattle.call_answers.specs.Refusal.{Test, isNone, firstMet}
 use Rattle.call_read.specs.Read.{readTests, readBytes}
 use Rattle.call_write.specs.Rewrite.{withFirstTwo, shownBytes}
-use Rattle.call_write.specs.CodeWrite.{Wrote}
 use Rattle.call_write.proofs.DecidedLaws.{length-shown}
 use Rattle.filecalls.specs.declared.Drive.{Drive}
 use Rattle.filecalls.specs.declared.Reply.{Reply}
-use Rattle.filecalls.specs.Outcome.{Act, deny, unless, outcome, withHeld}
+use Rattle.filecalls.specs.Outcome.{deny, unless, outcome}
 use Rattle.filecalls.specs.Leaves.{readRandomLeaves}
 use Rattle.filecalls.specs.Read.{randomTests, readDone, readRandomAct}
 use Rattle.filecalls.specs.Write.{directoryTests, writeDone, writeDirectAct}
@@ -26,10 +25,9 @@ use Rattle.filecalls.specs.Rewrite.{rewrittenBytes}
 use Rattle.filecalls.specs.CodeReady.{Lent}
 use Rattle.filecalls.specs.CodeLadder.{namedTests, randomLent}
 use Rattle.filecalls.proofs.StateLaws.{both-clear, named-clear}
-use Rattle.filecalls.proofs.OutcomeLaws.{stops, passes, stops-here}
-use Rattle.filecalls.proofs.CutLaws.{cut-no, cut-refused-at}
+use Rattle.filecalls.proofs.OutcomeLaws.{stops, passes}
+use Rattle.filecalls.proofs.CutLaws.{cut-refused-at}
 use Rattle.filecalls.proofs.LentLaws.{random-lent}
-use Rattle.filecalls.proofs.WriteLaws.{write-decided}
 
 module _ (d : Drive) (v f : List ℕ) where
   abbrev zeros : List ℕ
@@ -94,19 +92,15 @@ module _ (d : Drive) (v f : List ℕ) where
       lent-passed : isNone (firstMet (randomTests d v f bytes)) ≡ true
       lent-passed = rw tests-are none
 
-      pub rewrite-protected : {r : Reply} → d .protected ≡ true → r ≡ record { answer = Refused Protected; drive = d }
-          → cutLeft r v f bytes most ≡ cutOutcome most d v f bytes (writeDirectAct false d v f bytes)
-      rewrite-protected p q =
-          cut-no d v f bytes most (passes (randomTests d v f bytes) _ _ lent-passed ∙ stops-here Protected _ _ _ p refl) q
-
-      pub rewrite-decided : {why : Refusal} {s : Reply} {v′ f′ h′ : List ℕ} {n left : ℕ} → n ≡ random f → d .protected ≡ false
-          → Wrote (d .geometry) false v f (withFirstTwo low high (shownBytes (d .geometry) v (d .user) (nameOf f) n)) (d .user) (d .held) n (n % 128) most why v′ f′ h′ left
-          → s ≡ record { answer = cond (isNone why) (Done 0) (Refused why); drive = withHeld d h′ }
+      -- record n, which r0 r1 hold, is written with its first two bytes changed
+      pub rewrite-done : {s : Reply} {v′ f′ : List ℕ} {n left : ℕ} → n ≡ random f
+          → (let b = withFirstTwo low high (shownBytes (d .geometry) v (d .user) (nameOf f) n) in
+          cutLeft s v′ f′ b left ≡ cutOutcome most d v f b (unless (directoryTests d v f n) (writeDone d v f n (n % 128) false b)))
           → cutLeft s v′ f′ bytes left ≡ cutOutcome most d v f bytes (writeDirectAct false d v f bytes)
       unfolding rewrittenBytes
-      rewrite-decided {why} {s} {v′} {f′} {h′} {n} {left} e p w q =
+      rewrite-done {s} {v′} {f′} {n} {left} e w =
           let b : withFirstTwo low high (shownBytes (d .geometry) v (d .user) (nameOf f) n) ≡ bytes =
           ap (λ (k : ℕ). withFirstTwo low high (shownBytes (d .geometry) v (d .user) (nameOf f) k)) e ∙ ap (λ (r : List ℕ). withFirstTwo low high r) (sym (shown-random none)) in
-          let w′ : Wrote (d .geometry) false v f bytes (d .user) (d .held) n (n % 128) most why v′ f′ h′ left = rw b at w in
-          write-decided d v f n (n % 128) false bytes most p w′ q
+          let w′ : cutLeft s v′ f′ bytes left ≡ cutOutcome most d v f bytes (unless (directoryTests d v f n) (writeDone d v f n (n % 128) false bytes)) = rw b at w in
+          w′
           ∙ ap (cutOutcome most d v f bytes) (ap (λ (k : ℕ). unless (directoryTests d v f k) (writeDone d v f k (k % 128) false bytes)) e ∙ sym (passes (randomTests d v f bytes) _ _ lent-passed))

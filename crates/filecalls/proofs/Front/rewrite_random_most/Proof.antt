@@ -1,11 +1,11 @@
--- The tests of what is lent come first in the ladder, then 37; the write of the record hands back just what the act leaves.
+-- Holds since the tests of what is lent come first in the ladder, and leave the rest of it to the write at r0 r1.
 use mathlib.Core.List.{List, []}
 use Prim.Native.Nat.{ℕ}
 use denote.Ref.{now}
 use borrow.Author.Needs.{needs}
 use Rattle.filecalls.specs.CodeFront.{joined}
 use Rattle.filecalls.proofs.LentLaws.{Random, random-passed}
-use Rattle.filecalls.proofs.RewriteLaws.{rewrite-refused, rewrite-protected, rewrite-decided}
+use Rattle.filecalls.proofs.RewriteLaws.{rewrite-refused, rewrite-done}
 use Rattle.filecalls.proofs.Front.rewrite_random_most.Statement.{statement}
 use Rattle.filecalls.proofs.Front.rewrite_random_most.Tie as tie
 
@@ -34,8 +34,17 @@ returns c =
     rewrite-refused (joined (a .self) held) (now (a .volume)) (now (a .fcb)) (a .low) (a .high) (now (a .left))
     (c .before .before .before .random-why .ensures held) (c .before .before .is-none .ensures) (c .before .if1 .taken) (c .refused .ensures held)
 
-refused-requires-2 : tie.Need-refused-requires-2
-refused-requires-2 c κs = search needs
+random-of-requires : tie.Need-random-of-requires
+random-of-requires c κs = clear [] (c .before) .lent .fcb
+
+cast-cr : tie.Need-cast-cr
+cast-cr c = search needs
+
+slice-aggregate-write-at : tie.Need-slice-aggregate-write-at
+slice-aggregate-write-at c = search needs
+
+write-at-requires : tie.Need-write-at-requires
+write-at-requires c κs = (clear [] (c .before .before .before .before .before .before .before) .lent, c .before .before .before .before .before .random-of .ensures .1)
 
 same-length-3 : tie.Need-same-length-3
 same-length-3 c = search needs
@@ -45,38 +54,10 @@ same-length-4 c = search needs
 
 returns-2 : tie.Need-returns-2
 returns-2 c =
-    let a = c .before .before .before .before .before .before .before .before .before .args in
+    let a = c .before .before .before .before .before .before .before .before .before .before .before .before .before .before .before .before .before .before .before .args in
     let held = now (a .held) in
-    rewrite-protected (joined (a .self) held) (now (a .volume)) (now (a .fcb)) (a .low) (a .high) (now (a .left))
-    (clear held (c .before .before) .none) (c .before .if2 .taken) (c .refused2 .ensures held)
-
-random-of-requires : tie.Need-random-of-requires
-random-of-requires c κs = clear [] (c .before .before .before) .lent .fcb
-
-cast-cr : tie.Need-cast-cr
-cast-cr c = search needs
-
-rewrite-record-requires : tie.Need-rewrite-record-requires
-rewrite-record-requires c κs =
-    let l = clear [] (c .before .before .before .before .before .before .before .before) .lent in
-    (((l .state .law, l .volume), search needs), (l .fcb, c .before .before .before .before .random-of .ensures .1))
-
-answered-requires : tie.Need-answered-requires
-answered-requires c κs = search needs
-
-same-length-5 : tie.Need-same-length-5
-same-length-5 c = search needs
-
-same-length-6 : tie.Need-same-length-6
-same-length-6 c = search needs
-
-returns-3 : tie.Need-returns-3
-returns-3 c =
-    let a = c .before .before .before .before .before .before .before .before .before .before .before .before .before .before .before .before .before .before .before .before .before .args in
-    let held = now (a .held) in
-    rewrite-decided (joined (a .self) held) (now (a .volume)) (now (a .fcb)) (a .low) (a .high) (now (a .left))
-    (clear held (c .before .before .before .before .before .before .before .before .before .before .before .before .before .before) .none) (c .before .before .before .before .before .before .before .before .before .before .random-of .ensures .0) (c .before .before .before .before .before .before .before .before .before .before .before .before .before .if2 .left)
-    (c .before .before .before .before .before .rewrite-record .ensures) (c .answered .ensures _)
+    rewrite-done (joined (a .self) held) (now (a .volume)) (now (a .fcb)) (a .low) (a .high) (now (a .left))
+    (clear held (c .before .before .before .before .before .before .before .before .before .before .before .before) .none) (c .before .before .before .before .before .before .before .before .before .before .random-of .ensures .0) (c .before .before .before .before .write-at .ensures)
 
 pub rewrite-random-most-spec : {M : Type 1} → statement M
 rewrite-random-most-spec =
@@ -88,14 +69,10 @@ rewrite-random-most-spec =
     same-length
     same-length-2
     returns
-    refused-requires-2
-    same-length-3
-    same-length-4
-    returns-2
     random-of-requires
     cast-cr
-    rewrite-record-requires
-    answered-requires
-    same-length-5
-    same-length-6
-    returns-3)
+    slice-aggregate-write-at
+    write-at-requires
+    same-length-3
+    same-length-4
+    returns-2)
