@@ -35,20 +35,20 @@ def counts(named, marked):
 
 
 def chapters(found, markdown):
-    """a chapter's siglum replaced by the desk, beside the reads and writes of a caller who tests everything first, to which the aim is held,
-    and beside each record read once; which missed the aim"""
+    """a chapter's siglum replaced by the desk, beside each record read once and each match written once, to which the aim is held, and
+    beside the reads and writes of a caller who tests everything first; which missed the aim"""
     missed = []
-    head, row = ("| records that match | entries | instructions | tested first | each read once | aim |\n|---|---|---|---|---|---|",
-                 "| {} | {} | {:,} | {:.2f} | {:.2f} | {} |") if markdown else \
-        (f"{'a siglum replaced':<20}{'entries':<20}{'instructions':>16}  tested first  each read once    aim",
-         "{:<20}{:<20}{:>16,}{:>14.2f}{:>16.2f}{:>7.1f}")
+    head, row = ("| records that match | entries | instructions | each read once | aim | tested first |\n|---|---|---|---|---|---|",
+                 "| {} | {} | {:,} | {:.2f} | {} | {:.2f} |") if markdown else \
+        (f"{'a siglum replaced':<20}{'entries':<20}{'instructions':>16}  each read once    aim  tested first",
+         "{:<20}{:<20}{:>16,}{:>16.2f}{:>7.1f}{:>14.2f}")
     print(head)
     for work, by_shape in found.items():
         match, entries = work.replace("-", " ").split(":")
         for sides in by_shape.values():
             ours, tested, once = (sides[side] for side in DESK)
-            print(row.format(match, entries, ours, ours / tested, ours / once, AIM))
-            if ours > AIM * tested:
+            print(row.format(match, entries, ours, ours / once, AIM, ours / tested))
+            if ours > AIM * once:
                 missed.append(f"{match}, {entries}")
     print()
     return missed

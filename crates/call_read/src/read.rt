@@ -24,7 +24,7 @@ pub enum ReadPlan {
 }
 
 // Does the entry count record n, and is its place used?
-fn is_counted(g: Geometry, e: &[u8], n: usize) -> bool
+pub fn is_counted(g: Geometry, e: &[u8], n: usize) -> bool
     requires { ⌜ (lawful g ≡ true) × IsEntry (now e) ⌝ }
     ensures { λ r. ⌜ r ≡ counted g (now (e .entry)) n ⌝ }
 {

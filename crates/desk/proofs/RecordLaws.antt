@@ -2,7 +2,7 @@
 use mathlib.Core.Path.{_≡_, refl, sym, ap, _∙_}
 use mathlib.Core.Bool.{Bool, true, false, cond}
 use mathlib.Core.List.{List}
-use Prim.Native.Nat.{ℕ, _≤_}
+use Prim.Native.Nat.{ℕ, _/_, _%_, _≤_}
 use native.Mathlib.Omega.{arith}
 use lib.ListN.{length, replicate}
 use Rattle.disk_stores.specs.Stores.{laid}
@@ -15,6 +15,7 @@ use Rattle.filecalls.specs.Outcome.{Act, deny, done, actStores, Outcome, outcom
 use Rattle.filecalls.specs.Leaves.{readRandomLeaves}
 use Rattle.filecalls.specs.Write.{writeDirectAct, writeRandomAct}
 use Rattle.filecalls.specs.Stores.{Cut, cutOutcome}
+use Rattle.filecalls.specs.Rewrite.{rewrittenBytes}
 use Rattle.filecalls.proofs.EnoughLaws.{direct-enough}
 use Rattle.desk.specs.Records.{shown, unread, recordShown, withSiglum, written, rewritten}
 use Rattle.desk.specs.Replace.{rewriteIf}
@@ -30,12 +31,13 @@ shows d v f n r {why} {k} {copy} {b} {f′} {b′} e z l h w =
     let o : left r v f′ b′ ≡ readRandomLeaves d v (withRandom f n) (replicate 128 0) = rw (e, y) at h in
     (w ∙ ap (λ (x : Outcome). whyOf (x .answer)) o, ap (λ (x : Outcome). x .buffer) o)
 
--- as long as a store is left
-pub writes : (d : Drive) (v f : List ℕ) (n : ℕ) (b : List ℕ) (most : ℕ) {copy : List ℕ} {x : Cut} → copy ≡ withRandom f n
-    → x ≡ cutOutcome most d v copy b (writeDirectAct false d v copy b)
-    → Stored (d .geometry) v most (writtenStores d v f n b) (x .outcome .volume) (x .left)
-unfolding writtenStores cutOutcome
-writes d v f n b most {copy} {x} e h =
+-- a record read and written again with another siglum, as long as a store is left
+pub rewrites : (d : Drive) (v f : List ℕ) (n siglum most : ℕ) {copy : List ℕ} {x : Cut} → copy ≡ withRandom f n
+    → x ≡ cutOutcome most d v copy (rewrittenBytes d v copy (siglum % 256) (siglum / 256)) (writeDirectAct false d v copy (rewrittenBytes d v copy (siglum % 256) (siglum / 256)))
+    → Stored (d .geometry) v most (rewrittenStores d f siglum v n) (x .outcome .volume) (x .left)
+unfolding rewrittenStores writtenStores shown rewrittenBytes cutOutcome
+rewrites d v f n siglum most {copy} {x} e h =
+    let b = rewrittenBytes d v (withRandom f n) (siglum % 256) (siglum / 256) in
     let o : x ≡ cutOutcome most d v (withRandom f n) b (writeDirectAct false d v (withRandom f n) b) = rw e at h in
     record { volume-is = ap (λ (y : Cut). y .outcome .volume) o; left-is = ap (λ (y : Cut). y .left) o }
 

@@ -6,12 +6,11 @@ ghost use lib.ListN.{length};
 ghost use Rattle.disk_geometry.specs.Geometry.{recordBytes};
 ghost use Rattle.call_fcb.specs.Fcb.{fcbBytes, fileRecords, withRandom};
 ghost use Rattle.filecalls.specs.CodeFront.{joined};
-ghost use Rattle.desk.specs.Records.{unread, recordShown, withSiglum};
-ghost use Rattle.desk.specs.Stores.{writtenStores, rewrittenStores};
+ghost use Rattle.desk.specs.Records.{unread, recordShown};
+ghost use Rattle.desk.specs.Stores.{rewrittenStores};
 ghost use Rattle.desk.specs.CodeDesk.{Stored};
 use call_answers::Refusal;
 use call_fcb::FCB_BYTES;
-use disk_geometry::Geometry;
 use disk_held::WORDS;
 use filecalls::Front;
 
@@ -43,40 +42,8 @@ pub(crate) fn show(front: Front, volume: &[u8], fcb: &[u8], n: usize, buffer: &m
     call_answers::why_of(answer)
 }
 
-// Writes record n as long as a store is left. The held blocks that the write is lent are a copy: a present record is written where
-// it stands, and takes none.
-fn write_most(
-    front: Front,
-    held: &[u64; WORDS],
-    volume: &mut [u8],
-    fcb: &[u8],
-    n: usize,
-    buffer: &[u8],
-    left: &mut usize,
-)
-    requires { ⌜ (length (now fcb) ≡ fcbBytes) × (n < fileRecords) ⌝ }
-    ensures { λ _. ⌜
-        Stored (front .geometry) (now (volume .entry)) (now (left .entry))
-        (writtenStores (joined front (now (held .entry))) (now (volume .entry)) (now (fcb .entry)) n (now (buffer .entry)))
-        (now (volume .exit)) (now (left .exit))
-        ⌝ }
-{
-    let mut aimed = [0u8; FCB_BYTES];
-    point(&mut aimed, fcb, n);
-    let mut lent = *held;
-    front.write_direct_most(&mut lent, volume, &mut aimed, buffer, false, left);
-}
-
-// Lays a siglum into a record.
-fn set_siglum(buffer: &mut [u8], siglum: u16)
-    requires { ⌜ length (now buffer) ≡ recordBytes ⌝ }
-    ensures { λ _. ⌜ now (buffer .exit) ≡ withSiglum siglum (now (buffer .entry)) ⌝ }
-{
-    buffer[0] = (siglum % 256) as u8;
-    buffer[1] = (siglum / 256) as u8;
-}
-
-// Rewrites record n with this siglum, as long as a store is left.
+// Rewrites record n with this siglum, as long as a store is left. The held blocks that the write is lent are a copy: a present
+// record is written where it stands, and takes none.
 pub(crate) fn rewrite_most(
     front: Front,
     held: &[u64; WORDS],
@@ -93,8 +60,10 @@ pub(crate) fn rewrite_most(
         (now (volume .exit)) (now (left .exit))
         ⌝ }
 {
-    let mut buffer = [0u8; Geometry::RECORD_BYTES];
-    show(front, volume, fcb, n, &mut buffer);
-    set_siglum(&mut buffer, siglum);
-    write_most(front, held, volume, fcb, n, &buffer, left);
+    let low = (siglum % 256) as u8;
+    let high = (siglum / 256) as u8;
+    let mut aimed = [0u8; FCB_BYTES];
+    point(&mut aimed, fcb, n);
+    let mut lent = *held;
+    front.rewrite_random_most(&mut lent, volume, &mut aimed, low, high, left);
 }

@@ -27,6 +27,7 @@ use Rattle.filecalls.specs.Read.{randomTests, readDone, readRandomAct}
 use Rattle.filecalls.specs.Write.{writeEntry, writeDone, writeRandomAct}
 use Rattle.filecalls.specs.Change.{changeTests}
 use Rattle.desk_contents.specs.Contents.{total, others, usedPlace, placeFits, goodContents, chapterPlace}
+use Rattle.filecalls.specs.Rewrite.{rewrittenBytes}
 use Rattle.desk.specs.Answer.{numberOf, valueOf}
 use Rattle.desk.specs.Records.{shown, written, rewritten}
 use Rattle.desk.specs.Replace.{allowed, planIn, plan, rewriteIf, carriedOut, replacement}
@@ -141,6 +142,13 @@ cutAfter most v =
 pub passes : lowestBad geometry volume ≡ slots geometry
 unfolding computes
 passes = refl
+
+-- a record read and written again: its own bytes but for the first two; zeros but for these where it is not present, or what is lent is refused
+pub rewritten-bytes : (rewrittenBytes drive volume (withRandom fcb 2) 80 81 ≡ reading 80 81 2)
+    × ((rewrittenBytes drive volume (withRandom fcb 5) 80 81 ≡ 80 ∷ 81 ∷ replicate 126 0)
+    × (rewrittenBytes closed volume (withRandom fcb 2) 80 81 ≡ 80 ∷ 81 ∷ replicate 126 0))
+unfolding computes rewrittenBytes
+rewritten-bytes = (refl, (refl, refl))
 
 -- one record of chapter 7 matches and has the new siglum; its lemma number stays, and so does the same siglum in chapter 3
 pub one-chapter : seen drive volume fcb 7 AB PQ ≡ 0 ∷ 1 ∷ volumeOf entry contents (readings (reading 65 66 1) (reading 80 81 3))

@@ -10,7 +10,7 @@ use native.Mathlib.Omega.{arith}
 use lib.Dec.{ltb, eqb}
 use lib.ListN.{length, take, drop, length-take, List·getD-eq-default}
 use lib.Seq.{set-getD}
-use borrow.Author.Tests.{not-true, not-false, leb-false, ltb-true, ltb-false, eqb-true, eqb-false, lt-ltb, le-ltb}
+use borrow.Author.Tests.{not-false, leb-false, ltb-true, ltb-false, eqb-true, eqb-false, lt-ltb, le-ltb}
 use Rattle.lists.specs.Bytes.{byte, part}
 use Rattle.lists.proofs.PartLaws.{byte-part}
 use Rattle.lists.proofs.BoolLaws.{and-parts}
@@ -28,8 +28,9 @@ use Rattle.call_entry.specs.Grown.{grown, writtenEntry}
 use Rattle.call_entry.proofs.GrowLaws.{grown-earlier, grown-counted}
 use Rattle.call_read.specs.Read.{readBlock}
 use Rattle.call_read.proofs.ReadLaws.{Unmet, present-counted}
-use Rattle.call_decide.specs.Write.{writeSlot, baseEntry, needsBlock, writeBlock, writeTests}
+use Rattle.call_decide.specs.Write.{writeSlot, writeTests}
 use Rattle.call_write.specs.Write.{writeStores}
+use Rattle.call_write.proofs.DecidedLaws.{base-own, own-needs-none, block-own}
 use Rattle.call_write.proofs.AfterLaws.{written, heldAfter, written-is}
 use Rattle.disk_stores.specs.Stores.{laid, cut, recordStores, entryStores}
 use Rattle.disk_stores.proofs.LaidLaws.{cut-enough}
@@ -99,21 +100,6 @@ module _ (g : Geometry) (held v : List ℕ) (u : ℕ) (name : List ℕ) (n : ℕ
   counts : counted g (slotAt g v (recordSlot g v u name n)) n ≡ true
   counts = sym (present-counted g v u name n grouped) ∙ not-false _ (t .absent)
 
-  base : baseEntry g v u name n ≡ slotAt g v (recordSlot g v u name n)
-  unfolding baseEntry
-  base = rw (lt-ltb (recordSlot g v u name n) (slots g) grouped)
-
-  no-need : needsBlock g v u name n ≡ false
-  unfolding needsBlock counted
-  no-need =
-      rw base
-      (not-true (eqb (recordBlock g (slotAt g v (recordSlot g v u name n)) n) 0)
-      (and-parts (ltb (n % 128) (countOf (slotAt g v (recordSlot g v u name n)) (n / 128))) (not (eqb (recordBlock g (slotAt g v (recordSlot g v u name n)) n) 0)) counts .1))
-
-  block-is : writeBlock g held v u name n ≡ readBlock g v u name n
-  unfolding writeBlock readBlock
-  block-is = rw (no-need, base)
-
   slot-is : writeSlot g v u name n ≡ recordSlot g v u name n
   unfolding writeSlot
   slot-is = rw (lt-ltb (recordSlot g v u name n) (slots g) grouped)
@@ -126,7 +112,7 @@ module _ (g : Geometry) (held v : List ℕ) (u : ℕ) (name : List ℕ) (n : ℕ
   unfolding writeTests firstMet readBlock
   passes w =
       let o = t .outside in
-      rw (t .file, le-ltb (findSlot g v u name ReadOnlyFile) (slots g) w, no-need, lt-ltb (recordSlot g v u name n) (slots g) grouped, base, o)
+      rw (t .file, le-ltb (findSlot g v u name ReadOnlyFile) (slots g) w, own-needs-none g held v u name n grouped counts, lt-ltb (recordSlot g v u name n) (slots g) grouped, base-own g held v u name n grouped, o)
 
   entry-same : writtenEntry g (slotAt g v (recordSlot g v u name n)) n (readBlock g v u name n) ≡ slotAt g v (recordSlot g v u name n)
   unfolding writtenEntry readBlock
@@ -136,7 +122,7 @@ module _ (g : Geometry) (held v : List ℕ) (u : ℕ) (name : List ℕ) (n : ℕ
 
   -- no block is held by it
   pub held-same : heldAfter g held v u name n ≡ held
-  held-same = rw no-need
+  held-same = rw (own-needs-none g held v u name n grouped counts)
 
   module _ (law : lawful g ≡ true) (size : length v ≡ bytes g) (writable : slots g ≤ findSlot g v u name ReadOnlyFile) (r : List ℕ) (r128 : length r ≡ 128) where
     -- the volume has other bytes where the record stands
@@ -148,11 +134,11 @@ module _ (g : Geometry) (held v : List ℕ) (u : ℕ) (name : List ℕ) (n : ℕ
         let len : length w ≡ bytes g = putRecord-length g law v size b n (within .1) r r128 ∙ size in
         let e : slotAt g w (recordSlot g v u name n) ≡ slotAt g v (recordSlot g v u name n) = slot-putRecord g law v size b n (within .1) r r128 (within .0) (recordSlot g v u name n) grouped in
         written-is g held v u name n law size (passes writable) false r r128
-        ∙ rw (base, block-is, slot-is, entry-same, ← e) (putSlot-same g law w len (recordSlot g v u name n) grouped)
+        ∙ rw (base-own g held v u name n grouped, block-own g held v u name n grouped counts, slot-is, entry-same, ← e) (putSlot-same g law w len (recordSlot g v u name n) grouped)
 
     -- cut anywhere the write has done nothing or all: the directory record that it stores has the bytes that stand there
     pub cut-either : (k : ℕ) → (cut g v k (writeStores g held v u name n false r) ≡ v) ⊎ (cut g v k (writeStores g held v u name n false r) ≡ putRecord g v (readBlock g v u name n) n r)
     unfolding laid recordStores entryStores putRecord recordStart
     cut-either zero = inl refl
-    cut-either (suc zero) = inr (ap (λ (b : ℕ). putRecord g v b n r) block-is)
+    cut-either (suc zero) = inr (ap (λ (b : ℕ). putRecord g v b n r) (block-own g held v u name n grouped counts))
     cut-either (suc (suc j)) = inr (cut-enough g v (writeStores g held v u name n false r) (suc (suc j)) (omega arith) ∙ volume-is)

@@ -7,6 +7,7 @@ pub mod CutLaws
 pub mod EnoughLaws
 pub mod JoinLaws
 pub mod WriteLaws
+pub mod RewriteLaws
 pub mod SearchLaws
 pub mod NamingLaws
 pub mod ReadyLaws

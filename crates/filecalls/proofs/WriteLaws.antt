@@ -3,17 +3,17 @@
 use mathlib.Core.Path.{_≡_, refl, sym, ap, _∙_}
 use mathlib.Core.Bool.{Bool, true, false, cond}
 use mathlib.Core.List.{List}
-use Prim.Native.Nat.{ℕ, _-_}
-use lib.ListN.{length}
+use Prim.Native.Nat.{ℕ}
 use Rattle.disk_volume.specs.Name.{nameOf}
-use Rattle.disk_stores.specs.Stores.{Store, cut}
+use Rattle.disk_stores.specs.Stores.{Store}
 use Rattle.call_fcb.specs.Fcb.{setTo}
 use Rattle.call_answers.specs.declared.Refusal.{Refusal}
 use Rattle.call_answers.specs.declared.Refusal.the-variants.{Protected}
 use Rattle.call_answers.specs.declared.Answer.the-variants.{Done, Refused}
-use Rattle.call_answers.specs.Refusal.{Test, isNone, firstMet}
+use Rattle.call_answers.specs.Refusal.{Test, isNone}
 use Rattle.call_decide.specs.Write.{needsBlock, writeBlock, entryAfter, writeTests}
 use Rattle.call_write.specs.Write.{writeStores, holdIf}
+use Rattle.call_write.specs.CodeWrite.{Wrote}
 use Rattle.call_write.proofs.AfterLaws.{written, heldAfter}
 use Rattle.filecalls.specs.declared.Drive.{Drive}
 use Rattle.filecalls.specs.declared.Reply.{Reply}
@@ -52,12 +52,11 @@ module _ (d : Drive) (v f : List ℕ) (n cr : ℕ) (fills : Bool) (b : List ℕ)
   abbrev block : ℕ
   block = writeBlock (d .geometry) (d .held) v (d .user) (nameOf f) n
 
-  pub write-decided : {why : Refusal} {s : Reply} {v′ f′ h′ : List ℕ} {left : ℕ} → d .protected ≡ false → why ≡ firstMet tests
-      → v′ ≡ cond (isNone why) (cut (d .geometry) v most stores) v → f′ ≡ cond (isNone why) fcb f
-      → h′ ≡ cond (isNone why) (holdIf fresh (d .held) block) (d .held) → left ≡ cond (isNone why) (most - length stores) most
+  pub write-decided : {why : Refusal} {s : Reply} {v′ f′ h′ : List ℕ} {left : ℕ} → d .protected ≡ false
+      → Wrote (d .geometry) fills v f b (d .user) (d .held) n cr most why v′ f′ h′ left
       → s ≡ record { answer = cond (isNone why) (Done 0) (Refused why); drive = withHeld d h′ }
       → cutLeft s v′ f′ b left ≡ cutOutcome most d v f b (unless (directoryTests d v f n) (writeDone d v f n cr fills b))
   unfolding writeDone writeEntry changedState
-  write-decided {why} p e ev ef eh el q =
-      cut-decided d v f b most 0 (takes fresh block) stores fcb b tests e (held-or d (isNone why) (holdIf fresh (d .held) block) eh) ev ef (either (isNone why) b) el q
+  write-decided {why} p w q =
+      cut-decided d v f b most 0 (takes fresh block) stores fcb b tests (w .why-is) (held-or d (isNone why) (holdIf fresh (d .held) block) (w .held-is)) (w .volume-is) (w .fcb-is) (either (isNone why) b) (w .left-is) q
       ∙ ap (cutOutcome most d v f b) (sym (goes-by Protected (d .protected) tests (writeDone d v f n cr fills b) p))

@@ -12,6 +12,7 @@ pub mod Change
 pub mod Small
 pub mod Leaves
 pub mod Stores
+pub mod Rewrite
 pub mod CodeFront
 pub mod CodeReady
 pub mod CodeLadder

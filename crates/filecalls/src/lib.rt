@@ -14,6 +14,7 @@ mod login;
 mod names;
 mod opening;
 mod reads;
+mod rewriting;
 mod searching;
 mod small;
 mod state;

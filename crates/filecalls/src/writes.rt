@@ -4,7 +4,9 @@ ghost use mathlib.Core.Path.{_≡_};
 ghost use mathlib.Core.List.{[]};
 ghost use Prim.Native.Nat.{_<_};
 ghost use lib.ListN.{length};
+ghost use Rattle.disk_volume.specs.Name.{nameOf};
 ghost use Rattle.call_fcb.specs.Fcb.{fileRecords};
+ghost use Rattle.call_write.specs.Rewrite.{bytesOf};
 ghost use Rattle.filecalls.specs.Outcome.{unless};
 ghost use Rattle.filecalls.specs.Write.{directoryTests, writeDone, writeSequentialAct, writeDirectAct};
 ghost use Rattle.filecalls.specs.Stores.{cutOutcome, cutLeft};
@@ -18,13 +20,16 @@ use disk_held::WORDS;
 
 impl Front {
     // Writes record n, where the tests of what is lent have passed. If it `fills`, a block that it gives is first filled with
-    // zeros.
-    fn write_at(
+    // zeros. Its bytes are the buffer's, or, if the record is written `again`, those that a read shows, but for the first two.
+    pub(crate) fn write_at(
         self,
         held: &mut [u64; WORDS],
         volume: &mut [u8],
         fcb: &mut [u8],
         buffer: &[u8],
+        again: bool,
+        low: u8,
+        high: u8,
         n: usize,
         cr: u8,
         fills: bool,
@@ -33,10 +38,14 @@ impl Front {
         requires { ⌜ Lent (joined self []) (length (now volume)) (length (now fcb)) (length (now buffer)) ⌝ }
         requires { ⌜ n < fileRecords ⌝ }
         ensures { λ r. ⌜
-            cutLeft (joinedReply r (now (held .exit))) (now (volume .exit)) (now (fcb .exit)) (now (buffer .entry)) (now (left .exit))
-            ≡ cutOutcome (now (left .entry)) (joined self (now (held .entry))) (now (volume .entry)) (now (fcb .entry)) (now (buffer .entry))
+            cutLeft (joinedReply r (now (held .exit))) (now (volume .exit)) (now (fcb .exit))
+            (bytesOf (self .geometry) (now (volume .entry)) (self .user) (nameOf (now (fcb .entry))) n (now (buffer .entry)) again low high)
+            (now (left .exit))
+            ≡ cutOutcome (now (left .entry)) (joined self (now (held .entry))) (now (volume .entry)) (now (fcb .entry))
+            (bytesOf (self .geometry) (now (volume .entry)) (self .user) (nameOf (now (fcb .entry))) n (now (buffer .entry)) again low high)
             (unless (directoryTests (joined self (now (held .entry))) (now (volume .entry)) (now (fcb .entry)) n)
-            (writeDone (joined self (now (held .entry))) (now (volume .entry)) (now (fcb .entry)) n cr fills (now (buffer .entry))))
+            (writeDone (joined self (now (held .entry))) (now (volume .entry)) (now (fcb .entry)) n cr fills
+            (bytesOf (self .geometry) (now (volume .entry)) (self .user) (nameOf (now (fcb .entry))) n (now (buffer .entry)) again low high)))
             ⌝ }
     {
         if self.protected {
@@ -49,6 +58,9 @@ impl Front {
             volume,
             fcb,
             buffer,
+            again,
+            low,
+            high,
             self.user,
             held,
             n,
@@ -83,6 +95,9 @@ impl Front {
             volume,
             fcb,
             buffer,
+            false,
+            0,
+            0,
             n,
             (n % Geometry::EXTENT_RECORDS + 1) as u8,
             false,
@@ -116,6 +131,9 @@ impl Front {
             volume,
             fcb,
             buffer,
+            false,
+            0,
+            0,
             n,
             (n % Geometry::EXTENT_RECORDS) as u8,
             fills,

@@ -1,20 +1,17 @@
 -- A refusal comes before every store. Where no test is met, what was decided is what is defined, and it lies in the volume.
 use mathlib.Core.Path.{_≡_, sym, ap, _∙_}
-use mathlib.Core.Bool.{true, false}
-use Prim.Native.Nat.{_<_}
-use native.Mathlib.Omega.{arith}
+use mathlib.Core.Bool.{true, false, cond}
+use mathlib.Core.List.{List}
+use Prim.Native.Nat.{ℕ}
 use denote.Ref.{now}
 use borrow.Author.Tests.{not-true, not-false}
 use borrow.Author.Needs.{needs}
 use Rattle.lists.specs.Bytes.{part}
-use Rattle.disk_geometry.specs.Geometry.{slots}
 use Rattle.disk_volume.specs.Name.{nameAt, nameOf}
-use Rattle.disk_geometry.proofs.GeometryLaws.{bounds}
-use Rattle.disk_held.specs.Held.{room}
 use Rattle.call_answers.specs.Refusal.{isNone}
-use Rattle.call_decide.specs.Write.{entryAfter}
 use Rattle.call_decide.specs.CodePlan.{Decided}
-use Rattle.call_decide.proofs.WriteLaws.{Passed, write-passed}
+use Rattle.call_write.specs.Rewrite.{withFirstTwo, bytesOf}
+use Rattle.call_write.proofs.DecidedLaws.{wrote-nothing, wrote, slot-fits, block-fits, shown-counted}
 use Rattle.call_write.proofs.write.write_record.Statement.{statement}
 use Rattle.call_write.proofs.write.write_record.Tie as tie
 
@@ -25,24 +22,9 @@ decided : (c : tie.Else1) → (let a = c .before .before .before .before .before
 unfolding nameAt part
 decided c = c .before .before .before .decide .ensures .1 (none-met c)
 
-passed : (c : tie.Else1) → (let a = c .before .before .before .before .before .before .before .before .before .before .before .before .before .args in Passed (a .g) (now (a .held)) (now (a .volume)) (a .user) (nameOf (now (a .fcb))) (a .n))
-unfolding nameAt part
-passed c =
-    let a = c .before .before .before .before .before .before .before .before .before .before .before .before .before .args in
-    write-passed (a .g) (now (a .held)) (now (a .volume)) (a .user) (nameOf (now (a .fcb))) (a .n) (ap isNone (sym (c .before .before .before .decide .ensures .0)) ∙ none-met c)
-
-slot-fits : (c : tie.Else1) → c .before .before .before .decide .result .slot < slots (c .before .before .before .before .before .before .before .before .before .before .before .before .before .args .g)
-slot-fits c = rw (decided c .slot-is) (passed c .slot-in)
-
-block-fits : (c : tie.Else1) → c .before .before .before .decide .result .block < c .before .before .before .before .before .before .before .before .before .before .before .before .before .args .g .blocks
-block-fits c = rw (decided c .block-is) (passed c .block-high)
-
--- the words have a bit for the block
-block-small : (c : tie.Else1) → c .before .before .before .decide .result .block < room (now (c .before .before .before .before .before .before .before .before .before .before .before .before .before .args .held))
-block-small c = let s = c .before .before .before .before .before .before .before .before .before .before .before .before .before in omega (arith, block-fits c, bounds (s .args .g) (s .pre .0 .0 .0) .blocks-high, s .pre .0 .1)
-
-entry-laid : (c : tie.After-write-entry) → (let a = c .before .before .before .before .before .before .before .before .before .before .before .before .before .before .before .args in c .write-entry .last .1 .0 ≡ entryAfter (a .g) (now (a .held)) (now (a .volume)) (a .user) (nameOf (now (a .fcb))) (a .n))
-entry-laid c = c .write-entry .ensures ∙ rw (decided (c .before .before) .entry-is, decided (c .before .before) .block-is)
+-- the bytes that are written
+abbrev bytes : (s : tie.Start) → List ℕ
+bytes s = let a = s .args in bytesOf (a .g) (now (a .volume)) (a .user) (nameOf (now (a .fcb))) (a .n) (now (a .buffer)) (a .again) (a .low) (a .high)
 
 sub-decide : tie.Need-sub-decide
 sub-decide c = search needs
@@ -74,25 +56,34 @@ same-length-3 c = search needs
 returns : tie.Need-returns
 unfolding nameAt part
 returns c =
-    let e : isNone (c .before .before .before .decide .result .why) ≡ false = sym (c .before .is-none .ensures) ∙ not-true (c .before .is-none .result) (c .if1 .taken) in
-    (c .before .before .before .decide .ensures .0, (rw e, (rw e, (rw e, rw e))))
+    let s = c .before .before .before .before .before .before .before .before .before .before .before .before .before in
+    let a = s .args in
+    let met : isNone (c .before .before .before .decide .result .why) ≡ false = sym (c .before .is-none .ensures) ∙ not-true (c .before .is-none .result) (c .if1 .taken) in
+    wrote-nothing (a .g) (a .fills) (now (a .volume)) (now (a .fcb)) (bytes s) (a .user) (now (a .held)) (a .n) (a .cr) (now (a .left)) (c .before .before .before .decide .ensures .0) met
 
-slice-aggregate-write-entry : tie.Need-slice-aggregate-write-entry
-slice-aggregate-write-entry c = search needs
+slice-aggregate-write-decided : tie.Need-slice-aggregate-write-decided
+slice-aggregate-write-decided c = search needs
 
-write-entry-requires : tie.Need-write-entry-requires
-write-entry-requires c κs = (search needs, (search needs, (search needs, block-fits (c .before))))
-
-slice-aggregate-carry-out : tie.Need-slice-aggregate-carry-out
-slice-aggregate-carry-out c = search needs
-
-carry-out-requires : tie.Need-carry-out-requires
-carry-out-requires c κs =
-    let p = c .before .before .before .before .before .before .before .before .before .before .before .before .before .before .before .before .before .before .before .before .before .pre .1 in
-    (search needs, ((p .0, (p .1 .0, search needs)), (slot-fits (c .before .before .before .before .before .before .before .before), (block-fits (c .before .before .before .before .before .before .before .before), p .1 .1))))
-
-hold-if-requires : tie.Need-hold-if-requires
-hold-if-requires c κs = block-small (c .before .before .before .before .before .before .before .before .before .before .before .before .before .before)
+write-decided-requires : tie.Need-write-decided-requires
+unfolding nameAt part
+write-decided-requires c κs =
+    let s = c .before .before .before .before .before .before .before .before .before .before .before .before .before .before .before .before .before .before in
+    let a = s .args in
+    let w = c .before .before .before .before .before .before .before .before .decide .ensures .0 in
+    let none = none-met (c .before .before .before .before .before) in
+    let d = decided (c .before .before .before .before .before) in (
+      s .pre .0,
+      (
+        s .pre .1,
+        (
+          search needs,
+          (
+            slot-fits (a .g) (a .fills) (now (a .volume)) (now (a .fcb)) (bytes s) (a .user) (now (a .held)) (a .n) (a .cr) (now (a .left)) w none d,
+            block-fits (a .g) (a .fills) (now (a .volume)) (now (a .fcb)) (bytes s) (a .user) (now (a .held)) (a .n) (a .cr) (now (a .left)) w none d,
+          ),
+        ),
+      ),
+    )
 
 same-length-4 : tie.Need-same-length-4
 same-length-4 c = search needs
@@ -106,22 +97,14 @@ same-length-6 c = search needs
 returns-2 : tie.Need-returns-2
 unfolding nameAt part
 returns-2 c =
-    let d = decided (c .before .before .before .before .before .before .before .before .before .before .before .before .before .before .before .before .before) in
-    let e = entry-laid (c .before .before .before .before .before .before .before .before .before .before .before .before .before .before .before) in
-    let none = none-met (c .before .before .before .before .before .before .before .before .before .before .before .before .before .before .before .before .before) in
-    let o = c .before .before .before .before .before .before .before .before .carry-out in (
-      c .before .before .before .before .before .before .before .before .before .before .before .before .before .before .before .before .before .before .before .before .decide .ensures .0,
-      (
-        rw none (o .ensures .0 ∙ rw (e, d .slot-is, d .block-is, d .fresh-is)),
-        (
-          rw none (o .ensures .1 .0 ∙ rw e),
-          (
-            rw none (c .before .before .hold-if .ensures ∙ rw (d .fresh-is, d .block-is)),
-            rw none (o .ensures .1 .1 ∙ rw (e, d .slot-is, d .block-is, d .fresh-is)),
-          ),
-        ),
-      ),
-    )
+    let s = c .before .before .before .before .before .before .before .before .before .before .before .before .before .before .before .before .before .before .before .before .before .before .before .before .before .before in
+    let a = s .args in
+    let e = c .before .before .before .before .before .before .before .before .before .before .before .before .before in
+    let w = c .before .before .before .before .before .before .before .before .before .before .before .before .before .before .before .before .decide .ensures .0 in
+    let d = decided e in
+    let shown = shown-counted (a .g) (now (a .held)) (now (a .volume)) (a .user) (nameOf (now (a .fcb))) (a .n) (s .pre .0 .0 .0) (s .pre .0 .0 .1) (ap isNone (sym w) ∙ none-met e) (d .entry-is) (d .block-is) in
+    let b = ap (λ (x : List ℕ). cond (a .again) (withFirstTwo (a .low) (a .high) x) (now (a .buffer))) shown in
+    wrote (a .g) (a .fills) (now (a .volume)) (now (a .fcb)) (bytes s) (a .user) (now (a .held)) (a .n) (a .cr) (now (a .left)) w (none-met e) d (rw b at (c .before .before .before .before .before .before .before .write-decided .ensures))
 
 pub write-record-spec : {M : Type 1} → statement M
 write-record-spec =
@@ -137,11 +120,8 @@ write-record-spec =
     same-length-2
     same-length-3
     returns
-    slice-aggregate-write-entry
-    write-entry-requires
-    slice-aggregate-carry-out
-    carry-out-requires
-    hold-if-requires
+    slice-aggregate-write-decided
+    write-decided-requires
     same-length-4
     same-length-5
     same-length-6

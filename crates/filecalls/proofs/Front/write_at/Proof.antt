@@ -8,17 +8,24 @@ use denote.Ref.{now}
 use borrow.Author.Needs.{needs}
 use Prim.Native.Nat.{ℕ}
 use mathlib.Core.List.{List}
+use Rattle.disk_volume.specs.Name.{nameOf}
+use Rattle.call_write.specs.Rewrite.{bytesOf}
 use Rattle.filecalls.specs.CodeFront.{joined}
 use Rattle.filecalls.proofs.Front.write_at.Statement.{statement}
 use Rattle.filecalls.proofs.Front.write_at.Tie as tie
+
+-- the bytes that are written
+abbrev bytes : (s : tie.Start) → List ℕ
+bytes s = let a = s .args in bytesOf (a .self .geometry) (now (a .volume)) (a .self .user) (nameOf (now (a .fcb))) (a .n) (now (a .buffer)) (a .again) (a .low) (a .high)
 
 refused-requires : tie.Need-refused-requires
 refused-requires c κs = search needs
 
 returns : tie.Need-returns
 returns c =
-    let a = c .before .before .before .before .before .args in
-    cut-no (joined (a .self) (now (a .held))) (now (a .volume)) (now (a .fcb)) (now (a .buffer)) (now (a .left)) (stops-here Protected _ _ _ (c .before .if1 .taken) refl) (c .refused .ensures (now (a .held)))
+    let s = c .before .before .before .before .before in
+    let a = s .args in
+    cut-no (joined (a .self) (now (a .held))) (now (a .volume)) (now (a .fcb)) (bytes s) (now (a .left)) (stops-here Protected _ _ _ (c .before .if1 .taken) refl) (c .refused .ensures (now (a .held)))
 
 write-record-requires : tie.Need-write-record-requires
 write-record-requires c κs =
@@ -37,9 +44,10 @@ same-length-2 c = search needs
 
 returns-2 : tie.Need-returns-2
 returns-2 c =
-    let a = c .before .before .before .before .before .before .before .before .before .before .before .before .before .before .before .args in
+    let s = c .before .before .before .before .before .before .before .before .before .before .before .before .before .before .before in
+    let a = s .args in
     let w = c .before .before .before .before .before .write-record .ensures in
-    write-decided (joined (a .self) (now (a .held))) (now (a .volume)) (now (a .fcb)) (a .n) (a .cr) (a .fills) (now (a .buffer)) (now (a .left)) (c .before .before .before .before .before .before .before .before .before .before .before .if1 .left) (w .0) (w .1 .0) (w .1 .1 .0) (w .1 .1 .1 .0) (w .1 .1 .1 .1) (c .answered .ensures _)
+    write-decided (joined (a .self) (now (a .held))) (now (a .volume)) (now (a .fcb)) (a .n) (a .cr) (a .fills) (bytes s) (now (a .left)) (c .before .before .before .before .before .before .before .before .before .before .before .if1 .left) w (c .answered .ensures _)
 
 pub write-at-spec : {M : Type 1} → statement M
 write-at-spec =
