@@ -1,16 +1,16 @@
 // Search first (17) and next (18).
 ghost use mathlib.Core.Path.{_≡_};
+ghost use mathlib.Core.Bool.{true};
 ghost use mathlib.Core.List.{List, []};
 ghost use Prim.Native.Nat.{ℕ, _≤_};
-ghost use lib.ListN.{length};
-ghost use Rattle.disk_geometry.specs.Geometry.{slots};
-ghost use Rattle.call_fcb.specs.Fcb.{fcbBytes};
+ghost use Rattle.disk_geometry.specs.Geometry.{lawful, slots};
+ghost use Rattle.disk_volume.specs.CodeLent.{VolumeAnd, IsRecord};
+ghost use Rattle.call_search.specs.CodeHit.{hitBuffer};
 ghost use Rattle.call_answers.specs.Refusal.{firstMet};
 ghost use Rattle.filecalls.specs.CodeLadder.{firstLent, searchOnAct};
 ghost use Rattle.filecalls.specs.Outcome.{outcome, left};
-ghost use Rattle.filecalls.specs.Search.{keptAt, isKept};
+ghost use Rattle.filecalls.specs.Search.{keptAt, isKept, hit};
 ghost use Rattle.filecalls.specs.Leaves.{searchFirstLeaves, searchNextLeaves};
-ghost use Rattle.filecalls.specs.CodeReady.{Lent};
 ghost use Rattle.filecalls.specs.CodeFront.{joined, joinedReply};
 use crate::Front;
 use crate::FrontReply;
@@ -45,6 +45,18 @@ fn kept_at(search: KeptSearch, slot: usize) -> KeptSearch
     kept
 }
 
+// The slot that the search hits, from slot `from` on; the number of slots where it hits none. The record of the hit goes to the
+// buffer.
+fn hit(g: Geometry, volume: &[u8], buffer: &mut [u8], search: KeptSearch, from: usize) -> usize
+    requires { ⌜ VolumeAnd g (now volume) (IsRecord (now buffer) × (from ≤ slots g)) ⌝ }
+    ensures { λ r. ⌜ r ≡ hit g (now (volume .entry)) search from ⌝ }
+    ensures { λ r. ⌜ now (buffer .exit) ≡ hitBuffer g (now (volume .entry)) r (now (buffer .entry)) ⌝ }
+{
+    let kind = search.kind;
+    let pattern = search.pattern;
+    call_search::search::search_from(g, volume, buffer, kind, search.user, &pattern, from)
+}
+
 impl Front {
     // 32 to 35, then 42, 39 and 40 of a search.
     fn first_why(self, volume: &[u8], fcb: &[u8], buffer: &[u8]) -> Refusal
@@ -68,35 +80,17 @@ impl Front {
         call_answers::first_of(a, call_answers::first_of(b, c))
     }
 
-    // The search from slot `from` on, where the tests of what is lent have passed.
-    fn search_on(
-        self,
-        volume: &[u8],
-        buffer: &mut [u8],
-        search: KeptSearch,
-        from: usize,
-    ) -> FrontReply
-        requires { ⌜ Lent (joined self []) (length (now volume)) fcbBytes (length (now buffer)) ⌝ }
-        requires { ⌜ from ≤ slots (self .geometry) ⌝ }
+    // The reply to a search that came to this slot: a hit is kept; the number of slots is none.
+    fn hit_reply(self, search: KeptSearch, slot: usize) -> FrontReply
+        requires { ⌜ lawful (self .geometry) ≡ true ⌝ }
         ensures { λ r. ⌜
-            ((held fcb : List ℕ)
-            → left (joinedReply r held) (now (volume .entry)) fcb (now (buffer .exit))
-            ≡ outcome (joined self held) (now (volume .entry)) fcb (now (buffer .entry))
-            (searchOnAct (joined self held) (now (volume .entry)) fcb search from))
+            ((held v fcb b after : List ℕ) (from : ℕ) → slot ≡ hit (self .geometry) v search from
+            → after ≡ hitBuffer (self .geometry) v slot b
+            → left (joinedReply r held) v fcb after
+            ≡ outcome (joined self held) v fcb b (searchOnAct (joined self held) v fcb search from))
             ⌝ }
     {
         let g = self.geometry;
-        let kind = search.kind;
-        let pattern = search.pattern;
-        let slot = call_search::search::search_from(
-            g,
-            volume,
-            buffer,
-            kind,
-            search.user,
-            &pattern,
-            from,
-        );
         if slot < g.slots() {
             let kept = kept_at(search, slot);
             let mut front = self;
@@ -126,7 +120,9 @@ impl Front {
             last: 0,
             pattern,
         };
-        self.search_on(volume, buffer, search, 0)
+        let g = self.geometry;
+        let slot = hit(g, volume, buffer, search, 0);
+        self.hit_reply(search, slot)
     }
 
     // Function 18: goes on after the last hit.
@@ -146,6 +142,8 @@ impl Front {
         if !is_open_search(kind) {
             return self.refused(Refusal::NoMatch);
         }
-        self.search_on(volume, buffer, search, search.last + 1)
+        let g = self.geometry;
+        let slot = hit(g, volume, buffer, search, search.last + 1);
+        self.hit_reply(search, slot)
     }
 }

@@ -1,5 +1,4 @@
 -- The tests stop the ladder, or pass: then the search from slot 0 decides.
-use mathlib.Core.Path.{refl}
 use mathlib.Core.List.{List, [], _∷_}
 use native.Mathlib.Omega.{arith}
 use denote.Ref.{now}
@@ -51,10 +50,13 @@ kind-asked-requires c κs = search needs
 pattern-of-requires : tie.Need-pattern-of-requires
 pattern-of-requires c κs = passed [] (c .before .before) .lent .fcb
 
-search-on-requires : tie.Need-search-on-requires
-search-on-requires c κs =
-    let l = passed [] (c .before .before .before .before) .lent in
-    (record { state = l .state; volume = l .volume; fcb = refl; buffer = l .buffer }, search needs)
+hit-requires : tie.Need-hit-requires
+hit-requires c κs =
+    let l = passed [] (c .before .before .before .before .before) .lent in
+    (l .state .law, (l .volume, (l .buffer, search needs)))
+
+hit-reply-requires : tie.Need-hit-reply-requires
+hit-reply-requires c κs = passed [] (c .before .before .before .before .before .before .before .before) .lent .state .law
 
 same-length-2 : tie.Need-same-length-2
 same-length-2 c = search needs
@@ -62,15 +64,16 @@ same-length-2 c = search needs
 returns-2 : tie.Need-returns-2
 unfolding searchFirstAct firstTests firstLent lentTests newSearch
 returns-2 c = λ (held : List ℕ).
-    let a = c .before .before .before .before .before .before .before .before .before .before .before .before .before .before .args in
+    let a = c .before .before .before .before .before .before .before .before .before .before .before .before .before .before .before .before .args in
     let d = joined (a .self) held in
     let v = now (a .volume) in
     let f = now (a .fcb) in
     let b = now (a .buffer) in
     let q = newSearch d f in
     let i = hit (d .geometry) v q 0 in
-    rw (passes (firstLent d v f b) (test NoMatch (leb (slots (d .geometry)) i) ∷ []) (hitAct d v f q i) (passed held (c .before .before .before .before .before .before .before) .none))
-    (rw (c .before .before .before .before .before .kind-asked .ensures, c .before .before .before .before .pattern-of .ensures) at (c .before .before .search-on .ensures held f))
+    let h = c .before .before .before .hit .ensures in
+    rw (passes (firstLent d v f b) (test NoMatch (leb (slots (d .geometry)) i) ∷ []) (hitAct d v f q i) (passed held (c .before .before .before .before .before .before .before .before .before) .none))
+    (rw (c .before .before .before .before .before .before .before .kind-asked .ensures, c .before .before .before .before .before .before .pattern-of .ensures) at (c .hit-reply .ensures held v f b _ 0 (h .0) (h .1)))
 
 pub search-first-spec : {M : Type 1} → statement M
 search-first-spec =
@@ -84,6 +87,7 @@ search-first-spec =
     shared-slice-read-kind-asked
     kind-asked-requires
     pattern-of-requires
-    search-on-requires
+    hit-requires
+    hit-reply-requires
     same-length-2
     returns-2)

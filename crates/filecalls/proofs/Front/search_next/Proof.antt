@@ -63,11 +63,16 @@ returns-2 c = λ (held : List ℕ).
     let t : m ≡ true = rw e in
     says-no d v [] b (stops-then (nextLent d v b) NoMatch m [] _ (passed held (c .before .before .before .before) .none) t refl) (c .refused2 .ensures held)
 
-add-search-on : tie.Need-add-search-on
-add-search-on c = omega (arith, below (c .before .before), bounds _ (passed [] (c .before .before .before .before .before) .lent .state .law) .slots-high)
+add-hit : tie.Need-add-hit
+add-hit c = omega (arith, below (c .before .before .before), bounds _ (passed [] (c .before .before .before .before .before .before) .lent .state .law) .slots-high)
 
-search-on-requires : tie.Need-search-on-requires
-search-on-requires c κs = (passed [] (c .before .before .before .before .before) .lent, omega (arith, below (c .before .before)))
+hit-requires : tie.Need-hit-requires
+hit-requires c κs =
+    let l = passed [] (c .before .before .before .before .before .before) .lent in
+    (l .state .law, (l .volume, (l .buffer, omega (arith, below (c .before .before .before)))))
+
+hit-reply-requires : tie.Need-hit-reply-requires
+hit-reply-requires c κs = passed [] (c .before .before .before .before .before .before .before .before .before) .lent .state .law
 
 same-length : tie.Need-same-length
 same-length c = search needs
@@ -75,14 +80,15 @@ same-length c = search needs
 returns-3 : tie.Need-returns-3
 unfolding searchNextAct nextTests
 returns-3 c = λ (held : List ℕ).
-    let a = c .before .before .before .before .before .before .before .before .before .before .before .before .before .args in
+    let a = c .before .before .before .before .before .before .before .before .before .before .before .before .before .before .before .args in
     let d = joined (a .self) held in
     let v = now (a .volume) in
     let b = now (a .buffer) in
     let i = hit (d .geometry) v (d .search) (d .search .last + 1) in
-    let e : not (isKept (d .search .kind)) ≡ false = ap not (sym (c .before .before .before .before .before .before .is-open-search .ensures)) ∙ c .before .before .before .before .before .if2 .left in
-    rw (passes (nextLent d v b) (test NoMatch (not (isKept (d .search .kind)) || leb (slots (d .geometry)) i) ∷ []) (hitAct d v [] (d .search) i) (passed held (c .before .before .before .before .before .before .before .before) .none), e)
-    (c .before .before .search-on .ensures held [])
+    let h = c .before .before .before .hit .ensures in
+    let e : not (isKept (d .search .kind)) ≡ false = ap not (sym (c .before .before .before .before .before .before .before .before .is-open-search .ensures)) ∙ c .before .before .before .before .before .before .before .if2 .left in
+    rw (passes (nextLent d v b) (test NoMatch (not (isKept (d .search .kind)) || leb (slots (d .geometry)) i) ∷ []) (hitAct d v [] (d .search) i) (passed held (c .before .before .before .before .before .before .before .before .before .before) .none), e)
+    (c .hit-reply .ensures held v [] b _ (d .search .last + 1) (h .0) (h .1))
 
 pub search-next-spec : {M : Type 1} → statement M
 search-next-spec =
@@ -95,7 +101,8 @@ search-next-spec =
     is-open-search-requires
     refused-requires-2
     returns-2
-    add-search-on
-    search-on-requires
+    add-hit
+    hit-requires
+    hit-reply-requires
     same-length
     returns-3)
