@@ -1,5 +1,6 @@
 // One door to the file calls: the function's number decides which call is done. A call that changes the volume is given a number of
 // stores and ends when none is left: what it leaves of the volume is its stores cut there. The call is that with enough of them.
+#![tactic(auto)]
 ghost use Rattle.std.specs.Prelude.{◌≡◌, true, List, ℕ};
 ghost use Rattle.disk_geometry.specs.declared.Geometry.{Geometry};
 ghost use Rattle.filecalls.specs.Outcome.{left};
@@ -17,7 +18,7 @@ use disk_held::WORDS;
 use filecalls::{Drive, ENOUGH, Front, FrontReply, Reply};
 
 // How a call goes through the door: it logs in, it asks of state and volume, or it changes the volume.
-#[derive(Drop)]
+#[derive(Clone, Copy)]
 pub enum Way {
     LogsIn,
     Asks,

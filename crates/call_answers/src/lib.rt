@@ -1,10 +1,11 @@
 // What a call answers: the numbers of refusal, and the answers.
+#![tactic(auto)]
 ghost use Rattle.std.specs.Prelude.{◌≡◌, true, false, ◌<◌};
 ghost use Rattle.call_answers.specs.Refusal.{refusal_number, is_none, refusing, first};
 ghost use Rattle.call_answers.specs.Answer.{number_of, value_of, succeeded, why_of};
 
 // Why a call is refused, in the order of the paper's table; None is no refusal.
-#[derive(Drop)]
+#[derive(Clone, Copy)]
 pub enum Refusal {
     None,
     NotServed,
@@ -35,7 +36,7 @@ pub enum Refusal {
 
 // What a call answers: done with a code, logged in with so many free blocks, refused, or so many records done and why no
 // more. A refusal for a bad slot says which.
-#[derive(Drop)]
+#[derive(Clone, Copy)]
 pub enum Answer {
     Done(u8),
     Ready(usize),

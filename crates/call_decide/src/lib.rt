@@ -1,4 +1,5 @@
 // A write decided, by reading alone: its tests in their order, and the slot, the block and the entry that it will store.
+#![tactic(auto)]
 ghost use Rattle.std.specs.Prelude.{◌≡◌, true, false, ◌≤◌, ◌<◌, eqb, length};
 ghost use Rattle.disk_geometry.specs.Geometry.{lawful, slots};
 ghost use Rattle.disk_volume.specs.Name.{strip};
@@ -14,7 +15,7 @@ use disk_geometry::Geometry;
 use disk_volume::{Wanted, directory, entry};
 
 // What is decided: why the write is refused, or the slot, the block, and whether the block is newly taken.
-#[derive(Drop)]
+#[derive(Clone, Copy)]
 pub struct WritePlan {
     pub why: Refusal,
     pub slot: usize,

@@ -1,4 +1,5 @@
 // Make: the tests of the control block and of the directory, the new entry, and the call itself.
+#![tactic(auto)]
 ghost use Rattle.std.specs.Prelude.{◌≡◌, true, cond, ◌-◌, ◌<◌};
 ghost use Rattle.disk_volume.specs.declared.Wanted.TheVariants.{Empty};
 ghost use Rattle.disk_geometry.specs.Geometry.{slots};
@@ -16,7 +17,7 @@ use disk_geometry::Geometry;
 use disk_volume::{Wanted, directory, fields};
 
 // What make hands back: why it is refused, and the lowest empty slot.
-#[derive(Drop)]
+#[derive(Clone, Copy)]
 pub struct Made {
     pub why: Refusal,
     pub slot: usize,

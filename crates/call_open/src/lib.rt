@@ -1,4 +1,5 @@
 // Open and close: the entry that the control block means.
+#![tactic(auto)]
 ghost use Rattle.std.specs.Prelude.{◌≡◌, true, ◌≤◌, ◌<◌};
 ghost use Rattle.disk_geometry.specs.Geometry.{lawful, slots};
 ghost use Rattle.disk_volume.specs.CodeLent.{VolumeAnd, IsFcb};
@@ -12,7 +13,7 @@ use disk_volume::Wanted;
 use disk_volume::fields::{EX, NAME, NAME_END, S2};
 
 // What open and close hand back: why they are refused, and the slot of the entry that is meant.
-#[derive(Drop)]
+#[derive(Clone, Copy)]
 pub struct Found {
     pub why: Refusal,
     pub slot: usize,

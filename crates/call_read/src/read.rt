@@ -16,7 +16,7 @@ use disk_volume::Wanted;
 use disk_volume::fields::{NAME, NAME_END};
 
 // Where the record lies, or why it can't be read.
-#[derive(Drop)]
+#[derive(Clone, Copy)]
 pub enum ReadPlan {
     Go { slot: usize, block: usize },
     No(Refusal),

@@ -1,9 +1,10 @@
 // The calls that are served, and their numbers.
+#![tactic(auto)]
 ghost use Rattle.std.specs.Prelude.{◌≡◌};
 ghost use Rattle.call_served.specs.Calls.{call_of};
 
 // The calls that move records: one by the position or by r0 r1, or several.
-#[derive(Drop)]
+#[derive(Clone, Copy)]
 pub enum Transfer {
     ReadSequential,
     WriteSequential,
@@ -15,7 +16,7 @@ pub enum Transfer {
 }
 
 // The calls that are served, and one for every number that is not.
-#[derive(Drop)]
+#[derive(Clone, Copy)]
 pub enum Call {
     LogIn,
     Open,

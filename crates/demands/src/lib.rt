@@ -1,1 +1,2 @@
 // The user's three demands, stated and proved of the calls' definitions: statements and laws only, no code.
+#![tactic(auto)]

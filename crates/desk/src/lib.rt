@@ -1,5 +1,6 @@
 // The edition desk: one siglum replaced by another in one chapter of a collation file. It stands above the file calls and
 // relies on nothing below but their promises.
+#![tactic(auto)]
 ghost use Rattle.std.specs.Prelude.{◌≡◌};
 ghost use Rattle.desk.specs.Answer.{number_of, value_of};
 
@@ -13,28 +14,28 @@ pub mod replace;
 pub const ENOUGH: usize = 65536 * filecalls::ENOUGH;
 
 // Why a replacement is refused: the file's own refusal at record 0 (37 and 38 too), or 50.
-#[derive(Drop)]
+#[derive(Clone, Copy)]
 pub enum Why {
     Call(Refusal),
     Contents,
 }
 
 // What a replacement answers: how many records match, or a refusal.
-#[derive(Drop)]
+#[derive(Clone, Copy)]
 pub enum Answer {
     Matching(usize),
     Refused(Why),
 }
 
 // What a replacement answers, and the state that it hands back.
-#[derive(Drop)]
+#[derive(Clone, Copy)]
 pub struct Reply {
     pub answer: Answer,
     pub drive: Drive,
 }
 
 // What is decided, by reading alone: a refusal, or the first record and the count of the chapter's body.
-#[derive(Drop)]
+#[derive(Clone, Copy)]
 pub enum Plan {
     No(Why),
     Go(usize, usize),

@@ -1,4 +1,5 @@
 // Why a slot is bad: the first of inspection's rules that it breaks, in the paper's order.
+#![tactic(auto)]
 ghost use Rattle.std.specs.Prelude.{◌≡◌, not, cond, ◌≤◌, ◌<◌};
 ghost use Rattle.disk_geometry.specs.Geometry.{slots, places};
 ghost use Rattle.disk_volume.specs.CodeLent.{IsVolume, IsEntry};
@@ -11,7 +12,7 @@ use disk_geometry::Geometry;
 use disk_volume::{Wanted, directory, entry, fields, names};
 
 // The rules of a map's places: a block outside D to T-1, a block twice in the entry, a block in a lower slot.
-#[derive(Drop)]
+#[derive(Clone, Copy)]
 pub enum MapRule {
     Outside,
     Twice,
@@ -19,7 +20,7 @@ pub enum MapRule {
 }
 
 // The rules of a slot in the paper's order; None where none is broken.
-#[derive(Drop)]
+#[derive(Clone, Copy)]
 pub enum Rule {
     None,
     UserByte,
@@ -34,7 +35,7 @@ pub enum Rule {
 }
 
 // The rule broken, with the place of the map, the block and the other slot where the rule has one, 0 where it has not.
-#[derive(Drop)]
+#[derive(Clone, Copy)]
 pub struct Fault {
     pub rule: Rule,
     pub place: usize,

@@ -1,4 +1,5 @@
 // The geometry of a volume: its sizes, and where its records and slots lie.
+#![tactic(auto)]
 ghost use Rattle.std.specs.Prelude.{◌≡◌, true, ◌+◌, ◌*◌, ◌/◌, ◌%◌, ◌≤◌, ◌<◌};
 ghost use Rattle.disk_geometry.specs.Geometry.{record_bytes, entry_bytes, map_bytes, record_slots, is_floppy, lawful, bytes, number_bytes, records, extents, start, slots, slot_start, record_of, record_start, group_of, places, place_of, inside, blocks};
 ghost use Rattle.disk_geometry.specs.Shift.{bsh, blm};
@@ -7,7 +8,7 @@ ghost use Rattle.disk_geometry.specs.CodeMost.{most_of};
 mod eight_inch;
 
 // How the volume is cut up: B, T and D of the paper; and how its records are placed, which is one of the two numbers below.
-#[derive(Drop)]
+#[derive(Clone, Copy)]
 pub struct Geometry {
     pub block_bytes: usize,
     pub blocks: usize,

@@ -1,4 +1,5 @@
 // Inspection at log-in: the lowest bad slot, and the blocks that entries name.
+#![tactic(auto)]
 ghost use Rattle.std.specs.Prelude.{◌≡◌, true, ◌+◌, ◌≤◌, ◌<◌};
 ghost use Rattle.disk_geometry.specs.Geometry.{slots};
 ghost use Rattle.disk_volume.specs.CodeLent.{IsVolume};
@@ -12,7 +13,7 @@ use disk_geometry::Geometry;
 use disk_volume::fields;
 
 // The lowest bad slot, the number of slots where none is bad, and then the number of free blocks.
-#[derive(Drop)]
+#[derive(Clone, Copy)]
 pub struct Inspected {
     pub slot: usize,
     pub free: usize,

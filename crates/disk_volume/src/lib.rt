@@ -1,4 +1,5 @@
 // The volume: the directory's slots and their entries, names, and where a file's records stand.
+#![tactic(auto)]
 
 pub mod directory;
 pub mod entry;
@@ -6,7 +7,7 @@ pub mod fields;
 pub mod names;
 
 // What a search of the directory looks for.
-#[derive(Drop)]
+#[derive(Clone, Copy)]
 pub enum Wanted {
     Any,
     Empty,

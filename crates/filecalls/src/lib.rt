@@ -1,5 +1,6 @@
 // The file calls: every call is a method of the drive state that takes the state and hands it back. Beneath it stands a method of
 // the state's front, to which the held blocks are lent where the call takes or frees one.
+#![tactic(auto)]
 use call_answers::Answer;
 use call_search::{PATTERN_BYTES, SearchKind};
 use disk_geometry::Geometry;
@@ -25,7 +26,7 @@ mod writes;
 pub const ENOUGH: usize = 16 * 33;
 
 // A search that is kept between calls: its kind, the user and the pattern of its first call, and its last hit.
-#[derive(Drop)]
+#[derive(Clone, Copy)]
 pub struct KeptSearch {
     pub kind: SearchKind,
     pub user: u8,
@@ -34,7 +35,7 @@ pub struct KeptSearch {
 }
 
 // The state but for its held blocks: all that the calls look at which neither take a block nor free one.
-#[derive(Drop)]
+#[derive(Clone, Copy)]
 pub struct Front {
     pub geometry: Geometry,
     pub user: u8,
@@ -43,7 +44,7 @@ pub struct Front {
 }
 
 // The drive's state.
-#[derive(Drop)]
+#[derive(Clone, Copy)]
 pub struct Drive {
     pub geometry: Geometry,
     pub user: u8,
@@ -53,14 +54,14 @@ pub struct Drive {
 }
 
 // What a call answers, and the front of the state that it hands back.
-#[derive(Drop)]
+#[derive(Clone, Copy)]
 pub struct FrontReply {
     pub answer: Answer,
     pub front: Front,
 }
 
 // What a call answers, and the state that it hands back.
-#[derive(Drop)]
+#[derive(Clone, Copy)]
 pub struct Reply {
     pub answer: Answer,
     pub drive: Drive,

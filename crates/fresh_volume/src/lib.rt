@@ -1,1 +1,2 @@
 // The fresh disk: slots and blocks laid anew.
+#![tactic(auto)]

@@ -1,6 +1,7 @@
 // Reads a hex text from standard input and writes its CMD file to standard output. A text that is refused, or that has more
 // bytes than the program has room for, is a line on standard error, and nothing is written. A file that standard output does not take
 // whole is a line there too.
+#![tactic(auto)]
 ghost use Rattle.std.specs.Prelude.{◌≡◌, ◌≤◌, length, take};
 ghost use Rattle.gencmd_file.specs.Longest.{longest};
 ghost use Rattle.gencmd.specs.Said.{line_bytes, refused, too_long};

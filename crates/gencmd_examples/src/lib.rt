@@ -1,1 +1,2 @@
 // Hex texts worked out by hand, and what becomes of them, evaluated: definitions and statements only, no code.
+#![tactic(auto)]

@@ -1,5 +1,6 @@
 // From hex text to CMD file: the lines are walked once to test and measure them, and once for each group that is there, to lay
 // its bytes at their place in the output buffer. No other memory is needed.
+#![tactic(auto)]
 ghost use Rattle.std.specs.Prelude.{◌≡◌};
 ghost use Rattle.gencmd_file.specs.Gencmd.{number_of, length_of, after, gencmd};
 
@@ -14,14 +15,14 @@ mod writing;
 pub const LONGEST: usize = 262272;
 
 // What is to be done: nothing, for a refusal, or a file with groups of so many paragraphs.
-#[derive(Drop)]
+#[derive(Clone, Copy)]
 pub enum Plan {
     No(Refusal),
     Go(Groups),
 }
 
 // A file of so many bytes was written, or the text was refused.
-#[derive(Drop)]
+#[derive(Clone, Copy)]
 pub enum Answer {
     Written(usize),
     Refused(Refusal),

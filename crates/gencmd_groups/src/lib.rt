@@ -1,11 +1,12 @@
 // The groups of a hex text: how far each reaches, how many paragraphs it has, and its bytes, each at its address, laid into a
 // lent part.
+#![tactic(auto)]
 pub mod laying;
 pub mod measuring;
 pub mod sizing;
 
 // A number for each group: how far it reaches, or how many paragraphs it has; 0 where it is not there.
-#[derive(Drop)]
+#[derive(Clone, Copy)]
 pub struct Groups {
     pub code: usize,
     pub data: usize,
@@ -14,7 +15,7 @@ pub struct Groups {
 }
 
 // What measuring tells: why the lines are refused, or how far the groups reach.
-#[derive(Drop)]
+#[derive(Clone, Copy)]
 pub enum Measured {
     Refused(gencmd_lines::Refusal),
     Reached(Groups),

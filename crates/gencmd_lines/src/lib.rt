@@ -1,5 +1,6 @@
 // Hex lines: the bytes that a line's digits spell, why a line is refused, and where the lines of a text stand. A line is lent
 // from behind its colon to the end of the text.
+#![tactic(auto)]
 ghost use Rattle.std.specs.Prelude.{◌≡◌};
 ghost use Rattle.gencmd_lines.specs.Refusal.{refusal_number, is_none};
 
@@ -8,7 +9,7 @@ pub mod line;
 pub mod walk;
 
 // Why a text is refused, in the order of the tests; None is no refusal.
-#[derive(Drop)]
+#[derive(Clone, Copy)]
 pub enum Refusal {
     None,
     Digits,

@@ -1,1 +1,2 @@
 // Lists of bytes laid one behind the other: definitions and laws only, no code.
+#![tactic(auto)]

@@ -1,1 +1,2 @@
 // What holds of load, and of runs of memory calls and loads: statements and laws only, no code.
+#![tactic(auto)]

@@ -1,4 +1,5 @@
 // A file's records and its size, as the file calls show them: whether all of it can be read, and its image.
+#![tactic(auto)]
 ghost use Rattle.std.specs.Prelude.{◌≡◌, ◌+◌, ◌-◌, ◌*◌, ◌≤◌, ◌<◌, min, length, replicate};
 ghost use Rattle.lists.specs.Bytes.{part};
 ghost use Rattle.disk_geometry.specs.Geometry.{record_bytes};
@@ -13,7 +14,7 @@ use disk_geometry::Geometry;
 use filecalls::Front;
 
 // What reading a file to its end found: why it was refused, and how many records the file has.
-#[derive(Drop)]
+#[derive(Clone, Copy)]
 pub struct Seen {
     pub why: Refusal,
     pub records: usize,

@@ -1,5 +1,6 @@
 // Function 59, load: a CMD file is read to its end, its groups are granted, and its image and the base page are laid into the
 // memory. It stands above the file calls and the memory calls and relies on nothing below but their promises.
+#![tactic(auto)]
 use call_answers::Refusal;
 use memory_calls::Table;
 
@@ -9,7 +10,7 @@ pub mod load;
 mod page;
 
 // Why a load is refused: a refusal of the file calls, or one of its own.
-#[derive(Drop)]
+#[derive(Clone, Copy)]
 pub enum LoadRefusal {
     File(Refusal),
     Rules,
@@ -20,14 +21,14 @@ pub enum LoadRefusal {
 }
 
 // What a load answers: the paragraph of the base page, or a refusal.
-#[derive(Drop)]
+#[derive(Clone, Copy)]
 pub enum LoadAnswer {
     Loaded(usize),
     Refused(LoadRefusal),
 }
 
 // What a load hands back.
-#[derive(Drop)]
+#[derive(Clone, Copy)]
 pub struct LoadReply {
     pub answer: LoadAnswer,
     pub table: Table,

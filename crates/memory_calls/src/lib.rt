@@ -1,4 +1,5 @@
 // The memory calls 53 to 58 over a table of pieces and regions, by value.
+#![tactic(auto)]
 ghost use Rattle.std.specs.Prelude.{◌≡◌, ◌<◌};
 ghost use Rattle.memory_spans.specs.Span.{places};
 ghost use Rattle.memory_spans.specs.Room.{has_room};
@@ -11,7 +12,7 @@ use memory_regions::Regions;
 use memory_spans::{PARAGRAPHS, PLACES, Span};
 
 // Physical pieces and granted regions, eight places each, of which the first are used.
-#[derive(Drop)]
+#[derive(Clone, Copy)]
 pub struct Table {
     pub pieces: [Span; PLACES],
     pub used: usize,
@@ -20,7 +21,7 @@ pub struct Table {
 }
 
 // The memory control block: M-Base, M-Length, M-Ext.
-#[derive(Drop)]
+#[derive(Clone, Copy)]
 pub struct Mcb {
     pub base: u16,
     pub length: u16,
@@ -28,7 +29,7 @@ pub struct Mcb {
 }
 
 // Why a memory call is refused.
-#[derive(Drop)]
+#[derive(Clone, Copy)]
 pub enum Refusal {
     NotServed,
     Rules,
@@ -38,14 +39,14 @@ pub enum Refusal {
 }
 
 // What a memory call answers.
-#[derive(Drop)]
+#[derive(Clone, Copy)]
 pub enum Answer {
     Done,
     Refused(Refusal),
 }
 
 // All that a memory call leaves.
-#[derive(Drop)]
+#[derive(Clone, Copy)]
 pub struct Reply {
     pub answer: Answer,
     pub table: Table,

@@ -1,4 +1,5 @@
 // The regions of a table: one added behind the others, and a part of one freed.
+#![tactic(auto)]
 ghost use Rattle.std.specs.Prelude.{◌≡◌, true, [], ◌∷◌, ◌++◌, suc, ◌≤◌, ◌<◌, ltb, take, drop, get_or};
 ghost use Rattle.memory_spans.specs.Span.{places, paragraphs, none, end, any_of};
 ghost use Rattle.memory_regions.specs.Places.{padded, places_of};
@@ -8,7 +9,7 @@ ghost use Rattle.memory_regions.specs.CodeFreeing.{first_edge};
 use memory_spans::{PLACES, Span};
 
 // Eight region places, of which the first are used.
-#[derive(Drop)]
+#[derive(Clone, Copy)]
 pub struct Regions {
     pub list: [Span; PLACES],
     pub count: usize,

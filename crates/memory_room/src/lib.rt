@@ -1,4 +1,5 @@
 // Where there is room for so many paragraphs, the longest free run, and what a group is granted.
+#![tactic(auto)]
 ghost use Rattle.std.specs.Prelude.{◌≡◌, cond, ◌&&◌, ◌≤◌, ◌<◌, min, take, ltb};
 ghost use Rattle.lists.specs.Bounded.{low_from};
 ghost use Rattle.memory_spans.specs.Span.{places, paragraphs, end, most_of};
@@ -9,7 +10,7 @@ ghost use Rattle.memory_room.specs.CodeCandidates.{at_one, room_below};
 use memory_spans::{PARAGRAPHS, PLACES, Span};
 
 // What a group is granted.
-#[derive(Drop)]
+#[derive(Clone, Copy)]
 pub enum Granted {
     Given(Span),
     Nowhere,

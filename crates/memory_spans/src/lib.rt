@@ -1,4 +1,5 @@
 // Memory in paragraphs of 16 bytes: physical pieces and granted regions, the rules of their table, and the room that is left.
+#![tactic(auto)]
 ghost use Rattle.std.specs.Prelude.{◌≡◌, ◌+◌, ◌*◌, ◌-◌, ◌≤◌, ◌<◌, max, take, drop};
 ghost use Rattle.lists.specs.Bounded.{low_from};
 ghost use Rattle.memory_spans.specs.Span.{places, paragraphs, end, covers, overlap, lies_in, any_of, all_of};
@@ -7,7 +8,7 @@ ghost use Rattle.memory_spans.specs.CodeMeeting.{Met};
 ghost use Rattle.memory_spans.specs.Room.{taken, free_in, run, room, has_room};
 
 // A physical piece or a granted region: its first paragraph and how many it has.
-#[derive(Drop)]
+#[derive(Clone, Copy)]
 pub struct Span {
     pub start: u16,
     pub length: u16,

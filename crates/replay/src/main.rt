@@ -1,5 +1,6 @@
 // Replays a script of calls that stands on standard input and prints its transcript: a line for each call, the records that
 // the run has changed, and the number of calls.
+#![tactic(auto)]
 ghost use Rattle.std.specs.Prelude.{◌≡◌, ◌-◌, ◌≤◌, min, length};
 ghost use Rattle.lists.specs.Bytes.{part};
 ghost use Rattle.replay_script.specs.Layout.{longest_volume};
@@ -23,7 +24,7 @@ const FULL: usize = 130000;
 const STRETCH: usize = 256;
 
 // The part of the window that is not read yet, and whether standard input has ended.
-#[derive(Drop)]
+#[derive(Clone, Copy)]
 struct Unread {
     from: usize,
     to: usize,
@@ -31,7 +32,7 @@ struct Unread {
 }
 
 // What stands between two calls, and whether the script goes on.
-#[derive(Drop)]
+#[derive(Clone, Copy)]
 struct Run {
     drive: Drive,
     from: usize,
@@ -43,7 +44,7 @@ struct Run {
 }
 
 // How a run ended.
-#[derive(Drop)]
+#[derive(Clone, Copy)]
 struct Stop {
     calls: usize,
     at: usize,

@@ -1,4 +1,5 @@
 // The script of a replay: its header, and the call that stands next.
+#![tactic(auto)]
 ghost use Rattle.std.specs.Prelude.{◌≡◌, length};
 ghost use Rattle.numbers.specs.Numbers.{three};
 ghost use Rattle.replay_script.specs.Script.{header_of, next_of, is_known};
@@ -15,14 +16,14 @@ pub mod lending;
 pub mod window;
 
 // What the header says: a geometry and the volume's length, or nothing of use.
-#[derive(Drop)]
+#[derive(Clone, Copy)]
 pub enum Header {
     Good(Geometry, usize),
     Bad,
 }
 
 // The start of a call: function, parameter, and how many bytes are lent as control block and as buffer.
-#[derive(Drop)]
+#[derive(Clone, Copy)]
 pub struct Head {
     pub function: u8,
     pub parameter: u8,
@@ -31,7 +32,7 @@ pub struct Head {
 }
 
 // What stands next in a script.
-#[derive(Drop)]
+#[derive(Clone, Copy)]
 pub enum Next {
     End,
     Bad,

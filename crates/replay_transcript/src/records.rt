@@ -9,7 +9,7 @@ use crate::hex;
 use disk_geometry::Geometry;
 
 // Where a record lies.
-#[derive(Drop)]
+#[derive(Clone, Copy)]
 struct Piece {
     from: usize,
     to: usize,

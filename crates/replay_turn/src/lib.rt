@@ -1,4 +1,5 @@
 // The calls of a script are done one after the other, each with its line in the transcript.
+#![tactic(auto)]
 ghost use Rattle.std.specs.Prelude.{◌≡◌, ◌≤◌, length};
 ghost use Rattle.filecalls.specs.Outcome.{left};
 ghost use Rattle.call_served.specs.Asked.{asked};
@@ -18,7 +19,7 @@ use replay_script::{Head, Next};
 use replay_transcript::lines;
 
 // What a turn did: what stood next and how many bytes it took, the state after it, and the next place in the transcript.
-#[derive(Drop)]
+#[derive(Clone, Copy)]
 pub struct Turn {
     pub next: Next,
     pub used: usize,
@@ -59,7 +60,7 @@ fn play(
 }
 
 // The state after a call, and the next place in the transcript.
-#[derive(Drop)]
+#[derive(Clone, Copy)]
 struct Served {
     drive: Drive,
     at: usize,

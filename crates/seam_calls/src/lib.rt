@@ -1,4 +1,5 @@
 // Log-in, every other call and a call that is cut off, over the drive's bytes and whatever else is lent.
+#![tactic(auto)]
 ghost use Rattle.std.specs.Prelude.{◌≡◌, true, ◌||◌, List, [], ℕ};
 ghost use Rattle.call_served.specs.Calls.{call_of};
 ghost use Rattle.call_served.specs.declared.Call.TheVariants.{LogIn};
@@ -20,7 +21,7 @@ use seam_words::{geometry, seal, size};
 mod copies;
 
 // What is told of a call: its answer as one number, and whether it succeeded.
-#[derive(Drop)]
+#[derive(Clone, Copy)]
 struct Told {
     answer: u32,
     done: bool,

@@ -1,4 +1,5 @@
 // Reads volumes of V's geometry from standard input, one after another, and prints what they hold together, one figure a line.
+#![tactic(auto)]
 ghost use Rattle.std.specs.Prelude.{◌≡◌, ◌≤◌, length, take};
 ghost use Rattle.io.specs.Counts.{IsPrefixLen};
 ghost use Rattle.shelf_report.specs.Report.{report};
@@ -24,7 +25,7 @@ fn print(shelf: Shelf, out: &mut [u8])
 }
 
 // The shelf after a reading, and whether another follows.
-#[derive(Drop)]
+#[derive(Clone, Copy)]
 pub struct Reading {
     pub shelf: Shelf,
     pub more: bool,

@@ -1,4 +1,5 @@
 // The shelf: what up to 65,535 volumes hold together.
+#![tactic(auto)]
 ghost use Rattle.std.specs.Prelude.{◌≡◌, true};
 ghost use Rattle.call_answers.specs.Answer.{number_of};
 ghost use Rattle.filecalls.specs.LogIn.{log_in};
@@ -10,7 +11,7 @@ use shelf_holdings::Holdings;
 
 // The volumes refused at log-in; over the others the files, entries, records present, blocks held, blocks free and
 // waste; the volumes seen.
-#[derive(Drop)]
+#[derive(Clone, Copy)]
 pub struct Shelf {
     pub refused: usize,
     pub files: usize,
@@ -23,21 +24,21 @@ pub struct Shelf {
 }
 
 // The volume was counted, with the number that log-in answered; the shelf is full; its figures are outside the rules.
-#[derive(Drop)]
+#[derive(Clone, Copy)]
 pub enum Shelved {
     Counted(u8),
     Full,
     Outside,
 }
 
-#[derive(Drop)]
+#[derive(Clone, Copy)]
 pub struct Added {
     pub answer: Shelved,
     pub shelf: Shelf,
 }
 
 // What log-in answered to a volume, and the shelf that has it alone.
-#[derive(Drop)]
+#[derive(Clone, Copy)]
 struct Looked {
     said: u8,
     alone: Shelf,

@@ -1,5 +1,6 @@
 // Is an entry the first of its file? The first entries of files are in a tree by the keys of their users and names, so that few
 // lower slots are looked at.
+#![tactic(auto)]
 ghost use Rattle.std.specs.Prelude.{◌≡◌, false, ◌+◌, ◌-◌, ◌/◌, ◌≤◌, ◌<◌, eqb, length};
 ghost use Rattle.lists.specs.Bounded.{any};
 ghost use Rattle.lists.specs.Bytes.{byte};
@@ -37,7 +38,7 @@ const KEYED: usize = NEXT * NEXT;
 const WORDS: usize = 1 << 32;
 
 // How a look for a file ended: it was seen; or its way ends at `last`, 1 and the slot, where it would go on by `bit`.
-#[derive(Drop)]
+#[derive(Clone, Copy)]
 struct Way {
     seen: bool,
     last: usize,

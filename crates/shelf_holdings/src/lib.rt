@@ -1,4 +1,5 @@
 // What a volume holds: files, entries, records present, blocks held and free, waste.
+#![tactic(auto)]
 ghost use Rattle.std.specs.Prelude.{◌≡◌, true, cond, ◌+◌, ◌-◌, ◌*◌, ◌≤◌, ◌<◌};
 ghost use Rattle.disk_geometry.specs.Geometry.{lawful, slots, records, places};
 ghost use Rattle.disk_volume.specs.CodeLent.{IsVolume, IsEntry};
@@ -12,7 +13,7 @@ use disk_geometry::Geometry;
 use disk_volume::{entry, fields};
 
 // The figures of one volume.
-#[derive(Drop)]
+#[derive(Clone, Copy)]
 pub struct Holdings {
     pub files: usize,
     pub entries: usize,
@@ -23,7 +24,7 @@ pub struct Holdings {
 }
 
 // What the slots passed so far have.
-#[derive(Drop)]
+#[derive(Clone, Copy)]
 struct Counts {
     files: usize,
     entries: usize,

@@ -1,0 +1,73 @@
+-- Each step's contract is put into the next, up to the two groups of tests that make up the write's.
+use mathlib.Core.Path.{◌≡◌, sym, ap, ◌∙◌}
+use mathlib.Core.Bool.{true, false, false≢true}
+use Prim.Native.Nat.{ℕ}
+use borrow.Author.Tests.{not-true, not-false}
+use borrow.Author.Rules.{rules}
+use Rattle.disk_volume.specs.Directory.{find_slot}
+use Rattle.disk_volume.specs.Name.{strip}
+use Rattle.disk_volume.specs.Record.{record_slot}
+use Rattle.disk_volume.specs.declared.Wanted.TheVariants.{File, Group, Empty}
+use Rattle.call_answers.specs.Refusal.{is_none, first_met}
+use Rattle.call_decide.specs.Write.{base_entry, needs_block}
+use Rattle.call_decide.specs.CodePlan.{own_or, from_slot, file_tests}
+use Rattle.call_decide.proofs.WriteLaws.{base_is, slot_is, block_is, file_there, refused_file, passed_file}
+use Rattle.call_decide.proofs.decide.Goals as goal
+
+-- TODO place After-find-own 
+own_is : (c : goal.After-find-own) → (let a = c.args in c.find-own.result ≡ record_slot a.g a.volume.now a.user (strip a.name.now) a.n)
+unfolding record_slot
+own_is c =
+    let a = c.args in
+    c.find-own.ensures.0 ∙ ap (λ (k : ℕ). find_slot a.g a.volume.now a.user (strip a.name.now) (Group k)) c.group-group.ensures
+
+from_is : (c : tie.After-own-or) → (let a = c.before.before.before.before.before.before.before.args in c.own-or.result ≡ from_slot a.g a.volume.now a.user (strip a.name.now) a.n)
+unfolding from_slot
+from_is c =
+    let a = c.before.before.before.before.before.before.before.args in
+    c.own-or.ensures.0 ∙ ap (λ (i : ℕ). own_or a.g a.volume.now a.user (strip a.name.now) i File) (own_is c.before)
+
+why_is : (c : tie.After-file-why) → (let a = c.before.before.before.before.before.before.before.before.args in c.file-why.result ≡ first_met (file_tests a.g a.volume.now a.user (strip a.name.now) (from_slot a.g a.volume.now a.user (strip a.name.now) a.n)))
+why_is c =
+    let a = c.before.before.before.before.before.before.before.before.args in
+    c.file-why.ensures ∙ ap (λ (i : ℕ). first_met (file_tests a.g a.volume.now a.user (strip a.name.now) i)) (from_is c.before)
+
+entry_is : (c : tie.After-base-entry) → (let a = c.before.before.before.before.before.before.before.before.before.before.before.before.args in c.base-entry.new.1.1.1.1.0 ≡ base_entry a.g a.volume.now a.user (strip a.name.now) a.n)
+entry_is c =
+    let a = c.before.before.before.before.before.before.before.before.before.before.before.before.args in
+    c.base-entry.ensures ∙ rw (own_is c.before.before.before.before.before.before, from_is c.before.before.before.before.before) (sym (base_is a.g a.volume.now a.user (strip a.name.now) a.n))
+
+slot_here : (c : tie.After-own-or2) → (let a = c.before.before.before.before.before.before.before.before.before.before.before.before.before.before.before.args in c.own-or2.result ≡ own_or a.g a.volume.now a.user (strip a.name.now) (record_slot a.g a.volume.now a.user (strip a.name.now) a.n) Empty)
+slot_here c =
+    let a = c.before.before.before.before.before.before.before.before.before.before.before.before.before.before.before.args in
+    c.own-or2.ensures.0 ∙ ap (λ (i : ℕ). own_or a.g a.volume.now a.user (strip a.name.now) i Empty) (own_is c.before.before.before.before.before.before.before.before.before)
+
+pub returns-then-not-is_none : goal.returns-then-not-is_none
+returns-then-not-is_none c =
+    let a = c.args in
+    let w = why_is c@After-file_why in
+    let e : is_none c.file_why-why.result ≡ false = sym c.is_none.ensures ∙ not-true c.is_none.result c.if-not-is_none.true in
+    (w ∙ sym (refused_file a.g a.held.now a.volume.now a.user (strip a.name.now) a.n (ap is_none (sym w) ∙ e)), λ h. absurd (false≢true (sym e ∙ h)))
+
+pub base_entry-requires : goal.base_entry-requires
+base_entry-requires c =
+    let e : is_none c.file_why-why.result ≡ true = sym c.is_none.ensures ∙ not-false c.is_none.result c.if-not-is_none.false in
+    ((c.requires.volume_and.0, c.requires.volume_and.1.0), (file_there c.args.g _ _ _ c.own_or-from.result (ap is_none (sym c.file_why-why.ensures) ∙ e), search rules))
+
+pub returns : goal.returns
+unfolding needs_block
+returns c =
+    let a = c.args in
+    let name = strip a.name.now in
+    let e : is_none c.file_why-why.result ≡ true = sym c.is_none.ensures ∙ not-false c.is_none.result c.if-not-is_none.false in
+    let b = entry_is c@After-base_entry-arg in
+    let s = slot_here c@After-slice_known2 in
+    (
+      c.room.ensures.why_value ∙ rw (b, s) (sym (passed_file a.g a.held.now a.volume.now a.user name a.n (ap is_none (sym (why_is c@After-own_or)) ∙ e))),
+      λ h. record {
+        slot_is = c.room.ensures.slot_value ∙ s ∙ sym (slot_is a.g a.volume.now a.user name a.n);
+        block_is = c.room.ensures.block_value ∙ rw b (sym (block_is a.g a.held.now a.volume.now a.user name a.n));
+        fresh_is = c.room.ensures.fresh_value ∙ rw b;
+        entry_is = b;
+      },
+    )

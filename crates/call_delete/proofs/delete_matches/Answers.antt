@@ -1,0 +1,20 @@
+-- An earlier refusal or one of the directory's alters nothing; else blocks and entries go as the definitions say.
+use Rattle.call_answers.specs.Refusal.{first}
+use borrow.Author.Tests.{not-true, not-false}
+use mathlib.Core.Path.{sym, ap, ◌∙◌}
+use borrow.Author.Rules.{rules}
+use Rattle.call_delete.proofs.delete_matches.Goals as goal
+
+pub returns-then-not-is_none : goal.returns-then-not-is_none
+returns-then-not-is_none c =
+    let n = sym c.is_none.ensures ∙ not-true _ c.if-not-is_none.true in
+    (c.first_of-why.ensures ∙ ap (first c.args.before) c.delete_why.ensures, (rw n, (rw n, rw n)))
+
+pub change_most-requires : goal.change_most-requires
+change_most-requires c = let p = c.requires.volume_and in ((p.0, p.1.0), ((p.1.1, p.1.1), c.find-first.ensures.0))
+
+pub returns : goal.returns
+returns c =
+    let n = sym c.is_none.ensures ∙ not-false _ c.if-not-is_none.false in
+    let o = c.change_most in
+    (c.first_of-why.ensures ∙ ap (first c.args.before) c.delete_why.ensures, (rw n c.free_matches.ensures, (rw n o.ensures.0, rw n o.ensures.1)))

@@ -1,0 +1,28 @@
+-- The tests are asked in the ladder's order; with none met there is an empty slot.
+use mathlib.Core.Path.{◌≡◌, refl, sym, ap, ◌∙◌}
+use lib.Dec.{leb, ltb}
+use borrow.Author.Rules.{rules}
+use Rattle.disk_volume.specs.Directory.{find_slot}
+use Rattle.disk_volume.specs.Name.{strip}
+use Rattle.disk_geometry.specs.Geometry.{slots}
+use Rattle.disk_volume.specs.declared.Wanted.TheVariants.{Empty, File}
+use Rattle.call_answers.specs.Refusal.{is_none, first, first_met}
+use Rattle.call_answers.specs.declared.Refusal.TheVariants.{Exists, NoRoom}
+use Rattle.call_make.specs.Make.{make_tests}
+use Rattle.call_make.proofs.MakeLaws.{empty_slot_below, later_clear}
+use Rattle.call_answers.proofs.Ladder.{ladder_two}
+use Rattle.call_make.proofs.make_why.Goals as goal
+
+why : (c : tie.After-first-of) → (let a = c.before.before.before.before.before.before.before.before.args in c.first_of.result ≡ first_met (make_tests a.g a.volume.now a.user (strip a.name.now)))
+unfolding make_tests
+why c =
+    let a = c.before.before.before.before.before.before.before.before.args in
+    let v = a.volume.now in
+    let n = strip a.name.now in
+    rw (← ladder_two Exists NoRoom (ltb (find_slot a.g v a.user n File) (slots a.g)) (leb (slots a.g) (find_slot a.g v a.user n Empty)) refl, ← c.before.before.before.before.find.ensures.0, ← c.before.before.before.find-empty.ensures.0, ← c.before.before.before.before.before.slots.ensures.0, ← c.before.before.refuse.ensures, ← c.before.refuse2.ensures) c.first_of.ensures
+
+pub returns : goal.returns
+returns c =
+    let a = c.args in
+    let e = c.first_of-why.ensures ∙ ap (first a.before) (why c@After-first_of) in
+    (e, (c.find_empty-slot.ensures.0, λ q. rw c.find_empty-slot.ensures.0 (empty_slot_below a.g a.volume.now a.user (strip a.name.now) (later_clear a.before _ (ap is_none (sym e) ∙ q)))))

@@ -1,0 +1,34 @@
+-- The plan is the ladder's answer; where it goes on, the slot and the block are the record's.
+use mathlib.Core.Path.{sym, ◌∙◌}
+use borrow.Author.Rules.{rules}
+use Rattle.lists.specs.Bytes.{part}
+use Rattle.disk_volume.specs.Name.{name_at, name_of}
+use Rattle.call_read.specs.Read.{read_bytes}
+use Rattle.call_read.proofs.ReadLaws.{Goes, plan_go, plan_no}
+use Rattle.call_read.proofs.read.read_record.Goals as goal
+
+-- TODO place In-Go-2 
+-- what the arm that reads may rely on
+goes : (c : goal.In-Go-2) → (let a = c.args in Goes a.g a.volume.now a.user (name_of a.fcb.now) a.n a.missing c.slot-1.given.0.0 c.slot-1.given.0.1.0)
+unfolding name_at part
+goes c =
+    let a = c.args in
+    plan_go a.g a.volume.now a.user (name_of a.fcb.now) a.n a.missing c.requires.n_lt_file_records.1 c.slot-1.given.0.0 c.slot-1.given.0.1.0 (sym c.plan.ensures ∙ c.slot-1.given.1)
+
+pub act-requires : goal.act-requires
+act-requires c =
+    let k = goes c@After-slot in
+    (c.requires.volume_and, (k.slot_in, (k.block_in, c.requires.n_lt_file_records.0)))
+
+pub returns-in-No : goal.returns-in-No
+unfolding name_at part
+returns-in-No c =
+    let a = c.args in
+    let k = plan_no a.g a.volume.now a.user (name_of a.fcb.now) a.n a.missing c.requires.n_lt_file_records.1 c.why-1.given.0.0 (sym c.plan.ensures ∙ c.why-1.given.1) in
+    (k.0, (rw k.1, rw k.1))
+
+pub returns-in-Go : goal.returns-in-Go
+unfolding read_bytes
+returns-in-Go c =
+    let k = goes c@After-slot in
+    (sym k.clear, (rw (← k.slot_is) c.act.ensures.fcb_after, rw (← k.block_is) c.act.ensures.buffer_after))

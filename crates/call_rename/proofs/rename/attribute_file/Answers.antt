@@ -1,0 +1,32 @@
+-- An earlier refusal or a missing file alters nothing; else the sweep marks the file's entries.
+use Rattle.call_answers.proofs.Ladder.{ladder_one}
+use Rattle.call_answers.specs.Refusal.{test, first, first_met}
+use Rattle.call_answers.specs.declared.Refusal.TheVariants.{NoMatch}
+use Rattle.disk_volume.specs.Directory.{find_slot}
+use Rattle.disk_volume.specs.Name.{strip}
+use Rattle.disk_geometry.specs.Geometry.{slots}
+use Rattle.disk_volume.specs.declared.Wanted.TheVariants.{File}
+use mathlib.Core.List.{[], ◌∷◌}
+use lib.Dec.{leb}
+use mathlib.Core.Path.{◌≡◌, refl, sym, ◌∙◌}
+use borrow.Author.Rules.{rules}
+use Rattle.call_rename.proofs.rename.attribute_file.Goals as goal
+
+why : (c : tie.After-first-of) → (let a = c.before.before.before.before.before.before.before.args in c.first_of.result ≡ first a.before (first_met (test NoMatch (leb (slots a.g) (find_slot a.g a.volume.now a.user (strip a.name.now) File)) ∷ [])))
+why c =
+    let a = c.before.before.before.before.before.before.before.args in
+    rw (← ladder_one NoMatch (leb (slots a.g) (find_slot a.g a.volume.now a.user (strip a.name.now) File)) refl, ← c.before.before.before.find.ensures.0, ← c.before.before.slots.ensures.0, ← c.before.refuse.ensures) c.first_of.ensures
+
+pub change_most-requires : goal.change_most-requires
+change_most-requires c = ((c.requires.0, c.requires.1.0), ((c.requires.1.1, c.requires.1.1), c.find-first.ensures.0))
+
+pub returns-then-is_none : goal.returns-then-is_none
+returns-then-is_none c =
+    let n = sym c.is_none.ensures ∙ c.if-is_none.true in
+    let o = c.change_most in
+    (why c@After-first_of, (rw n o.ensures.0, rw n o.ensures.1))
+
+pub returns-else-is_none : goal.returns-else-is_none
+returns-else-is_none c =
+    let n = sym c.is_none.ensures ∙ c.if-is_none.false in
+    (why c@After-first_of, (rw n, rw n))

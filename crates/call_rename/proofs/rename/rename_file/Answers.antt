@@ -1,0 +1,19 @@
+-- An earlier refusal or one of the directory's alters nothing; else the sweep renames the file's entries.
+use Rattle.call_answers.specs.Refusal.{first}
+use mathlib.Core.Path.{sym, ap, ◌∙◌}
+use borrow.Author.Rules.{rules}
+use Rattle.call_rename.proofs.rename.rename_file.Goals as goal
+
+pub change_most-requires : goal.change_most-requires
+change_most-requires c = (c.requires.volume, (c.requires.name, c.find-first.ensures.0))
+
+pub returns-then-is_none : goal.returns-then-is_none
+returns-then-is_none c =
+    let n = sym c.is_none.ensures ∙ c.if-is_none.true in
+    let o = c.change_most in
+    (c.first_of-why.ensures ∙ ap (first c.args.before) c.rename_why.ensures, (rw n o.ensures.0, rw n o.ensures.1))
+
+pub returns-else-is_none : goal.returns-else-is_none
+returns-else-is_none c =
+    let n = sym c.is_none.ensures ∙ c.if-is_none.false in
+    (c.first_of-why.ensures ∙ ap (first c.args.before) c.rename_why.ensures, (rw n, rw n))

@@ -1,0 +1,21 @@
+-- The larger of two numbers is one of them.
+use mathlib.Core.Path.{◌≡◌}
+use native.Mathlib.Omega.{arith}
+use borrow.Author.Rules.{rules}
+use Rattle.disk_volume.specs.Directory.{slot_at}
+use Rattle.disk_volume.proofs.EntryLaws.{lent_slot}
+use Rattle.call_size.specs.Size.{entry_end}
+use Rattle.call_size.proofs.larger_at.Goals as goal
+
+-- the end by slot i is what `entry_end` answered
+end : (c : tie.After-entry-end) → (let a = c.before.before.before.before.args in entry_end (slot_at a.g a.volume.now a.i) ≡ c.entry-end.result)
+end c =
+    let a = c.before.before.before.before.args in
+    let at = c.before.before.slot-start in
+    rw (← lent_slot a.g a.volume.now a.i at.result at.ensures.0, c.entry-end.ensures.0)
+
+pub returns-then-m-end : goal.returns-then-m-end
+returns-then-m-end c = (rw (end c@After-entry_end) (omega arith), search rules)
+
+pub returns-else-m-end : goal.returns-else-m-end
+returns-else-m-end c = (rw (end c@After-entry_end) (omega arith), search rules)

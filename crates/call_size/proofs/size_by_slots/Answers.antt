@@ -1,0 +1,26 @@
+-- No entry below the first is the file's; the entries seen from there on gave m, so what is left to be seen gives the size.
+use Rattle.call_size.specs.Size.{larger, size_of}
+use Rattle.disk_geometry.specs.Geometry.{slots}
+use Rattle.disk_volume.proofs.FindLaws.{find_le, folded_from_found}
+use Rattle.disk_volume.specs.declared.Wanted.TheVariants.{File}
+use Rattle.disk_volume.specs.Name.{strip}
+use Rattle.lists.proofs.FoldLaws.{Folded, folded_next, folded_end}
+use Prim.Native.Nat.{◌≤◌, ◌<◌, ◌-◌}
+use mathlib.Core.Path.{sym}
+use borrow.Author.Rules.{rules}
+use Rattle.call_size.proofs.size_by_slots.Goals as goal
+
+pub loop-i-init : goal.loop-i-init
+unfolding larger
+loop-i-init c =
+    let a = c.args in
+    let v = a.volume.now in
+    let p = strip a.name.now in
+    (rw c.requires.first_value (find_le a.g v a.user p File), (search rules, rw c.requires.first_value (folded_from_found a.g v a.user p File (larger a.g v a.user p) 0 (λ i h. rw h))))
+
+pub loop-i-preserved : goal.loop-i-preserved
+loop-i-preserved c = (search rules, (c.larger_of-m.ensures.1, folded_next c.loop-i.invariant.1.1 (search rules) c.larger_of-m.ensures.0))
+
+pub returns : goal.returns
+unfolding size_of
+returns c = (sym (folded_end c.loop-i.invariant.1.1 (search rules)), search rules)

@@ -1,0 +1,23 @@
+-- The records passed had their stores, so what is still to be stored with what is left gives the whole.
+use mathlib.Core.Path.{◌≡◌, sym, ◌∙◌}
+use Prim.Native.Nat.{◌-◌, ◌≤◌}
+use lib.ListN.{length}
+use borrow.Author.Rules.{rules}
+use Rattle.disk_geometry.specs.Geometry.{bytes, records}
+use Rattle.disk_stores.proofs.CodeLaws.{CutFilled, filled_start, filled_next, filled_end}
+use Rattle.call_store.proofs.data.fill_block.Goals as goal
+
+pub loop-k-init : goal.loop-k-init
+loop-k-init c = (search rules, (search rules, filled_start))
+
+pub fill_record-requires : goal.fill_record-requires
+fill_record-requires c = ((c.requires.volume.0, c.loop-k.invariant.1.0), c.requires.block_bound)
+
+pub loop-k-preserved : goal.loop-k-preserved
+loop-k-preserved c =
+    let l = c.loop-k in
+    let o = c.fill_record in
+    (search rules, (o.auto.1.0 ∙ l.invariant.1.0, filled_next l.invariant.1.1 (search rules) o.ensures.0 o.ensures.1))
+
+pub returns : goal.returns
+returns c = filled_end c.loop-k.invariant.1.1 (search rules)

@@ -1,0 +1,7 @@
+-- The record is stored as the logical record that it is.
+use mathlib.Core.Path.{◌≡◌, ◌∙◌}
+use borrow.Author.Rules.{rules}
+use Rattle.call_store.proofs.data.put_record.Goals as goal
+
+pub returns : goal.returns
+returns c = (c.store_record.ensures.volume_after ∙ rw c.record_of-q.ensures.0, c.store_record.ensures.left_after)

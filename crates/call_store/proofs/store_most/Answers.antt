@@ -1,0 +1,22 @@
+-- The data, and then the entry on the volume that they left; where none is left for it, what it is made of does not matter.
+use mathlib.Core.Path.{◌≡◌, ap, ◌∙◌}
+use Prim.Native.Nat.{ℕ, ◌-◌}
+use native.Mathlib.Omega.{arith}
+use borrow.Author.Rules.{rules}
+use Rattle.disk_stores.specs.Stores.{laid, record_stores}
+use Rattle.disk_stores.proofs.CodeLaws.{then_entry, then_length}
+use Rattle.call_store.proofs.store_most.Goals as goal
+
+pub put_slot-requires : goal.put_slot-requires
+put_slot-requires c =
+    ((c.requires.volume.0, c.put_filled.auto.1.1.0 ∙ c.requires.volume.1), (c.requires.slot_bound.0, c.requires.fact.1))
+
+pub returns : goal.returns
+returns c =
+    let a = c.args in
+    let d = c.put_filled in
+    let o = c.put_slot in
+    let records = record_stores a.g a.fills a.block a.n a.buffer.now in (
+      o.ensures.0 ∙ rw (d.ensures.0, d.ensures.1) (then_entry a.g a.volume.now records a.left.now a.slot a.e.now),
+      o.ensures.1 ∙ ap (λ (x : ℕ). x - 1) d.ensures.1 ∙ then_length a.g (laid a.g a.volume.now records) records a.left.now a.slot a.e.now,
+    )

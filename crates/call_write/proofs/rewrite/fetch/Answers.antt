@@ -1,0 +1,22 @@
+-- By the two ways of the test; the record is lent from where the definition has it.
+use mathlib.Core.Path.{◌≡◌}
+use Prim.Native.Nat.{◌+◌, ◌-◌}
+use native.Mathlib.Omega.{arith}
+use borrow.Author.Tests.{not-true, not-false}
+use borrow.Author.Rules.{rules}
+use Rattle.lists.specs.Bytes.{part}
+use Rattle.disk_volume.specs.Record.{record_at}
+use Rattle.call_write.proofs.rewrite.fetch.Goals as goal
+
+pub returns-then-not-is_counted : goal.returns-then-not-is_counted
+returns-then-not-is_counted c =
+    let k = c.is_counted in
+    rw (← k.ensures, not-true k.result c.if-not-is_counted.true)
+
+pub returns : goal.returns
+unfolding record_at part
+returns c =
+    let k = c.is_counted in
+    let at = c.record_start-at in
+    let z : at.result + 128 - at.result ≡ 128 = omega arith in
+    rw (← k.ensures, not-false k.result c.if-not-is_counted.false, ← at.ensures.0) (rw z at c.copy.ensures)

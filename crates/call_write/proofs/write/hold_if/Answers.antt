@@ -1,0 +1,10 @@
+-- By the two ways of the test.
+use borrow.Author.Tests.{not-true, not-false}
+use borrow.Author.Rules.{rules}
+use Rattle.call_write.proofs.write.hold_if.Goals as goal
+
+pub returns-then-not-fresh : goal.returns-then-not-fresh
+returns-then-not-fresh c = rw (not-true c.args.fresh c.if-not-fresh.true)
+
+pub returns : goal.returns
+returns c = rw (not-false c.args.fresh c.if-not-fresh.false) c.hold.ensures

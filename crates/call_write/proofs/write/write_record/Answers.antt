@@ -1,0 +1,64 @@
+-- A refusal comes before every store. Where no test is met, what was decided is what is defined, and it lies in the volume.
+use mathlib.Core.Path.{◌≡◌, sym, ap, ◌∙◌}
+use mathlib.Core.Bool.{true, false, cond}
+use mathlib.Core.List.{List}
+use Prim.Native.Nat.{ℕ}
+use borrow.Author.Tests.{not-true, not-false}
+use borrow.Author.Rules.{rules}
+use Rattle.lists.specs.Bytes.{part}
+use Rattle.disk_volume.specs.Name.{name_at, name_of}
+use Rattle.call_answers.specs.Refusal.{is_none}
+use Rattle.call_decide.specs.CodePlan.{Decided}
+use Rattle.call_write.specs.Rewrite.{with_first_two, bytes_of}
+use Rattle.call_write.proofs.DecidedLaws.{wrote_nothing, wrote, slot_fits_lem, block_fits, shown_counted}
+use Rattle.call_write.proofs.write.write_record.Goals as goal
+
+-- TODO place Else-not-is_none 
+none_met : (c : goal.Else-not-is_none) → is_none c.decide-plan.result.why ≡ true
+none_met c = sym c.is_none.ensures ∙ not-false c.is_none.result c.if-not-is_none.false
+
+-- TODO place Else-not-is_none 
+decided : (c : goal.Else-not-is_none) → (let a = c.args in let r = c.decide-plan.result in Decided a.g a.held.now a.volume.now a.user (name_of a.fcb.now) a.n r.slot r.block r.fresh c.decide-plan.new.1.1.1.1.1.1.0)
+unfolding name_at part
+decided c = c.decide-plan.ensures.decided (none_met c)
+
+-- the bytes that are written
+abbrev bytes : (s : tie.Start) → List ℕ
+bytes s = let a = s.args in bytes_of a.g a.volume.now a.user (name_of a.fcb.now) a.n a.buffer.now a.again a.low a.high
+
+pub returns-then-not-is_none : goal.returns-then-not-is_none
+unfolding name_at part
+returns-then-not-is_none c =
+    let a = c.args in
+    let met : is_none c.decide-plan.result.why ≡ false = sym c.is_none.ensures ∙ not-true c.is_none.result c.if-not-is_none.true in
+    wrote_nothing a.g a.fills a.volume.now a.fcb.now (bytes s) a.user a.held.now a.n a.cr a.left.now c.decide-plan.ensures.why_value met
+
+pub write_decided-requires : goal.write_decided-requires
+unfolding name_at part
+write_decided-requires c =
+    let a = c.args in
+    let w = c.decide-plan.ensures.why_value in
+    let none = none_met c@Else1 in
+    let d = decided c@Else1 in (
+      c.requires.volume,
+      (
+        c.requires.fcb,
+        (
+          search rules,
+          (
+            slot_fits_lem a.g a.fills a.volume.now a.fcb.now (bytes s) a.user a.held.now a.n a.cr a.left.now w none d,
+            block_fits a.g a.fills a.volume.now a.fcb.now (bytes s) a.user a.held.now a.n a.cr a.left.now w none d,
+          ),
+        ),
+      ),
+    )
+
+pub returns : goal.returns
+unfolding name_at part
+returns c =
+    let a = c.args in
+    let w = c.decide-plan.ensures.why_value in
+    let d = decided e in
+    let shown = shown_counted a.g a.held.now a.volume.now a.user (name_of a.fcb.now) a.n c.requires.volume.0.0 c.requires.volume.0.1 (ap is_none (sym w) ∙ none_met e) d.entry_is d.block_is in
+    let b = ap (λ (x : List ℕ). cond a.again (with_first_two a.low a.high x) a.buffer.now) shown in
+    wrote a.g a.fills a.volume.now a.fcb.now (bytes s) a.user a.held.now a.n a.cr a.left.now w (none_met e) d (rw b at c.write_decided.ensures)

@@ -1,0 +1,6 @@
+-- The number of the refusal that the file calls gave, or 50.
+use borrow.Author.Rules.{rules}
+use Rattle.desk.proofs.number.Goals as goal
+
+pub returns-in-Call : goal.returns-in-Call
+returns-in-Call c = rw (c.a-1.given.1, c.why-1.given.1) c.refusal_number.ensures

@@ -1,0 +1,7 @@
+-- The call is lent the copy, and as many stores as are left.
+use Rattle.desk.proofs.RecordLaws.{rewrites}
+use borrow.Author.Rules.{rules}
+use Rattle.desk.proofs.records.rewrite_most.Goals as goal
+
+pub returns : goal.returns
+returns c = rewrites _ _ _ _ _ _ c.point.ensures c.rewrite_random_most.ensures

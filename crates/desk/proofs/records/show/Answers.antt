@@ -1,0 +1,11 @@
+-- The read is lent the copy and a buffer of zeros.
+use mathlib.Core.List.{List}
+use Prim.Native.Nat.{ℕ}
+use Rattle.filecalls.specs.CodeFront.{joined, joined_reply}
+use lib.ListN.{length}
+use Rattle.desk.proofs.RecordLaws.{shows}
+use borrow.Author.Rules.{rules}
+use Rattle.desk.proofs.records.show.Goals as goal
+
+pub returns : goal.returns
+returns c = λ (held : List ℕ). shows _ _ _ _ (joined_reply c.read_random-r.result held) {k = length c.args.buffer.now} c.point.ensures c.fill.ensures (search rules) (c.read_random-r.ensures held) c.why_of.ensures

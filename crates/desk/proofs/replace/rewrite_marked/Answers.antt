@@ -1,0 +1,22 @@
+-- What is still to be rewritten from here with what is left gives the whole, and so does the count.
+use mathlib.Core.Path.{◌≡◌, refl, sym, ◌∙◌}
+use Prim.Native.Nat.{◌≤◌, ◌-◌}
+use lib.ListN.{length}
+use Rattle.filecalls.specs.CodeFront.{joined}
+use Rattle.desk.specs.CodeDesk.{marked}
+use Rattle.desk.proofs.LoopLaws.{Going, going_start, going_next, going_end}
+use borrow.Author.Rules.{rules}
+use Rattle.desk.proofs.replace.rewrite_marked.Goals as goal
+
+pub loop-i-init : goal.loop-i-init
+loop-i-init c = (search rules, (refl, (search rules, going_start _ _ _ _ _ _ _ _)))
+
+pub loop-i-preserved : goal.loop-i-preserved
+loop-i-preserved c =
+    let r = c.rewrite_if-count in
+    let l = c.loop-i in
+    let g = going_next _ _ _ _ _ _ _ _ l.invariant.1.1.1 (search rules) r.ensures.0.0 r.ensures.0.1 r.ensures.1 in
+    (search rules, (r.auto.1.1.1.0 ∙ l.invariant.1.0, (g.few, g)))
+
+pub returns : goal.returns
+returns c = going_end _ _ _ _ _ _ _ _ c.loop-i.invariant.1.1.1 (search rules)

@@ -1,0 +1,16 @@
+-- What is still to be rewritten from here with what is left gives the whole, and so does the count.
+use mathlib.Core.Path.{◌≡◌, refl, sym, ◌∙◌}
+use Prim.Native.Nat.{◌≤◌, ◌-◌}
+use lib.ListN.{length}
+use Rattle.filecalls.specs.CodeFront.{joined}
+use Rattle.desk.specs.CodeDesk.{marked}
+use Rattle.desk.proofs.LoopLaws.{Going, going_start, going_next, going_end}
+use borrow.Author.Rules.{rules}
+use Rattle.desk.proofs.replace.rewrite_marked.Given as goal
+
+abbrev pub invariant-loop-i : goal.invariant-loop-i
+invariant-loop-i l =
+    (l.i ≤ l.k) × ((length l.volume ≡ length l.initial.volume) × ((l.count ≤ l.i) × Going (marked l.marks) (joined l.front l.held) l.fcb l.siglum l.initial.volume l.initial.left l.first l.k l.volume l.left l.count l.i))
+
+abbrev pub decreases-loop-i : goal.decreases-loop-i
+decreases-loop-i l = l.k - l.i

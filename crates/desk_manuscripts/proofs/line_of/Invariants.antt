@@ -1,0 +1,14 @@
+-- No line passed so far has the siglum, so what is still to be searched gives the whole.
+use Rattle.desk_manuscripts.specs.Manuscript.{line_is, line_of}
+use Rattle.lists.proofs.BoundedLaws.{Searched, searched_start, searched_next, searched_hit, searched_none, from_zero}
+use lib.ListN.{length}
+use Prim.Native.Nat.{◌≤◌, ◌-◌, ◌/◌}
+use mathlib.Core.Path.{◌≡◌, refl, sym, ◌∙◌}
+use borrow.Author.Rules.{rules}
+use Rattle.desk_manuscripts.proofs.line_of.Given as goal
+
+abbrev pub invariant-loop-i : goal.invariant-loop-i
+invariant-loop-i l = (l.n ≡ length l.list / 32) × ((l.i ≤ l.n) × Searched (line_is l.list l.siglum) 0 l.n l.i)
+
+abbrev pub decreases-loop-i : goal.decreases-loop-i
+decreases-loop-i l = l.n - l.i

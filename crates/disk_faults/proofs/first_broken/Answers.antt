@@ -1,0 +1,14 @@
+-- The entry that is lent is the one in slot i; what code finds from the last rule up is the first rule.
+use Rattle.disk_volume.proofs.EntryLaws.{lent_slot}
+use Rattle.disk_faults.proofs.LadderLaws.{ladder}
+use mathlib.Core.Path.{◌∙◌}
+use borrow.Author.Rules.{rules}
+use Rattle.disk_faults.proofs.first_broken.Goals as goal
+
+pub fault_of-requires : goal.fault_of-requires
+fault_of-requires c =
+    let a = c.args in
+    (search rules, (search rules, (search rules, lent_slot a.g a.volume.now a.i c.slot_start-at.result c.slot_start-at.ensures.0)))
+
+pub returns : goal.returns
+returns c = c.fault_of.ensures ∙ ladder _ _ _ c.requires.1

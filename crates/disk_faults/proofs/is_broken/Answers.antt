@@ -1,0 +1,30 @@
+-- A place with 0 breaks no rule; any other breaks the rule that its block is against.
+use Rattle.disk_faults.proofs.SlotLaws.{named_by_slot}
+use Rattle.disk_faults.specs.Faults.{breaks_at}
+use Rattle.disk_volume.specs.Directory.{slot_at}
+use Rattle.disk_volume.specs.Entry.{block_in}
+use borrow.Author.Tests.{eq-eqb, ne_eqb}
+use mathlib.Core.Path.{◌≡◌}
+use borrow.Author.Rules.{rules}
+use Rattle.disk_faults.proofs.is_broken.Goals as goal
+
+-- what `block_in` answered is the block in place p of slot i
+block : (c : tie.After-block-in) → (let a = c.before.before.before.args in c.block_in.result ≡ block_in a.g (slot_at a.g a.volume.now a.i) a.p)
+block c = rw (← c.before.before.before.requires.0.1.1.1) c.block_in.ensures.0
+
+pub returns-then-b-eq0 : goal.returns-then-b-eq0
+unfolding breaks_at
+returns-then-b-eq0 c = rw (← block c@After-block_in, eq-eqb _ 0 c.if-b-eq0.true)
+
+pub returns-in-Outside : goal.returns-in-Outside
+unfolding breaks_at
+returns-in-Outside c = rw (c.enum_told-1.given.1, ← block c@After-block_in, ne_eqb _ 0 c.if-b-eq0.false, ← c.is_inside.ensures)
+
+pub returns-in-Twice : goal.returns-in-Twice
+unfolding breaks_at
+returns-in-Twice c =
+    rw (c.enum_told-in-Twice-1.given.1, ← block c@After-block_in, ne_eqb _ 0 c.if-b-eq0.false, ← c.requires.0.1.1.1) c.in_places.ensures
+
+pub returns-in-Lower : goal.returns-in-Lower
+unfolding breaks_at
+returns-in-Lower c = rw (c.enum_told-in-Lower-1.given.1, ← block c@After-block_in, ne_eqb _ 0 c.if-b-eq0.false, named_by_slot, ← c.slot_of.ensures)

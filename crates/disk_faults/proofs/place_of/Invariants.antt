@@ -1,0 +1,15 @@
+-- No place passed so far breaks the rule, so what is still to be searched gives the whole.
+use Rattle.disk_faults.specs.Faults.{breaks_at, place_of}
+use Rattle.disk_geometry.specs.Geometry.{places}
+use Rattle.lists.proofs.BoundedLaws.{Searched, searched_start, searched_next, searched_hit, searched_none, from_zero}
+use Rattle.lists.specs.Bounded.{low_from}
+use Prim.Native.Nat.{◌≤◌, ◌-◌}
+use mathlib.Core.Path.{◌≡◌, sym, ◌∙◌}
+use borrow.Author.Rules.{rules}
+use Rattle.disk_faults.proofs.place_of.Given as goal
+
+abbrev pub invariant-loop-p : goal.invariant-loop-p
+invariant-loop-p l = (l.p ≤ l.n) × Searched (breaks_at l.g l.volume l.i l.rule) 0 l.n l.p
+
+abbrev pub decreases-loop-p : goal.decreases-loop-p
+decreases-loop-p l = l.n - l.p

@@ -1,0 +1,6 @@
+-- The quotient is the definition's own.
+use borrow.Author.Rules.{rules}
+use Rattle.disk_geometry.proofs.Geometry.extents.Goals as goal
+
+pub returns : goal.returns
+returns c = rw c.number_bytes.ensures.0

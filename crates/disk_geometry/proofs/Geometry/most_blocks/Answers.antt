@@ -1,0 +1,17 @@
+-- Each arm of the match is a block size of the rule, and `_` is none of them.
+use borrow.Author.Tests.{ne_eqb}
+use Rattle.disk_geometry.proofs.Geometry.most_blocks.Goals as goal
+
+pub returns-in-1024 : goal.returns-in-1024
+returns-in-1024 c = rw c.in-1024.keys1
+
+pub returns-in-2048 : goal.returns-in-2048
+returns-in-2048 c = rw c.in-2048.keys2
+
+pub returns-in-4096 : goal.returns-in-4096
+returns-in-4096 c = rw c.in-4096.keys3
+
+pub returns-in_default : goal.returns-in_default
+returns-in_default c =
+    let (((_, h1024), h2048), h4096) = c.in_default.rest in
+    rw (ne_eqb _ 1024 h1024, ne_eqb _ 2048 h2048, ne_eqb _ 4096 h4096)

@@ -1,0 +1,18 @@
+-- `disk_held::held_below` meets its contract. The loop has the count of the words passed, and below n there is a part of one more.
+use mathlib.Core.Path.{◌≡◌, refl, sym, ap, ap₂, ◌∙◌}
+use mathlib.Core.List.{List}
+use Prim.Native.Nat.{ℕ, ◌+◌, ◌-◌, ◌*◌, ◌/◌, ◌%◌, ◌^◌, ◌≤◌, min}
+use native.Mathlib.Omega.{arith}
+use borrow.Author.Rules.{rules}
+use lib.Count.{ones}
+use lib.ListN.{get_or}
+use Rattle.lists.specs.Bounded.{count_from}
+use Rattle.disk_held.specs.Held.{holds}
+use Rattle.disk_held.proofs.CountLaws.{held_word}
+use Rattle.disk_held.proofs.held_below.Given as goal
+
+abbrev pub invariant-loop-i : goal.invariant-loop-i
+invariant-loop-i l = (l.i ≤ l.n / 64) × ((l.sum ≤ 64 * l.i) × (l.sum ≡ count_from (holds l.held) 0 (64 * l.i)))
+
+abbrev pub decreases-loop-i : goal.decreases-loop-i
+decreases-loop-i l = l.n / 64 - l.i

@@ -1,0 +1,78 @@
+-- The slots passed so far are good, exactly the blocks that they name are held, and their marks are set.
+use mathlib.Core.Path.{◌≡◌, sym, ap, ◌∙◌}
+use mathlib.Core.Bool.{Bool, true, not}
+use mathlib.Core.List.{List}
+use Prim.Native.Nat.{ℕ, ◌≤◌, ◌-◌}
+use native.Mathlib.Omega.{arith}
+use borrow.Author.Rules.{rules}
+use borrow.Author.Tests.{not-false}
+use lib.ListN.{length}
+use Rattle.lists.proofs.BoundedLaws.{Searched, searched_start, searched_next, searched_hit, searched_none, from_zero}
+use Rattle.disk_geometry.specs.declared.Geometry.{Geometry}
+use Rattle.disk_geometry.specs.Geometry.{slots}
+use Rattle.disk_held.specs.Held.{held_words, words_of}
+use Rattle.disk_held.proofs.WordsLaws.{length_words}
+use Rattle.disk_rules.specs.GoodSlot.{good_slot, lowest_bad}
+use Rattle.disk_maps.specs.CodeHeldBelow.{held_below}
+use Rattle.disk_marks.specs.CodeMarks.{all_marked}
+use Rattle.disk_maps.proofs.HeldLaws.{no_slots, all_slots}
+use Rattle.disk_marks.proofs.MarkLaws.{none_marked}
+use Rattle.disk_inspection.proofs.look.Goals as goal
+
+abbrev bad : Geometry → List ℕ → ℕ → Bool
+bad g volume j = not (good_slot g volume j)
+
+record SoFar (g : Geometry) (volume held marks : List ℕ) (i : ℕ) : Type 0 where
+  low : i ≤ slots g
+  good : Searched (bad g volume) 0 (slots g) i
+  blocks : held ≡ words_of (held_below g volume i)
+  long : length marks ≡ 1024
+  seen : all_marked g volume marks i ≡ true
+
+pub loop-i-init : goal.loop-i-init
+loop-i-init c = record { low = search rules; good = searched_start; blocks = c.requires.held_value ∙ no_slots _ _; long = search rules; seen = none_marked _ _ _ }
+
+pub take_slot-requires : goal.take_slot-requires
+take_slot-requires c = let s = c.loop-i.invariant in (search rules, ((search rules, s.blocks), (s.long, s.seen)))
+
+pub shape_of-held-then-not-take_slot : goal.shape_of-held-then-not-take_slot
+shape_of-held-then-not-take_slot c =
+    let k : length c.loop-i.held ≡ held_words = ap length c.loop-i.invariant.blocks ∙ length_words _ in
+    let e : length c.args.held.now ≡ held_words = ap length c.requires.held_value in
+    search rules
+
+pub returns-then-not-take_slot : goal.returns-then-not-take_slot
+unfolding lowest_bad
+returns-then-not-take_slot c =
+    let a = c.args in
+    let l = c.loop-i in
+    let s = c.take_slot in
+    let e = sym (searched_hit l.invariant.good (search rules) (ap not (sym s.ensures.0) ∙ c.if-not-take_slot.true)) ∙ from_zero (bad a.g a.volume.now) (slots a.g) in
+    ((e, search rules), λ h. absurd (omega arith))
+
+pub loop-i-preserved : goal.loop-i-preserved
+loop-i-preserved c =
+    let l = c.loop-i in
+    let s = c.take_slot in
+    let good = not-false s.result c.if-not-take_slot.false in
+    record {
+      low = search rules;
+      good = searched_next l.invariant.good (search rules) (ap not (sym s.ensures.0 ∙ good));
+      blocks = s.ensures.1.0 good;
+      long = search rules;
+      seen = s.ensures.1.1 good;
+    }
+
+pub shape_of-held : goal.shape_of-held
+shape_of-held c =
+    let e : length c.args.held.now ≡ held_words = ap length c.requires.held_value in
+    ap length c.loop-i.invariant.blocks ∙ length_words _ ∙ sym e
+
+pub returns : goal.returns
+unfolding lowest_bad
+returns c =
+    let a = c.args in
+    let l = c.loop-i in
+    let z : l.i ≡ slots a.g = omega arith in
+    let e = sym (searched_none l.invariant.good (search rules)) ∙ from_zero (bad a.g a.volume.now) (slots a.g) in
+    ((e, search rules), λ h. l.invariant.blocks ∙ ap (λ (x : ℕ). words_of (held_below a.g a.volume.now x)) z ∙ all_slots a.g a.volume.now)

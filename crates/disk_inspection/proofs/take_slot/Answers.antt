@@ -1,0 +1,73 @@
+-- An empty slot is good; of another one the tests are made in the definition's order, its blocks are then held and its mark is set.
+use mathlib.Core.Path.{◌≡◌, sym, ap, ◌∙◌}
+use mathlib.Core.Bool.{false, not, ◌&&◌, false≢true}
+use borrow.Author.Rules.{rules}
+use borrow.Author.Tests.{not-true, not-false}
+use Rattle.disk_volume.specs.Name.{name_of, good_name}
+use Rattle.disk_volume.specs.Entry.{is_empty}
+use Rattle.disk_volume.specs.Directory.{slot_at}
+use Rattle.disk_volume.proofs.EntryLaws.{lent_slot}
+use Rattle.disk_rules.specs.GoodSlot.{good_fields, good_top_bits}
+use Rattle.disk_maps.proofs.HeldLaws.{empty_slot, full_slot}
+use Rattle.disk_marks.proofs.MarkLaws.{still_marked}
+use Rattle.disk_inspection.proofs.SlotLaws.{slot_empty, slot_used, empty_good, entry_bad, map_bad, seen_decides}
+use Rattle.disk_inspection.proofs.take_slot.Goals as goal
+
+-- TODO place Else-volume-at 
+-- the slot is not empty
+used : (c : goal.Else-volume-at) → (let a = c.args in is_empty (slot_at a.g a.volume.now a.i) ≡ false)
+used c =
+    let a = c.args in
+    let at = c.slot_start-at in
+    slot_used a.g a.volume.now a.i at.result at.ensures.0 c.if-volume-at.false
+
+-- what `good_entry` answered of slot i
+entry : (c : tie.After-good-entry) → (let a = c.before.before.before.before.before.before.before.before.args in let e = slot_at a.g a.volume.now a.i in c.good_entry_lem.result ≡ good_fields e && good_name false (name_of e) && good_top_bits e)
+entry c =
+    let a = c.before.before.before.before.before.before.before.before.args in
+    let at = c.before.before.before.before.slot-start in
+    rw (← lent_slot a.g a.volume.now a.i at.result at.ensures.0) c.good_entry_lem.ensures
+
+pub returns-then-volume-at : goal.returns-then-volume-at
+returns-then-volume-at c =
+    let a = c.args in
+    let at = c.slot_start-at in
+    let e = slot_empty a.g a.volume.now a.i at.result at.ensures.0 c.if-volume-at.true in (
+      sym (empty_good a.g a.volume.now a.i e),
+      (
+        λ h. c.requires.i_bound.1 ∙ empty_slot a.g a.volume.now a.i e,
+        λ h. still_marked a.g a.volume.now a.marks.now a.i c.requires.marked.1 (rw e),
+      ),
+    )
+
+pub returns-then-not-good_entry : goal.returns-then-not-good_entry
+returns-then-not-good_entry c =
+    let a = c.args in
+    let bad = sym (entry c@After-good_entry) ∙ not-true c.good_entry.result c.if-not-good_entry.true in
+    (sym (entry_bad a.g a.volume.now a.i (used c@Else1) bad), (λ h. absurd (false≢true h), λ h. absurd (false≢true h)))
+
+pub returns-then-not-take_map : goal.returns-then-not-take_map
+returns-then-not-take_map c =
+    let a = c.args in
+    let m = c.take_map in
+    let bad = sym m.ensures.0 ∙ not-true m.result c.if-not-take_map.true in
+    (sym (map_bad a.g a.volume.now a.i (used c@Else1) bad), (λ h. absurd (false≢true h), λ h. absurd (false≢true h)))
+
+pub is_seen-requires : goal.is_seen-requires
+is_seen-requires c =
+    let a = c.args in
+    let at = c.slot_start-at in
+    let e = lent_slot a.g a.volume.now a.i at.result at.ensures.0 in
+    (search rules, ((search rules, (search rules, e)), (rw e (used c@Else1), (search rules, search rules))))
+
+pub returns : goal.returns
+returns c =
+    let a = c.args in
+    let full = used c@Else1 in
+    let t = c.take_map in
+    let m = not-false t.result c.if-not-take_map.false in
+    let e = sym (entry c@After-good_entry) ∙ not-false c.good_entry.result c.if-not-good_entry.false in
+    let good = seen_decides a.g a.volume.now a.i full e (sym t.ensures.0 ∙ m) in (
+      ap not c.is_seen.ensures.value ∙ sym good,
+      (λ h. t.ensures.1 m ∙ full_slot a.g a.volume.now a.i full, λ h. c.is_seen.ensures.i_after),
+    )

@@ -1,0 +1,31 @@
+-- The two tests are asked one after the other, and a block from D to T-1 has a bit.
+use mathlib.Core.Path.{◌≡◌, refl, sym, ◌∙◌}
+use Prim.Native.Nat.{◌<◌}
+use native.Mathlib.Omega.{arith}
+use borrow.Author.Tests.{not-true, not-false}
+use Rattle.disk_held.specs.Held.{room}
+use Rattle.disk_geometry.proofs.GeometryLaws.{bounds}
+use Rattle.disk_geometry.proofs.InsideLaws.{inside_low}
+use borrow.Author.Rules.{rules}
+use Rattle.disk_maps.proofs.take_block.Goals as goal
+
+-- TODO place Else-not-is_inside 
+-- the words have a bit for the block
+low : (c : goal.Else-not-is_inside) → (let a = c.args in a.b < room a.held.now)
+low c =
+    omega (arith, inside_low c.args.g c.requires.0 c.args.b (sym c.is_inside.ensures ∙ not-false c.is_inside.result c.if-not-is_inside.false))
+
+pub returns-then-not-is_inside : goal.returns-then-not-is_inside
+returns-then-not-is_inside c = (rw (← c.is_inside.ensures, not-true c.is_inside.result c.if-not-is_inside.true), refl)
+
+pub is_held-requires : goal.is_held-requires
+is_held-requires c = omega (arith, low c@After-is_inside, bounds _ c.requires.0)
+
+pub returns-then-is_held : goal.returns-then-is_held
+returns-then-is_held c = (rw (← c.is_inside.ensures, not-false c.is_inside.result c.if-not-is_inside.false, ← c.is_held.ensures, c.if-is_held.true), refl)
+
+pub hold-requires : goal.hold-requires
+hold-requires c = omega (arith, low c@After-is_inside, bounds _ c.requires.0)
+
+pub returns : goal.returns
+returns c = (rw (← c.is_inside.ensures, not-false c.is_inside.result c.if-not-is_inside.false, ← c.is_held.ensures, c.if-is_held.false), c.hold.ensures)

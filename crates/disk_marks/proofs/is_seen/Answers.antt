@@ -1,0 +1,37 @@
+-- What is asked for is the entry's own user, name and group; where its mark is not set, no lower slot can have them.
+use mathlib.Core.Path.{◌≡◌, sym, ◌∙◌}
+use mathlib.Core.Bool.{false}
+use borrow.Author.Rules.{rules}
+use Rattle.lists.specs.Bytes.{part}
+use Rattle.disk_volume.specs.Name.{name_at}
+use Rattle.disk_volume.specs.Entry.{is_empty}
+use Rattle.disk_volume.specs.Directory.{slot_at}
+use Rattle.disk_rules.specs.GoodSlot.{seen_below}
+use Rattle.disk_marks.specs.CodeMarks.{entry_mark}
+use Rattle.disk_marks.proofs.MarkLaws.{unmarked, still_marked, now_marked}
+use Rattle.disk_marks.proofs.is_seen.Goals as goal
+
+-- TODO place Start 
+-- the slot is not empty, and the mark is its entry's
+used : (c : goal.Start) → (let a = c.args in is_empty (slot_at a.g a.volume.now a.i) ≡ false)
+used c = rw (← c.requires.i_bound.1.1) c.requires.e_value.0
+
+own_mark : (c : tie.After-mark-of) → (let a = c.before.before.before.before.before.before.before.before.args in c.mark_of.result ≡ entry_mark a.g (slot_at a.g a.volume.now a.i))
+unfolding name_at part
+own_mark c = rw (← c.before.before.before.before.before.before.before.before.requires.1.0.1.1, ← c.before.before.before.before.extent-of.ensures.0, ← c.before.before.before.group.ensures) c.mark_of.ensures.0
+
+pub returns-then-is_held : goal.returns-then-is_held
+unfolding seen_below name_at part
+returns-then-is_held c =
+    let a = c.args in (
+      rw (← c.requires.i_bound.1.1, ← c.extent_of.ensures.0, ← c.group-k.ensures) c.is_below.ensures,
+      still_marked a.g a.volume.now a.marks.now a.i c.requires.e_value.1.1 (rw (used s, ← own_mark c@After-mark_of-arg) (sym c.is_held.ensures ∙ c.if-is_held.true)),
+    )
+
+pub returns : goal.returns
+returns c =
+    let a = c.args in
+    let own = own_mark c@After-mark_of-arg in (
+      sym (unmarked a.g a.volume.now a.marks.now a.i c.requires.e_value.1.1 (used s) (rw own at (sym c.is_held.ensures ∙ c.if-is_held.false))),
+      rw (c.hold.ensures, own) (now_marked a.g a.volume.now a.marks.now a.i c.requires.e_value.1.1 (rw (← own) (search rules))),
+    )

@@ -1,0 +1,15 @@
+-- The mark so far is what the bytes passed so far make of it.
+use mathlib.Core.Path.{sym, ap, ◌∙◌}
+use Prim.Native.Nat.{ℕ, ◌+◌, ◌*◌, ◌%◌, ◌≤◌, ◌<◌, ◌-◌}
+use borrow.Author.Rules.{rules}
+use Rattle.lists.proofs.FoldLaws.{Folded, folded_start, folded_next, folded_end}
+use Rattle.disk_volume.specs.Name.{strip}
+use Rattle.disk_volume.proofs.NameLaws.{byte_strip}
+use Rattle.disk_marks.specs.CodeMarks.{first_mark, next_mark, mark_of}
+use Rattle.disk_marks.proofs.mark_of.Given as goal
+
+abbrev pub invariant-loop-p : goal.invariant-loop-p
+invariant-loop-p l = (l.p ≤ 11) × ((l.mark < 65536) × Folded (next_mark (strip l.name)) (first_mark l.user l.k) 11 l.mark l.p)
+
+abbrev pub decreases-loop-p : goal.decreases-loop-p
+decreases-loop-p l = 11 - l.p

@@ -1,0 +1,18 @@
+-- The bytes passed so far carry no top bit, or are bytes 9 and 10, so what is left decides.
+use mathlib.Core.Path.{sym}
+use mathlib.Core.Bool.{Bool, ◌||◌}
+use mathlib.Core.List.{List}
+use Prim.Native.Nat.{ℕ, ◌+◌, ◌≤◌, ◌-◌}
+use borrow.Author.Rules.{rules}
+use borrow.Author.Tests.{not-true, not-false}
+use lib.Dec.{ltb, eqb}
+use Rattle.lists.specs.Bytes.{byte}
+use Rattle.lists.proofs.BoundedLaws.{Passed, passed_start, passed_next, passed_fails, passed_all}
+use Rattle.disk_rules.specs.GoodSlot.{good_top_bits}
+use Rattle.disk_rules.proofs.good_top_bits.Given as goal
+
+abbrev pub invariant-loop-k : goal.invariant-loop-k
+invariant-loop-k l = (l.k ≤ 11) × Passed (good_at l.e) 0 11 l.k
+
+abbrev pub decreases-loop-k : goal.decreases-loop-k
+decreases-loop-k l = 11 - l.k

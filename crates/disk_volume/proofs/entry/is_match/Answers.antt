@@ -1,0 +1,15 @@
+-- User first, then the name: the definition's two tests in its order.
+use borrow.Author.Tests.{eq-eqb, ne_eqb}
+use borrow.Author.Rules.{rules}
+use Rattle.lists.specs.Bytes.{byte, part}
+use Rattle.disk_volume.specs.Entry.{matches}
+use Rattle.disk_volume.specs.Name.{name_at}
+use Rattle.disk_volume.proofs.entry.is_match.Goals as goal
+
+pub returns-then-e-user : goal.returns-then-e-user
+unfolding matches
+returns-then-e-user c = rw (ne_eqb (byte c.args.e.now 0) c.args.user c.if-e-user.true)
+
+pub returns : goal.returns
+unfolding matches name_at part
+returns c = rw (eq-eqb (byte c.args.e.now 0) c.args.user c.if-e-user.false) c.like_name.ensures

@@ -1,0 +1,16 @@
+-- Zeros where no search is kept; else its number, and what is kept.
+use Rattle.drive_bytes.specs.Layout.{search_bytes}
+use borrow.Author.Rules.{rules}
+use Rattle.drive_bytes.proofs.lay.put_search.Goals as goal
+
+pub returns-in-Nothing : goal.returns-in-Nothing
+unfolding search_bytes
+returns-in-Nothing c = rw (c.enum_told-1.given.1, c.fill.ensures, c.requires)
+
+pub returns-in-Pattern : goal.returns-in-Pattern
+unfolding search_bytes
+returns-in-Pattern c = rw c.enum_told-in-Pattern-1.given.1 c.put_kept.ensures
+
+pub returns-in-Everything : goal.returns-in-Everything
+unfolding search_bytes
+returns-in-Everything c = rw c.enum_told-in-Everything-1.given.1 c.put_kept-in-Everything.ensures

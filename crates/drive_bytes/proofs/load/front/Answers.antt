@@ -1,0 +1,8 @@
+-- The parts are the definition's fields.
+use Rattle.drive_bytes.specs.Layout.{fields}
+use borrow.Author.Rules.{rules}
+use Rattle.drive_bytes.proofs.load.front.Goals as goal
+
+pub returns : goal.returns
+unfolding fields
+returns c = rw (c.geometry_at-geometry.ensures, c.search_at-search.ensures)

@@ -1,0 +1,11 @@
+-- The call is done by the front.
+use Rattle.filecalls.proofs.JoinLaws.{joined_left}
+use Rattle.filecalls.specs.Leaves.{close_leaves}
+use Rattle.filecalls.specs.declared.Drive.{Drive}
+use borrow.Author.Rules.{rules}
+use Rattle.filecalls.proofs.Drive.close_file.Goals as goal
+
+pub returns : goal.returns
+returns c =
+    let a = c.args in
+    joined_left a.self c.joined.ensures c.front.ensures (λ (d : Drive). close_leaves d a.volume.now a.fcb.now) (c.close_file-reply.ensures a.self.held)

@@ -1,0 +1,6 @@
+-- The closed state is the one that `Drive::closed` hands out.
+use borrow.Author.Rules.{rules}
+use Rattle.filecalls.proofs.login.closed_reply.Goals as goal
+
+pub returns : goal.returns
+returns c = rw c.closed-drive.ensures

@@ -1,0 +1,19 @@
+-- The entries seen so far gave m, so what is left to be seen gives the whole.
+use mathlib.Core.Path.{sym}
+use Prim.Native.Nat.{◌≤◌, ◌-◌, ◌*◌}
+use Rattle.files.specs.Files.{more_blocks, blocks_of}
+use Rattle.disk_geometry.specs.Geometry.{slots}
+use Rattle.disk_volume.specs.Name.{strip}
+use Rattle.lists.proofs.FoldLaws.{Folded, folded_start, folded_next, folded_end}
+use borrow.Author.Rules.{rules}
+use Rattle.files.proofs.blocks_held.blocks_of.Goals as goal
+
+pub loop-i-init : goal.loop-i-init
+loop-i-init c = (search rules, (search rules, folded_start))
+
+pub loop-i-preserved : goal.loop-i-preserved
+loop-i-preserved c = (search rules, (c.more_blocks-m.ensures.1, folded_next c.loop-i.invariant.1.1 (search rules) c.more_blocks-m.ensures.0))
+
+pub returns : goal.returns
+unfolding blocks_of
+returns c = sym (folded_end c.loop-i.invariant.1.1 (search rules))

@@ -1,0 +1,17 @@
+-- The places seen so far and those still to be seen give the count.
+use Prim.Native.Nat.{◌≤◌, ◌-◌}
+use Rattle.files.proofs.CountedLaws.{Counted, counted_start, counted_next, counted_end}
+use Rattle.files.specs.Files.{is_used, used_places}
+use Rattle.disk_geometry.specs.Geometry.{places}
+use borrow.Author.Rules.{rules}
+use Rattle.files.proofs.blocks_held.used_places.Goals as goal
+
+pub loop-p-init : goal.loop-p-init
+loop-p-init c = (search rules, (search rules, counted_start))
+
+pub loop-p-preserved : goal.loop-p-preserved
+loop-p-preserved c = (search rules, (search rules, counted_next c.loop-p.invariant.1.1 (search rules) c.used_at-used.ensures.0))
+
+pub returns : goal.returns
+unfolding used_places
+returns c = (counted_end c.loop-p.invariant.1.1 (search rules), search rules)

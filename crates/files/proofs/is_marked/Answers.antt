@@ -1,0 +1,23 @@
+-- None of the slots passed so far has the mark for the file, so what is still to be asked gives the whole.
+use Rattle.files.specs.Files.{marked_at, is_marked}
+use Rattle.disk_volume.specs.Name.{strip}
+use Rattle.disk_geometry.specs.Geometry.{slots}
+use Rattle.lists.proofs.AnyLaws.{AnySoFar, asked_start, asked_next, asked_hit, asked_none}
+use Prim.Native.Nat.{◌-◌}
+use mathlib.Core.Path.{sym, ◌∙◌}
+use borrow.Author.Rules.{rules}
+use Rattle.files.proofs.is_marked.Goals as goal
+
+pub loop-i-init : goal.loop-i-init
+loop-i-init c = asked_start
+
+pub returns-then-marked_at : goal.returns-then-marked_at
+unfolding is_marked
+returns-then-marked_at c = sym (asked_hit c.loop-i.invariant (search rules) (sym c.marked_at.ensures ∙ c.if-marked_at.true))
+
+pub loop-i-preserved : goal.loop-i-preserved
+loop-i-preserved c = asked_next c.loop-i.invariant (search rules) (sym c.marked_at.ensures ∙ c.if-marked_at.false)
+
+pub returns : goal.returns
+unfolding is_marked
+returns c = sym (asked_none c.loop-i.invariant (search rules))

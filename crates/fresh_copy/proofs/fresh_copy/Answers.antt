@@ -1,0 +1,50 @@
+-- Refused as log-in says for the first, then for the second's length; else the fresh disk is laid out.
+use mathlib.Core.Path.{◌≡◌, sym, ap, ◌∙◌}
+use mathlib.Core.Bool.{true}
+use Prim.Native.Nat.{ℕ}
+use lib.ListN.{length}
+use lib.Dec.{eqb}
+use borrow.Author.Tests.{not-true, not-false, eqb-true}
+use borrow.Author.Rules.{rules}
+use Rattle.disk_geometry.specs.Geometry.{bytes}
+use Rattle.call_answers.specs.Answer.{succeeded}
+use Rattle.filecalls.specs.LogIn.{log_in}
+use Rattle.filecalls.specs.declared.Reply.{Reply}
+use Rattle.filecalls.proofs.ReadyLaws.{Accepted, accepted}
+use Rattle.fresh_copy.proofs.CopyLaws.{first_refused, second_refused, copy_done}
+use Rattle.fresh_copy.proofs.fresh_copy.Goals as goal
+
+-- what log-in said of the first
+said : (c : tie.After-log-in) → (let a = c.before.before.before.args in c.log_in_lem.result.answer ≡ (log_in a.g a.first.now).answer)
+said c = ap (λ (r : Reply). r.answer) c.log_in_lem.ensures
+
+-- TODO place Else-not-succeeded 
+passed : (c : goal.Else-not-succeeded) → succeeded c.log_in-reply.result.answer ≡ true
+passed c = sym c.succeeded.ensures ∙ not-false c.succeeded.result c.if-not-succeeded.false
+
+-- TODO place Else-not-succeeded 
+ready : (c : goal.Else-not-succeeded) → (let a = c.args in Accepted a.g a.first.now)
+ready c = accepted _ _ (sym (ap succeeded (said c@After-log_in)) ∙ passed c)
+
+pub returns-then-not-succeeded : goal.returns-then-not-succeeded
+returns-then-not-succeeded c = let a = c.args in first_refused a.g a.first.now a.second.now (said c@After-log_in) (sym c.succeeded.ensures ∙ not-true c.succeeded.result c.if-not-succeeded.true)
+
+pub bytes-requires : goal.bytes-requires
+bytes-requires c = (ready c).law
+
+pub returns-then-not-whole : goal.returns-then-not-whole
+returns-then-not-whole c =
+    let a = c.args in
+    second_refused a.g a.first.now a.second.now (said c@After-log_in) (passed c@Else1)
+    (ap (λ (n : ℕ). eqb (length a.second.now) n) (sym c.bytes.ensures) ∙ not-true _ c.if-not-whole.true)
+
+pub lay_out-requires : goal.lay_out-requires
+lay_out-requires c =
+    let r = ready c@Else1 in
+    ((r.law, (r.size, r.good)), eqb-true _ _ (not-false _ c.if-not-whole.false) ∙ c.bytes.ensures)
+
+pub returns : goal.returns
+returns c =
+    let a = c.args in
+    copy_done a.g a.first.now a.second.now (said c@After-log_in) (passed c@Else1)
+    (ap (λ (n : ℕ). eqb (length a.second.now) n) (sym c.bytes.ensures) ∙ not-false _ c.if-not-whole.false) c.lay_out.ensures

@@ -1,0 +1,47 @@
+-- The entries passed so far are laid.
+use mathlib.Core.Path.{◌∙◌}
+use Prim.Native.Nat.{◌-◌}
+use native.Mathlib.Omega.{arith}
+use borrow.Author.Rules.{rules}
+use Rattle.fresh_laying.proofs.KeptLaws.{LaidTo, laid_none, laid_next, laid_number, laid_all, kept_long, entry_fits}
+use Rattle.fresh_laying.proofs.lay_entries.Goals as goal
+
+pub loop-k-init : goal.loop-k-init
+loop-k-init c = let a = c.args in laid_none a.g a.first.now a.m a.second.now
+
+-- TODO s.well-formed.1.1.0.1
+pub offset_bounds-kept-k : goal.offset_bounds-kept-k
+offset_bounds-kept-k c = omega (arith, c.loop-k-test.true, kept_long c.args.g c.args.first.now c.requires.accepted.0 c.args.kept.now c.args.m c.requires.in_order, s.well-formed.1.1.0.1)
+
+pub bounds-kept-k : goal.bounds-kept-k
+bounds-kept-k c = omega (arith, c.loop-k-test.true, kept_long c.args.g c.args.first.now c.requires.accepted.0 c.args.kept.now c.args.m c.requires.in_order)
+
+pub lay_entry-next-requires : goal.lay_entry-next-requires
+lay_entry-next-requires c =
+    let a = c.args in
+    let l = c.loop-k in (
+      (c.requires.accepted.0.0, (c.requires.accepted.0.1.0, l.invariant.size ∙ c.requires.accepted.1)),
+      entry_fits a.g a.first.now c.requires.accepted.0 a.kept.now a.m c.requires.in_order l.k c.loop-k-test.true l.next l.invariant.number,
+    )
+
+pub loop-k-smaller : goal.loop-k-smaller
+loop-k-smaller c = omega (arith, c.loop-k-test.true)
+
+pub loop-k-preserved : goal.loop-k-preserved
+loop-k-preserved c =
+    let a = c.args in
+    let l = c.loop-k in
+    let o = c.lay_entry-next in
+    laid_next a.g a.first.now c.requires.accepted.0 a.kept.now a.m c.requires.in_order a.second.now l.second l.next l.k l.invariant c.loop-k-test.true
+    o.new.1.1.1.0 o.result o.auto.1.1.1.0 o.ensures.0 o.ensures.1
+
+pub shape_of-second : goal.shape_of-second
+shape_of-second c = c.loop-k.invariant.size
+
+pub returns : goal.returns
+returns c =
+    let a = c.args in
+    let l = c.loop-k in (
+      laid_number a.g a.first.now a.m a.second.now l.second l.next l.k l.invariant c.loop-k-test.false,
+      laid_all a.g a.first.now a.m a.second.now l.second l.next l.k l.invariant c.loop-k-test.false,
+    )

@@ -1,0 +1,61 @@
+-- The new entry is the old one's head, with the new number of each block; what is lent of the first disk is the slot's.
+use mathlib.Core.Path.{◌≡◌, sym, ap, ap₂, ◌∙◌, subst⁻¹}
+use mathlib.Core.List.{List, ◌++◌}
+use Prim.Native.Nat.{ℕ, ◌+◌}
+use native.Mathlib.Omega.{arith}
+use lib.ListN.{length, replicate, length-append}
+use borrow.Author.Rules.{rules}
+use Rattle.disk_geometry.specs.Geometry.{places}
+use Rattle.disk_volume.specs.Directory.{put_slot}
+use Rattle.disk_volume.specs.Entry.{Entry}
+use Rattle.disk_volume.proofs.DirectoryLaws.{slot_length}
+use Rattle.disk_volume.proofs.EntryLaws.{lent_slot}
+use Rattle.fresh_volume.specs.Copy.{blocks_below}
+use Rattle.fresh_laying.specs.CodeLaying.{move_blocks, MapFits}
+use Rattle.fresh_laying.proofs.MoveLaws.{new_entry}
+use Rattle.fresh_laying.proofs.lay_entry.Goals as goal
+
+-- TODO place After-new-3-1 
+-- the new entry before its blocks are moved
+long : (c : goal.After-new-3-1) → length (c.copy.new.0 ++ replicate 16 0) ≡ 32
+long c = length-append c.copy.new.0 (replicate 16 0) ∙ omega (arith, c.copy.auto.0)
+
+pub slice_bounds-move_blocks-end-2 : goal.slice_bounds-move_blocks-end-2
+slice_bounds-move_blocks-end-2 c = sym (long c)
+
+pub move_blocks-next-requires : goal.move_blocks-next-requires
+move_blocks-next-requires c =
+    let a = c.args in
+    let at = c.slot_start-at in
+    let e = lent_slot a.g a.first.now a.i at.result at.ensures.0 in (
+      c.requires.volume_and,
+      (
+        ap length e ∙ slot_length a.g c.requires.volume_and.0 a.first.now c.requires.volume_and.1.0 a.i c.requires.i_bound.0,
+        (long c, subst⁻¹ (λ (x : Entry). MapFits a.g x a.b) e c.requires.i_bound.1.1),
+      ),
+    )
+
+pub slice_bounds-lay_slot-end : goal.slice_bounds-lay_slot-end
+slice_bounds-lay_slot-end c = sym (c.move_blocks-next.auto.1.1.1.1.0 ∙ long c@After-new3)
+
+pub lay_slot-requires : goal.lay_slot-requires
+lay_slot-requires c =
+    let m = c.move_blocks-next in
+    ((c.requires.volume_and.0, m.auto.1.1.1.0 ∙ c.requires.volume_and.1.1), (c.requires.i_bound.1.0, m.auto.1.1.1.1.0 ∙ long c@After-new3))
+
+pub shape_of-second : goal.shape_of-second
+shape_of-second c = c.lay_slot.auto.1.0 ∙ c.move_blocks-next.auto.1.1.1.0
+
+pub returns : goal.returns
+returns c =
+    let a = c.args in
+    let at = c.slot_start-at in
+    let m = c.move_blocks-next in
+    let e = lent_slot a.g a.first.now a.i at.result at.ensures.0 in
+    let new = new_entry a.g a.first.now a.b a.i at.result at.ensures.0 e c.copy.ensures in (
+      m.ensures.0 ∙ ap (λ (x : Entry). a.b + length (blocks_below a.g x (places a.g))) e,
+      c.lay_slot.ensures
+          ∙ ap₂ (λ (x : List ℕ) (n : Entry). put_slot a.g x a.k n)
+          (m.ensures.1.0 ∙ ap (λ (x : Entry). move_blocks a.g a.first.now x a.b a.second.now) e)
+          (m.ensures.1.1 ∙ new),
+    )

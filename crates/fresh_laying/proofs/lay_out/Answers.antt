@@ -1,0 +1,41 @@
+-- The entries in order, then blank slots and blank blocks: that is the fresh disk.
+use mathlib.Core.Path.{sym, ◌∙◌}
+use Prim.Native.Nat.{ℕ}
+use lib.ListN.{length-replicate}
+use Rattle.fresh_laying.proofs.KeptLaws.{kept_few, numbers_low, laid_out}
+use Rattle.fresh_laying.proofs.lay_out.Goals as goal
+
+pub slice_bounds-order_of-end : goal.slice_bounds-order_of-end
+slice_bounds-order_of-end c = sym (length-replicate {A = ℕ} 2048 0)
+
+pub order_of-m-requires : goal.order_of-m-requires
+order_of-m-requires c = (c.requires.accepted, length-replicate {A = ℕ} 2048 0)
+
+pub slice_bounds-lay_entries-end : goal.slice_bounds-lay_entries-end
+slice_bounds-lay_entries-end c = sym c.order_of-m.ensures.room
+
+pub lay_entries-next-requires : goal.lay_entries-next-requires
+lay_entries-next-requires c = ((c.requires.accepted, c.requires.second_len), c.order_of-m.ensures)
+
+pub blank_slots-requires : goal.blank_slots-requires
+blank_slots-requires c =
+    let o = c.order_of-m in
+    ((c.requires.accepted.0, c.lay_entries-next.auto.1.1.1.1.0 ∙ c.requires.second_len), kept_few c.args.g c.args.first.now c.requires.accepted o.new.1.1.0 o.result o.ensures)
+
+pub blank_blocks-requires : goal.blank_blocks-requires
+blank_blocks-requires c =
+    let o = c.order_of-m in
+    let l = c.lay_entries-next in (
+      (c.requires.accepted.0, c.blank_slots.auto.1.0 ∙ l.auto.1.1.1.1.0 ∙ c.requires.second_len),
+      numbers_low c.args.g c.args.first.now c.requires.accepted o.new.1.1.0 o.result o.ensures l.result l.ensures.0,
+    )
+
+pub shape_of-second : goal.shape_of-second
+shape_of-second c = c.blank_blocks.auto.1.0 ∙ c.blank_slots.auto.1.0 ∙ c.lay_entries-next.auto.1.1.1.1.0
+
+pub returns : goal.returns
+returns c =
+    let o = c.order_of-m in
+    let l = c.lay_entries-next in
+    laid_out c.args.g c.args.first.now c.requires.accepted o.new.1.1.0 o.result o.ensures c.args.second.now c.requires.second_len
+    l.result l.new.1.1.1.1.0 c.blank_slots.new.1.0 c.blank_blocks.new.1.0 l.ensures.0 l.ensures.1 c.blank_slots.ensures c.blank_blocks.ensures

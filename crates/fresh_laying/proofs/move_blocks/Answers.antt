@@ -1,0 +1,50 @@
+-- The blocks of the places passed so far are moved.
+use mathlib.Core.Path.{◌∙◌}
+use Prim.Native.Nat.{◌≤◌, ◌<◌}
+use Prim.Native.Nat.{◌-◌}
+use native.Mathlib.Omega.{arith}
+use borrow.Author.Rules.{rules}
+use Rattle.disk_geometry.specs.Geometry.{places}
+use Rattle.fresh_laying.proofs.MoveLaws.{MovedTo, moved_none, moved_next, moved_number, moved_all, moved_entry}
+use Rattle.fresh_laying.proofs.move_blocks.Goals as goal
+
+pub loop-p-init : goal.loop-p-init
+loop-p-init c = let a = c.args in moved_none a.g a.first.now a.e.now a.b a.second.now a.new.now
+
+pub move_place-next-requires : goal.move_place-next-requires
+move_place-next-requires c =
+    let l = c.loop-p in
+    let p< : l.p < places c.args.g = omega (arith, c.loop-p-test.true, c.places-n.ensures.0) in (
+      (c.requires.volume_and.0, (c.requires.volume_and.1.0, l.invariant.size ∙ c.requires.volume_and.1.1)),
+      ((p<, (c.requires.entry.0, l.invariant.long ∙ c.requires.entry.1.0)), λ u. rw l.invariant.number (c.requires.entry.1.1 l.p p< u)),
+    )
+
+pub loop-p-smaller : goal.loop-p-smaller
+loop-p-smaller c = omega (arith, c.loop-p-test.true, c.places-n.ensures.0)
+
+pub loop-p-preserved : goal.loop-p-preserved
+loop-p-preserved c =
+    let a = c.args in
+    let l = c.loop-p in
+    let o = c.move_place-next in
+    moved_next a.g a.first.now a.e.now a.b a.second.now a.new.now l.second l.new l.next l.p l.invariant
+    (omega (arith, c.loop-p-test.true, c.places-n.ensures.0)) o.new.1.1.1.1.0 o.new.1.1.1.1.1.0 o.result
+    o.auto.1.1.1.1.0 o.auto.1.1.1.1.1.0 o.ensures.0 o.ensures.1.0 o.ensures.1.1
+
+pub shape_of-second : goal.shape_of-second
+shape_of-second c = c.loop-p.invariant.size
+
+pub shape_of-new : goal.shape_of-new
+shape_of-new c = c.loop-p.invariant.long
+
+pub returns : goal.returns
+returns c =
+    let a = c.args in
+    let l = c.loop-p in
+    let end : places a.g ≤ l.p = omega (arith, c.loop-p-test.false, c.places-n.ensures.0) in (
+      moved_number a.g a.first.now a.e.now a.b a.second.now a.new.now l.second l.new l.next l.p l.invariant end,
+      (
+        moved_all a.g a.first.now a.e.now a.b a.second.now a.new.now l.second l.new l.next l.p l.invariant end,
+        moved_entry a.g a.first.now a.e.now a.b a.second.now a.new.now l.second l.new l.next l.p l.invariant end,
+      ),
+    )

@@ -1,0 +1,12 @@
+-- What was written is no longer than the buffer.
+use native.Mathlib.Omega.{arith}
+use borrow.Author.Rules.{rules}
+use Rattle.gencmd_file.proofs.LengthLaws.{written_within}
+use Rattle.gencmd.proofs.convert.Goals as goal
+
+pub slice_bounds-deliver-end : goal.slice_bounds-deliver-end
+slice_bounds-deliver-end c =
+    let a = c.args in
+    let made = c.gencmd in
+    let h = written_within a.text.now a.out.now c.n-1.given.1 made.ensures in
+    omega (arith, h, made.auto.1.0)

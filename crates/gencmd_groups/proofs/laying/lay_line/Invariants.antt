@@ -1,0 +1,16 @@
+-- Data byte by data byte.
+use Rattle.gencmd_groups.specs.CodeLaying.{lay_byte, laid}
+use Rattle.gencmd_lines.specs.Line.{count_of}
+use Rattle.lists.proofs.FoldLaws.{Folded, folded_start, folded_next, folded_end}
+use borrow.Author.Tests.{eq-eqb, ne_eqb}
+use lib.ListN.{length}
+use Prim.Native.Nat.{◌-◌}
+use mathlib.Core.Path.{◌≡◌, refl, sym, ◌∙◌}
+use borrow.Author.Rules.{rules}
+use Rattle.gencmd_groups.proofs.laying.lay_line.Given as goal
+
+abbrev pub invariant-loop-i : goal.invariant-loop-i
+invariant-loop-i l = (length l.part ≡ length l.initial.part) × Folded (lay_byte l.line) l.initial.part (count_of l.line) l.part l.i
+
+abbrev pub decreases-loop-i : goal.decreases-loop-i
+decreases-loop-i l = l.count - l.i

@@ -1,0 +1,6 @@
+-- By the number.
+use Rattle.std.proofs.Common.{rules}
+use Rattle.gencmd_lines.proofs.is_none.Goals as goal
+
+pub returns : goal.returns
+returns c = rw c.number_of.ensures

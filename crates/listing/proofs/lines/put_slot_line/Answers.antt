@@ -1,0 +1,28 @@
+-- The branches are the definition's, of the entry as it is lent.
+use mathlib.Core.Path.{◌≡◌}
+use borrow.Author.Tests.{not-true, not-false}
+use Rattle.files.specs.Files.{is_listed}
+use Rattle.listing.specs.Listing.{line_at}
+use Rattle.text.specs.Text.{puts}
+use Rattle.disk_volume.proofs.EntryLaws.{lent_slot}
+use Rattle.disk_volume.specs.Directory.{slot_at}
+use borrow.Author.Rules.{rules}
+use Rattle.listing.proofs.lines.put_slot_line.Goals as goal
+
+-- what `is_listed` answered is the test of slot i
+seen : (c : tie.After-is-listed) → (let a = c.before.before.before.before.before.args in is_listed a.g a.volume.now (slot_at a.g a.volume.now a.i) a.i ≡ c.is-listed.result)
+seen c =
+    let a = c.before.before.before.before.before.args in
+    let at = c.before.before.slot-start in
+    rw (← lent_slot a.g a.volume.now a.i at.result at.ensures.0, c.is-listed.ensures)
+
+pub returns-then-not-is_listed : goal.returns-then-not-is_listed
+unfolding line_at puts
+returns-then-not-is_listed c = rw (seen c@After-is_listed, not-true c.is_listed.result c.if-not-is_listed.true)
+
+pub returns : goal.returns
+unfolding line_at
+returns c =
+    let a = c.args in
+    let at = c.slot_start-s in
+    rw (seen c@After-is_listed, not-false c.is_listed.result c.if-not-is_listed.false, ← lent_slot a.g a.volume.now a.i at.result at.ensures.0) c.put_line.ensures

@@ -1,0 +1,43 @@
+-- Log-in's answer says which listing it is.
+use mathlib.Core.Path.{refl}
+use Rattle.listing.proofs.ListingLaws.{listed, may_list, wrote_refused}
+use Rattle.listing.specs.Listing.{listing_for}
+use Rattle.text.proofs.TextLaws.{wrote, wrote_byte, then}
+use Rattle.text.specs.Text.{puts}
+use borrow.Author.Rules.{rules}
+use Rattle.listing.proofs.list.Goals as goal
+
+pub put_accepted-requires : goal.put_accepted-requires
+put_accepted-requires c = may_list c.args.volume.now c.geometry-g.ensures c.log_in-r.ensures _ c.answer-1.given.1
+
+pub returns-in-Ready : goal.returns-in-Ready
+unfolding listing_for
+returns-in-Ready c =
+    let a = c.args in
+    listed a.volume.now c.geometry-g.ensures c.log_in-r.ensures a.out.now _ c.answer-1.given.1 c.put_accepted.ensures
+
+pub returns-in-BadSlot : goal.returns-in-BadSlot
+unfolding listing_for
+returns-in-BadSlot c =
+    let a = c.args in
+    let is = c.answer-in-BadSlot-1.given.1 in
+    listed a.volume.now c.geometry-g.ensures c.log_in-r.ensures a.out.now _ is
+    (then (wrote _ c.put_refused-a.ensures)
+    (then (wrote_byte 32 c.put_byte-b.ensures)
+    (then (wrote _ c.put_decimal-c.ensures)
+    (wrote_byte 10 c.put_byte.ensures)))).is
+
+pub returns-in-Refused : goal.returns-in-Refused
+unfolding listing_for
+returns-in-Refused c =
+    let a = c.args in
+    let is = c.enum_told-1.given.1 in
+    listed a.volume.now c.geometry-g.ensures c.log_in-r.ensures a.out.now _ is (then (wrote_refused is c.put_refused-a-in-Refused.ensures) (wrote_byte 10 c.put_byte-in-Refused.ensures)).is
+
+pub returns-in-Done : goal.returns-in-Done
+unfolding listing_for puts
+returns-in-Done c = let a = c.args in listed a.volume.now c.geometry-g.ensures c.log_in-r.ensures a.out.now _ c.enum_told-in-Done-1.given.1 refl
+
+pub returns-in-Several : goal.returns-in-Several
+unfolding listing_for puts
+returns-in-Several c = let a = c.args in listed a.volume.now c.geometry-g.ensures c.log_in-r.ensures a.out.now _ c.enum_told-in-Several-1.given.1 refl

@@ -1,0 +1,15 @@
+-- After i turns the first i bytes are b.
+use lib.ListN.{length, drop, set, replicate, length-set, drop_of_length-le}
+use native.Mathlib.Omega.{arith}
+use Prim.Native.Nat.{ℕ, ◌≤◌, ◌-◌}
+use mathlib.Core.List.{List, ◌++◌, append-nil}
+use mathlib.Core.Path.{◌≡◌, refl, ap, ◌∙◌}
+use borrow.Author.Fill.{fill_none, fill_more}
+use borrow.Author.Rules.{rules}
+use Rattle.lists.proofs.fill.Given as goal
+
+abbrev pub invariant-loop-i : goal.invariant-loop-i
+invariant-loop-i l = (l.i ≤ length l.initial.dst) × ((length l.dst ≡ length l.initial.dst) × (l.dst ≡ replicate l.i l.b ++ drop l.i l.initial.dst))
+
+abbrev pub decreases-loop-i : goal.decreases-loop-i
+decreases-loop-i l = length l.initial.dst - l.i

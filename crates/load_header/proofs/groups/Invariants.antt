@@ -1,0 +1,15 @@
+-- No form passed so far is 0, so what is still to be searched gives the whole.
+use Rattle.load_header.specs.Header.{descriptors, form_at, groups}
+use Rattle.lists.proofs.BoundedLaws.{Searched, searched_start, searched_next, searched_hit, searched_none}
+use borrow.Author.Tests.{eq-eqb, ne_eqb}
+use lib.Dec.{eqb}
+use Prim.Native.Nat.{◌≤◌, ◌-◌}
+use mathlib.Core.Path.{sym, ◌∙◌}
+use borrow.Author.Rules.{rules}
+use Rattle.load_header.proofs.groups.Given as goal
+
+abbrev pub invariant-loop-i : goal.invariant-loop-i
+invariant-loop-i l = (l.i ≤ descriptors) × Searched (λ j. eqb (form_at l.h j) 0) 0 descriptors l.i
+
+abbrev pub decreases-loop-i : goal.decreases-loop-i
+decreases-loop-i l = descriptors - l.i

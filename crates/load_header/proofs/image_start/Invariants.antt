@@ -1,0 +1,14 @@
+-- The lengths of the groups passed so far.
+use Rattle.load_header.specs.Header.{image_start}
+use Rattle.load_header.proofs.HeaderLaws.{start_next}
+use native.Mathlib.Omega.{arith}
+use Prim.Native.Nat.{◌≤◌, ◌-◌, ◌*◌}
+use mathlib.Core.Path.{◌≡◌, refl, ap, ◌∙◌}
+use borrow.Author.Rules.{rules}
+use Rattle.load_header.proofs.image_start.Given as goal
+
+abbrev pub invariant-loop-i : goal.invariant-loop-i
+invariant-loop-i l = (l.i ≤ l.n) × ((l.sum ≡ image_start l.h l.i) × (l.sum ≤ 65536 * l.i))
+
+abbrev pub decreases-loop-i : goal.decreases-loop-i
+decreases-loop-i l = l.n - l.i

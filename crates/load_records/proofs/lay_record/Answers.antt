@@ -1,0 +1,15 @@
+-- The bytes of the record that are asked for.
+use Rattle.lists.specs.Bytes.{part}
+use native.Mathlib.Omega.{arith}
+use lib.ListN.{length}
+use Prim.Native.Nat.{◌+◌, ◌-◌}
+use mathlib.Core.Path.{◌≡◌, ◌∙◌}
+use borrow.Author.Rules.{rules}
+use Rattle.load_records.proofs.lay_record.Goals as goal
+
+pub returns : goal.returns
+unfolding part
+returns c =
+    let a = c.args in
+    let z : a.from + length a.out.now - a.from ≡ length a.out.now = omega arith in
+    c.copy.ensures ∙ rw (z, c.show.ensures.1)

@@ -1,0 +1,6 @@
+-- The copy has the bytes of the control block, then its r bytes are set.
+use borrow.Author.Rules.{rules}
+use Rattle.load_records.proofs.point.Goals as goal
+
+pub returns : goal.returns
+returns c = rw (← c.copy.ensures) c.set_random.ensures

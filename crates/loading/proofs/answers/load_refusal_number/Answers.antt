@@ -1,0 +1,6 @@
+-- A refusal of the file calls has their number.
+use borrow.Author.Rules.{rules}
+use Rattle.loading.proofs.answers.load_refusal_number.Goals as goal
+
+pub returns-in-File : goal.returns-in-File
+returns-in-File c = rw c.why-1.given.1 c.refusal_number.ensures

@@ -1,0 +1,9 @@
+-- The start of the region that has the base page.
+use Rattle.loading.specs.Page.{page_start}
+use mathlib.Core.Path.{◌∙◌}
+use borrow.Author.Rules.{rules}
+use Rattle.loading.proofs.page.page_start.Goals as goal
+
+pub returns : goal.returns
+unfolding page_start
+returns c = (c.wide.ensures.0 ∙ rw (c.span_at-s.ensures, c.page_place-place.ensures.0), c.wide.ensures.1)

@@ -1,0 +1,12 @@
+-- Laid where the test is met.
+use borrow.Author.Rules.{rules}
+use Rattle.memory_bytes.proofs.lay_mcb.Goals as goal
+
+pub put_mcb-requires : goal.put_mcb-requires
+put_mcb-requires c = c.requires c.if-done-function.true
+
+pub returns-then-done-function : goal.returns-then-done-function
+returns-then-done-function c = rw c.if-done-function.true c.put_mcb.ensures
+
+pub returns-else-done-function : goal.returns-else-done-function
+returns-else-done-function c = rw c.if-done-function.false

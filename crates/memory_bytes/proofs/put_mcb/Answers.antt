@@ -1,0 +1,9 @@
+-- The five bytes are the definition's.
+use Rattle.memory_bytes.specs.TableBytes.{mcb_laid}
+use Rattle.numbers.specs.Numbers.{bytes_of}
+use borrow.Author.Rules.{rules}
+use Rattle.memory_bytes.proofs.put_mcb.Goals as goal
+
+pub returns : goal.returns
+unfolding mcb_laid bytes_of
+returns c = c.copy.ensures

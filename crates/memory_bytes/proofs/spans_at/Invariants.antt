@@ -1,0 +1,16 @@
+-- The spans of the places passed so far are read.
+use Rattle.memory_bytes.specs.TableBytes.{spans_at}
+use Rattle.memory_bytes.proofs.BytesLaws.{spans_length, spans_place, padded_full}
+use Rattle.memory_regions.proofs.PlaceLaws.{Laid, laid_start, laid_next, laid_end}
+use Rattle.memory_spans.specs.Span.{places}
+use native.Mathlib.Omega.{arith}
+use Prim.Native.Nat.{◌-◌}
+use mathlib.Core.Path.{sym, ◌∙◌}
+use borrow.Author.Rules.{rules}
+use Rattle.memory_bytes.proofs.spans_at.Given as goal
+
+abbrev pub invariant-loop-i : goal.invariant-loop-i
+invariant-loop-i l = Laid (spans_at l.b l.a places) l.initial.out l.out l.i
+
+abbrev pub decreases-loop-i : goal.decreases-loop-i
+decreases-loop-i l = places - l.i

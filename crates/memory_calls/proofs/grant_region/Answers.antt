@@ -1,0 +1,6 @@
+-- The region places with one more, in the table.
+use borrow.Author.Rules.{rules}
+use Rattle.memory_calls.proofs.grant_region.Goals as goal
+
+pub returns : goal.returns
+returns c = rw (c.done.ensures, c.with_places-table.ensures, c.add-next.ensures)

@@ -1,0 +1,6 @@
+-- The block's two numbers.
+use borrow.Author.Rules.{rules}
+use Rattle.memory_calls.proofs.has_room.Goals as goal
+
+pub returns : goal.returns
+returns c = rw (c.wide.ensures.0, c.wide-2.ensures.0) at c.has_room.ensures

@@ -1,0 +1,14 @@
+-- After j turns the first j places are laid down.
+use Rattle.memory_regions.proofs.PlaceLaws.{Laid, laid_start, laid_next, laid_end}
+use lib.ListN.{take, drop}
+use native.Mathlib.Omega.{arith}
+use Prim.Native.Nat.{suc, ◌-◌}
+use mathlib.Core.List.{◌∷◌, ◌++◌}
+use borrow.Author.Rules.{rules}
+use Rattle.memory_regions.proofs.with_region.Given as goal
+
+abbrev pub invariant-loop-j : goal.invariant-loop-j
+invariant-loop-j l = Laid (take l.at (take l.m l.regions) ++ (l.s ∷ drop (suc l.at) (take l.m l.regions))) l.initial.out l.out l.j
+
+abbrev pub decreases-loop-j : goal.decreases-loop-j
+decreases-loop-j l = 8 - l.j

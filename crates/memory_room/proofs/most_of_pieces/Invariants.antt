@@ -1,0 +1,15 @@
+-- The largest so far and those from place i on give the whole.
+use Rattle.memory_room.specs.CodeCandidates.{room_below}
+use Rattle.memory_spans.proofs.SpanLaws.{Kept, kept_start, kept_next, kept_end}
+use lib.ListN.{length, take}
+use native.Mathlib.Omega.{arith}
+use Prim.Native.Nat.{◌-◌, ◌<◌, max}
+use mathlib.Core.Path.{◌≡◌, ap, ◌∙◌}
+use borrow.Author.Rules.{rules}
+use Rattle.memory_room.proofs.most_of_pieces.Given as goal
+
+abbrev pub invariant-loop-i : goal.invariant-loop-i
+invariant-loop-i l = (length l.pieces ≡ 8) × ((l.most < 65536) × Kept (λ x. room_below (take l.n l.pieces) (take l.m l.regions) x.start) l.pieces l.n l.most l.i)
+
+abbrev pub decreases-loop-i : goal.decreases-loop-i
+decreases-loop-i l = l.n - l.i

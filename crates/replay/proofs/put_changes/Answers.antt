@@ -1,0 +1,16 @@
+-- Each turn appends at least one record, where there is one left.
+use lib.ListN.{length}
+use native.Mathlib.Omega.{arith}
+use Prim.Native.Nat.{◌-◌}
+use mathlib.Core.Path.{◌≡◌, refl, ◌∙◌}
+use borrow.Author.Rules.{rules}
+use Rattle.replay.proofs.put_changes.Goals as goal
+
+pub loop-q-init : goal.loop-q-init
+loop-q-init c = refl
+
+pub loop-q-smaller : goal.loop-q-smaller
+loop-q-smaller c = omega (arith, c.least.ensures)
+
+pub loop-q-preserved : goal.loop-q-preserved
+loop-q-preserved c = c.put_records-p.auto.0 ∙ c.loop-q.invariant

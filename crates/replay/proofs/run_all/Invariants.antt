@@ -1,0 +1,13 @@
+-- The unread part stays inside the window, and each turn counts a call.
+use lib.ListN.{length}
+use native.Mathlib.Omega.{arith}
+use Prim.Native.Nat.{◌-◌, ◌≤◌}
+use mathlib.Core.Path.{◌≡◌, refl}
+use borrow.Author.Rules.{rules}
+use Rattle.replay.proofs.run_all.Given as goal
+
+abbrev pub invariant-loop-calls : goal.invariant-loop-calls
+invariant-loop-calls l = (length l.window ≡ length l.initial.window) × ((length l.volume ≡ length l.initial.volume) × ((length l.out ≡ length l.initial.out) × ((l.run.from ≤ l.run.to) × (l.run.to ≤ length l.window))))
+
+abbrev pub decreases-loop-calls : goal.decreases-loop-calls
+decreases-loop-calls l = 18446744073709551615 - l.calls

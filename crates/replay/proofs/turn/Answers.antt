@@ -1,0 +1,16 @@
+-- A turn takes no more bytes than the window's unread part has.
+use lib.ListN.{length-take, length-drop}
+use native.Mathlib.Omega.{arith}
+use Prim.Native.Nat.{◌≤◌, ◌+◌}
+use borrow.Author.Rules.{rules}
+use Rattle.replay.proofs.turn.Goals as goal
+
+used_in_lem : (c : tie.After-struct-known) → c.before.before.before.before.before.before.before.before.before.before.before.before.before.before.before.before.before.refill.result.from + c.before.before.before.before.before.before.before.before.take-turn.result.used ≤ c.before.before.before.before.before.before.before.before.before.before.before.before.before.before.before.before.before.refill.result.to
+used_in_lem c = omega (arith, c.before.before.before.before.before.before.before.before.before.before.before.before.before.before.before.before.before.refill.ensures.0, simp (length-take, length-drop) at c.before.before.before.before.before.before.before.before.take-turn.ensures.0.1.1)
+
+-- TODO c.before.before.before.before.before.before.before.before.before.before.before.before.before.before.before.before.before.before.before.before.before.before.well-formed.1.1.0.0
+pub overflow_add-result : goal.overflow_add-result
+overflow_add-result c = omega (arith, used_in_lem c, c.refill-u.ensures.from_le_to, c.refill-u.auto.0, c.before.before.before.before.before.before.before.before.before.before.before.before.before.before.before.before.before.before.before.before.before.before.well-formed.1.1.0.0)
+
+pub returns : goal.returns
+returns c = (used_in_lem c@After-struct_known, rw c.window-2-1.given.1 (omega (arith, c.refill-u.ensures.from_le_to)))

@@ -1,0 +1,30 @@
+-- What is not lent on makes no difference; the stores made are those that were there to be made, and 528 at most.
+use mathlib.Core.Path.{◌≡◌}
+use Prim.Native.Nat.{◌-◌}
+use native.Mathlib.Omega.{arith}
+use Rattle.seam_calls.proofs.CutLaws.{made_most, lent_open, cut_told}
+use borrow.Author.Rules.{rules}
+use Rattle.seam_calls.proofs.copies.cut_open.Goals as goal
+
+pub cut_with-refusal-requires : goal.cut_with-refusal-requires
+cut_with-refusal-requires c = (c.requires, (search rules, search rules))
+
+pub overflow_cast-made : goal.overflow_cast-made
+overflow_cast-made c = omega (arith, made_most c.cut_with-refusal.ensures.cut_open)
+
+pub overflow_mul-result : goal.overflow_mul-result
+overflow_mul-result c = omega (arith, made_most c.cut_with-refusal.ensures.cut_open)
+
+pub overflow_add-result : goal.overflow_add-result
+overflow_add-result c = omega (arith, made_most c.cut_with-refusal.ensures.cut_open, c.cut_with-refusal.ensures.upper_bound)
+
+pub returns : goal.returns
+returns c =
+    let a = c.args in
+    let n = c.fcb_lent-n in
+    let m = c.buffer_lent-m in
+    let x : n.result - 0 ≡ n.result = omega arith in
+    let y : m.result - 0 ≡ m.result = omega arith in
+    let lent = rw (x, y, n.ensures.0, m.ensures.0) at c.cut_with-refusal.ensures.cut_open in
+    let cuts = lent_open a.function a.parameter a.fcb.now a.buffer.now lent in
+    (cuts.volume_is, cut_told cuts)

@@ -1,0 +1,9 @@
+-- The call with the copies is the call with what was lent.
+use borrow.Author.Rules.{rules}
+use Rattle.seam_calls.proofs.copies.cut_with.Goals as goal
+
+pub returns : goal.returns
+returns c =
+    let told = c.refusal_told.ensures in
+    let cuts = rw (c.copy.ensures, c.copy-2.ensures) at (c.call_most-told.ensures.cut_open_lem c.requires.drive_value) in
+    (rw told.0 cuts, told.1)

@@ -1,0 +1,7 @@
+-- Each number as a size.
+use borrow.Author.Rules.{rules}
+use Rattle.seam_words.proofs.geometry.Goals as goal
+
+pub returns : goal.returns
+returns c =
+    rw (c.size.ensures, c.size-2.ensures, c.size-3.ensures, c.size-4.ensures)

@@ -1,0 +1,19 @@
+-- The shelf has the figures of the volumes read so far, of which there are at most 65,535.
+use mathlib.Core.Path.{◌≡◌}
+use mathlib.Core.List.{List}
+use Prim.Native.Nat.{ℕ}
+use native.Mathlib.Omega.{arith}
+use lib.ListN.{length}
+use Rattle.shelf_figures.specs.declared.Shelf.{Shelf}
+use Rattle.shelf_figures.specs.Shelf.{bare}
+use Rattle.shelf_figures.proofs.OrderLaws.{bare_within}
+use Rattle.shelf_report.specs.Room.{OfVolumes}
+use Rattle.shelf.proofs.ReadingLaws.{left, Next, next_read}
+use borrow.Author.Rules.{rules}
+use Rattle.shelf.proofs.read_volumes.Given as goal
+
+abbrev pub invariant-loop-more : goal.invariant-loop-more
+invariant-loop-more l = SoFar l.initial.volume l.volume l.shelf
+
+abbrev pub decreases-loop-more : goal.decreases-loop-more
+decreases-loop-more l = left l.shelf l.more

@@ -1,0 +1,23 @@
+-- Files, entries and records of the slots passed so far are added up, and their files are in the tree.
+use mathlib.Core.Path.{◌≡◌, refl, sym, ◌∙◌}
+use mathlib.Core.Bool.{cond}
+use mathlib.Core.List.{List}
+use Prim.Native.Nat.{ℕ, zero, suc, ◌+◌, ◌-◌, ◌*◌, ◌≤◌}
+use lib.ListN.{replicate}
+use native.Mathlib.Omega.{arith}
+use Rattle.lists.specs.Bytes.{byte}
+use Rattle.sums.proofs.SumLaws.{Summed, summed_start, summed_next, summed_end, count_sum}
+use Rattle.disk_geometry.specs.declared.Geometry.{Geometry}
+use Rattle.disk_geometry.specs.Geometry.{slots}
+use Rattle.shelf_files.specs.CodeTree.{Heads, Nodes}
+use Rattle.shelf_files.proofs.TreeLaws.{no_heads, no_nodes}
+use Rattle.shelf_holdings.specs.Holdings.{is_entry, entries, is_file, files}
+use Rattle.shelf_holdings.specs.CodeEntries.{slot_records, records_by_entries}
+use borrow.Author.Rules.{rules}
+use Rattle.shelf_holdings.proofs.count.Given as goal
+
+abbrev pub invariant-loop-i : goal.invariant-loop-i
+invariant-loop-i l = SoFar l.g l.volume l.heads l.nodes l.c.files l.c.entries l.c.records l.i
+
+abbrev pub decreases-loop-i : goal.decreases-loop-i
+decreases-loop-i l = l.n - l.i
