@@ -1,6 +1,7 @@
 // One door to the file calls: the function's number decides which call is done. A call that changes the volume is given a number of
 // stores and ends when none is left: what it leaves of the volume is its stores cut there. The call is that with enough of them.
 #![tactic(auto)]
+
 ghost use Rattle.std.specs.Prelude.{◌≡◌, true, List, ℕ};
 ghost use Rattle.disk_geometry.specs.declared.Geometry.{Geometry};
 ghost use Rattle.filecalls.specs.Outcome.{left};

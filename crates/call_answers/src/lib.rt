@@ -1,5 +1,6 @@
 // What a call answers: the numbers of refusal, and the answers.
 #![tactic(auto)]
+
 ghost use Rattle.std.specs.Prelude.{◌≡◌, true, false, ◌<◌};
 ghost use Rattle.call_answers.specs.Refusal.{refusal_number, is_none, refusing, first};
 ghost use Rattle.call_answers.specs.Answer.{number_of, value_of, succeeded, why_of};

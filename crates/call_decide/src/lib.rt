@@ -1,5 +1,6 @@
 // A write decided, by reading alone: its tests in their order, and the slot, the block and the entry that it will store.
 #![tactic(auto)]
+
 ghost use Rattle.std.specs.Prelude.{◌≡◌, true, false, ◌≤◌, ◌<◌, eqb, length};
 ghost use Rattle.disk_geometry.specs.Geometry.{lawful, slots};
 ghost use Rattle.disk_volume.specs.Name.{strip};

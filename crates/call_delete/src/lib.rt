@@ -1,5 +1,6 @@
 // Delete: the tests that look at the directory, and the blocks of the entries that match.
 #![tactic(auto)]
+
 ghost use Rattle.std.specs.Prelude.{◌≡◌, true, cond, ◌-◌, ◌<◌, ◌≤◌, length};
 ghost use Rattle.disk_volume.specs.declared.Wanted.TheVariants.{Match};
 ghost use Rattle.disk_geometry.specs.Geometry.{lawful, slots, places};

@@ -1,5 +1,6 @@
 // The entry that a write leaves: what it begins from, how it counts a further record, and the block of its place.
 #![tactic(auto)]
+
 ghost use Rattle.std.specs.Prelude.{◌≡◌, true, ◌+◌, ◌≤◌, ◌<◌, length};
 ghost use Rattle.disk_geometry.specs.Geometry.{lawful, slots, places, blocks};
 ghost use Rattle.disk_held.specs.Held.{held_words};

@@ -1,5 +1,6 @@
 // The control block: its position, and what calls set in it.
 #![tactic(auto)]
+
 ghost use Rattle.std.specs.Prelude.{◌≡◌, ◌<◌};
 ghost use Rattle.disk_volume.specs.CodeLent.{IsFcb, IsEntry, IsName};
 ghost use Rattle.call_fcb.specs.Fcb.{file_records, position, random, set_to, opened, made, with_random};

@@ -1,5 +1,6 @@
 // Make: the tests of the control block and of the directory, the new entry, and the call itself.
 #![tactic(auto)]
+
 ghost use Rattle.std.specs.Prelude.{◌≡◌, true, cond, ◌-◌, ◌<◌};
 ghost use Rattle.disk_volume.specs.declared.Wanted.TheVariants.{Empty};
 ghost use Rattle.disk_geometry.specs.Geometry.{slots};

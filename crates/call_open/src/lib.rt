@@ -1,5 +1,6 @@
 // Open and close: the entry that the control block means.
 #![tactic(auto)]
+
 ghost use Rattle.std.specs.Prelude.{◌≡◌, true, ◌≤◌, ◌<◌};
 ghost use Rattle.disk_geometry.specs.Geometry.{lawful, slots};
 ghost use Rattle.disk_volume.specs.CodeLent.{VolumeAnd, IsFcb};

@@ -1,3 +1,4 @@
 // The reads, over what is lent to them.
 #![tactic(auto)]
+
 pub mod read;

@@ -1,5 +1,6 @@
 // Search, over what is lent to it.
 #![tactic(auto)]
+
 pub mod search;
 
 // How many bytes a pattern has: the name's eleven, and ex behind them.

@@ -1,5 +1,6 @@
 // The calls that are served, and their numbers.
 #![tactic(auto)]
+
 ghost use Rattle.std.specs.Prelude.{◌≡◌};
 ghost use Rattle.call_served.specs.Calls.{call_of};
 

@@ -1,5 +1,6 @@
 // Size: the file's end by its entries.
 #![tactic(auto)]
+
 ghost use Rattle.std.specs.Prelude.{◌≡◌, ◌≤◌, ◌<◌, max};
 ghost use Rattle.disk_geometry.specs.Geometry.{slots};
 ghost use Rattle.disk_volume.specs.CodeLent.{IsVolume, VolumeAnd, IsEntry, IsFcb, IsName};

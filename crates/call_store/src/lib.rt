@@ -1,5 +1,6 @@
 // A write carried out: its stores, with no test in between, as long as a store is left.
 #![tactic(auto)]
+
 ghost use Rattle.std.specs.Prelude.{◌≡◌, ◌-◌, ◌<◌, length};
 ghost use Rattle.disk_geometry.specs.Geometry.{slots, blocks};
 ghost use Rattle.disk_volume.specs.CodeLent.{IsVolume, IsEntry, IsFcb, IsRecord};

@@ -1,6 +1,7 @@
 // The sweep over the directory, from one entry that is meant to the next: entries are changed in a copy of their record, which
 // is stored whole. A record that holds no such entry is not stored.
 #![tactic(auto)]
+
 ghost use Rattle.std.specs.Prelude.{◌≡◌, true, [], ◌∷◌, ◌-◌, ◌≤◌, ◌<◌, length};
 ghost use Rattle.lists.specs.Bytes.{part};
 ghost use Rattle.disk_geometry.specs.Geometry.{lawful, start, slots, record_bytes};

@@ -1,5 +1,6 @@
 // Names that can be typed: eleven bytes, tested without their top bits.
 #![tactic(auto)]
+
 ghost use Rattle.std.specs.Prelude.{◌≡◌, not};
 ghost use Rattle.lists.specs.Bytes.{all};
 ghost use Rattle.disk_volume.specs.CodeLent.{IsName};

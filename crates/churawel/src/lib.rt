@@ -2,6 +2,7 @@
 // volumes hold together, a fresh disk, the edition desk, the memory calls, load, and a hex text made a CMD file, exported for C, over
 // lent bytes alone.
 #![tactic(auto)]
+
 ghost use Rattle.std.specs.Prelude.{◌≡◌, []};
 ghost use Rattle.disk_geometry.specs.Geometry.{geometry_of, with_placing};
 ghost use Rattle.memory_bytes.specs.Over.{over, memory_over};

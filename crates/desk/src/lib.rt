@@ -1,6 +1,7 @@
 // The edition desk: one siglum replaced by another in one chapter of a collation file. It stands above the file calls and
 // relies on nothing below but their promises.
 #![tactic(auto)]
+
 ghost use Rattle.std.specs.Prelude.{◌≡◌};
 ghost use Rattle.desk.specs.Answer.{number_of, value_of};
 

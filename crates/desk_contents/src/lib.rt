@@ -1,5 +1,6 @@
 // The contents of a collation file, its record 0: sixteen places, each with a chapter and where its records stand.
 #![tactic(auto)]
+
 ghost use Rattle.std.specs.Prelude.{◌≡◌, ◌+◌, ◌*◌, ◌≤◌, ◌<◌};
 ghost use Rattle.desk_contents.specs.Contents.{contents_places, first_at, count_at, total, listed, clear, differs, others, place_fits, good_contents, has_chapter, chapter_place};
 

@@ -1,5 +1,6 @@
 // Which manuscript a siglum means: the name is handed back as the very part of the edition's own list or of the house list.
 #![tactic(auto)]
+
 ghost use Rattle.std.specs.Prelude.{◌≡◌, ◌+◌, ◌*◌, ◌≤◌, length};
 ghost use Rattle.desk_manuscripts.specs.Manuscript.{line_bytes, name_at, name_bytes, line_is, line_of, where_of, InLists, seen, part_of, part_for, number_of};
 

@@ -1,5 +1,6 @@
 // Why a slot is bad: the first of inspection's rules that it breaks, in the paper's order.
 #![tactic(auto)]
+
 ghost use Rattle.std.specs.Prelude.{◌≡◌, not, cond, ◌≤◌, ◌<◌};
 ghost use Rattle.disk_geometry.specs.Geometry.{slots, places};
 ghost use Rattle.disk_volume.specs.CodeLent.{IsVolume, IsEntry};

@@ -1,5 +1,6 @@
 // The geometry of a volume: its sizes, and where its records and slots lie.
 #![tactic(auto)]
+
 ghost use Rattle.std.specs.Prelude.{◌≡◌, true, ◌+◌, ◌*◌, ◌/◌, ◌%◌, ◌≤◌, ◌<◌};
 ghost use Rattle.disk_geometry.specs.Geometry.{record_bytes, entry_bytes, map_bytes, record_slots, is_floppy, lawful, bytes, number_bytes, records, extents, start, slots, slot_start, record_of, record_start, group_of, places, place_of, inside, blocks};
 ghost use Rattle.disk_geometry.specs.Shift.{bsh, blm};

@@ -1,6 +1,7 @@
 // The held blocks: bits in words, the lowest free block, and the count of free ones by the ones operation. The words are lent,
 // however many there are; a state has `WORDS` of them.
 #![tactic(auto)]
+
 ghost use Rattle.std.specs.Prelude.{◌≡◌, ◌+◌, ◌*◌, ◌/◌, ◌%◌, ◌^◌, ◌≤◌, ◌<◌, min, length};
 ghost use Rattle.std.specs.Int.Count.{ones};
 ghost use Rattle.lists.specs.Bounded.{count_from};

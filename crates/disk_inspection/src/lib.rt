@@ -1,5 +1,6 @@
 // Inspection at log-in: the lowest bad slot, and the blocks that entries name.
 #![tactic(auto)]
+
 ghost use Rattle.std.specs.Prelude.{◌≡◌, true, ◌+◌, ◌≤◌, ◌<◌};
 ghost use Rattle.disk_geometry.specs.Geometry.{slots};
 ghost use Rattle.disk_volume.specs.CodeLent.{IsVolume};

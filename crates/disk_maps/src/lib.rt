@@ -1,5 +1,6 @@
 // The map of an entry at inspection: each block in it is good, and is then held.
 #![tactic(auto)]
+
 ghost use Rattle.std.specs.Prelude.{◌≡◌, true, not, cond, ◌&&◌, ◌<◌, length};
 ghost use Rattle.lists.specs.Bounded.{every};
 ghost use Rattle.disk_geometry.specs.Geometry.{lawful, slots, places, inside};

@@ -1,5 +1,6 @@
 // "No lower slot has the same user, name and group." A mark for each of these saves nearly every look at the lower slots.
 #![tactic(auto)]
+
 ghost use Rattle.std.specs.Prelude.{◌≡◌, true, false, ◌+◌, ◌≤◌, ◌<◌};
 ghost use Rattle.disk_geometry.specs.Geometry.{slots};
 ghost use Rattle.disk_volume.specs.Name.{strip};

@@ -1,5 +1,6 @@
 // Good slots: the definitions of what inspection accepts, their laws, and the tests of what an entry alone shows.
 #![tactic(auto)]
+
 ghost use Rattle.std.specs.Prelude.{◌≡◌};
 ghost use Rattle.disk_volume.specs.CodeLent.{IsEntry};
 ghost use Rattle.disk_rules.specs.GoodSlot.{good_fields, good_top_bits, good_entry};

@@ -1,5 +1,6 @@
 // Stores: whole records, one at a time, by one function, as long as a store is left.
 #![tactic(auto)]
+
 ghost use Rattle.std.specs.Prelude.{◌≡◌, [], ◌∷◌, ◌+◌, ◌-◌, ◌*◌, ◌≤◌, ◌<◌, length};
 ghost use Rattle.lists.specs.Bytes.{put};
 ghost use Rattle.disk_geometry.specs.Geometry.{entry_bytes, records, blocks, slots};

@@ -1,5 +1,6 @@
 // The drive's state in lent bytes: read from them, and laid into them. A drive has 64 bytes up to T 256, 544 above.
 #![tactic(auto)]
+
 ghost use Rattle.std.specs.Prelude.{◌≡◌, true, eqb, length};
 ghost use Rattle.disk_held.specs.Held.{none_held};
 ghost use Rattle.filecalls.specs.CodeFront.{front_of};

@@ -1,6 +1,7 @@
 // The file calls: every call is a method of the drive state that takes the state and hands it back. Beneath it stands a method of
 // the state's front, to which the held blocks are lent where the call takes or frees one.
 #![tactic(auto)]
+
 use call_answers::Answer;
 use call_search::{PATTERN_BYTES, SearchKind};
 use disk_geometry::Geometry;

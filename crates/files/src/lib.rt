@@ -1,5 +1,6 @@
 // The files of a volume, each by its lowest slot.
 #![tactic(auto)]
+
 ghost use Rattle.std.specs.Prelude.{◌≡◌, ◌≤◌, ◌<◌};
 ghost use Rattle.disk_geometry.specs.Geometry.{entry_bytes, slots};
 ghost use Rattle.disk_volume.specs.Name.{strip};

@@ -1,5 +1,6 @@
 // A fresh disk from a worn one: the copy in good order, written to a second lent volume of the same geometry.
 #![tactic(auto)]
+
 ghost use Rattle.std.specs.Prelude.{◌≡◌};
 ghost use Rattle.fresh_copy.specs.FreshCopy.{copied, fresh_copy};
 

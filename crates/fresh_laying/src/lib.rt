@@ -1,5 +1,6 @@
 // A fresh disk laid out: the entries in order, each with its blocks moved, then blank slots and blank blocks.
 #![tactic(auto)]
+
 ghost use Rattle.std.specs.Prelude.{◌≡◌, true, cond, ◌+◌, ◌-◌, ◌≤◌, ◌<◌, length};
 ghost use Rattle.lists.specs.Bounded.{fold};
 ghost use Rattle.disk_geometry.specs.Geometry.{bytes, slots, blocks, places};

@@ -1,6 +1,7 @@
 // The order of a fresh disk's entries: files by their lowest slot, a file's entries by rising extent. Each entry has one number for
 // both, and the numbers are entered one by one among those that are in order.
 #![tactic(auto)]
+
 ghost use Rattle.std.specs.Prelude.{◌≡◌, ◌+◌, ◌<◌, length, take};
 ghost use Rattle.disk_geometry.specs.Geometry.{slots};
 ghost use Rattle.disk_volume.specs.CodeLent.{VolumeAnd, IsEntry};

@@ -2,6 +2,7 @@
 // bytes than the program has room for, is a line on standard error, and nothing is written. A file that standard output does not take
 // whole is a line there too.
 #![tactic(auto)]
+
 ghost use Rattle.std.specs.Prelude.{◌≡◌, ◌≤◌, length, take};
 ghost use Rattle.gencmd_file.specs.Longest.{longest};
 ghost use Rattle.gencmd.specs.Said.{line_bytes, refused, too_long};

@@ -1,6 +1,7 @@
 // From hex text to CMD file: the lines are walked once to test and measure them, and once for each group that is there, to lay
 // its bytes at their place in the output buffer. No other memory is needed.
 #![tactic(auto)]
+
 ghost use Rattle.std.specs.Prelude.{◌≡◌};
 ghost use Rattle.gencmd_file.specs.Gencmd.{number_of, length_of, after, gencmd};
 

@@ -1,6 +1,7 @@
 // The groups of a hex text: how far each reaches, how many paragraphs it has, and its bytes, each at its address, laid into a
 // lent part.
 #![tactic(auto)]
+
 pub mod laying;
 pub mod measuring;
 pub mod sizing;

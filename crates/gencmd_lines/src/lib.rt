@@ -1,6 +1,7 @@
 // Hex lines: the bytes that a line's digits spell, why a line is refused, and where the lines of a text stand. A line is lent
 // from behind its colon to the end of the text.
 #![tactic(auto)]
+
 ghost use Rattle.std.specs.Prelude.{◌≡◌};
 ghost use Rattle.gencmd_lines.specs.Refusal.{refusal_number, is_none};
 

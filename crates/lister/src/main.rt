@@ -1,5 +1,6 @@
 // Prints the listing of the volume that it reads from standard input.
 #![tactic(auto)]
+
 ghost use Rattle.std.specs.Prelude.{◌≡◌, ◌≤◌, length, take};
 ghost use Rattle.listing.specs.Listing.{listing};
 ghost use Rattle.listing.specs.Room.{room};

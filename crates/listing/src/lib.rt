@@ -1,5 +1,6 @@
 // The listing of a volume of V's geometry: the text that the lister prints, laid into a lent buffer.
 #![tactic(auto)]
+
 ghost use Rattle.std.specs.Prelude.{◌≡◌, ◌≤◌, length};
 ghost use Rattle.text.specs.Text.{text, puts};
 ghost use Rattle.listing.specs.Listing.{geometry_v, refused, listing};

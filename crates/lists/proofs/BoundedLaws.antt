@@ -31,7 +31,7 @@ module _ {p : ℕ → Bool} {from n : ℕ} where
   searched_over {i} zero s h f = let z : i + 0 ≡ i = omega arith in rw z s
   searched_over {i} (suc k) s h f =
       let z : i + suc k ≡ (i + 1) + k = omega arith in
-      rw z (searched_over k (searched_next s (omega arith) (f i (omega arith) (omega arith))) (omega arith) (λ m low high. f m (omega arith) (omega arith)))
+      rw z (searched_over {i = i + 1} k (searched_next s (omega arith) (f i (omega arith) (omega arith))) (omega arith) (λ m low high. f m (omega arith) (omega arith)))
 
   pub searched_hit : {i : ℕ} → Searched p from n i → i < n → p i ≡ true → low_from p from (n - from) ≡ i
   unfolding low_from

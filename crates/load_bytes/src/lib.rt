@@ -1,5 +1,6 @@
 // Load over the bytes of the memory table.
 #![tactic(auto)]
+
 ghost use Rattle.std.specs.Prelude.{◌≡◌, true, List, ℕ, ◌≤◌, length};
 ghost use Rattle.filecalls.specs.CodeFront.{joined};
 ghost use Rattle.memory_spans.specs.Span.{places};

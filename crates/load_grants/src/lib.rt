@@ -1,5 +1,6 @@
 // What the groups of a CMD file are granted, each behind those before it.
 #![tactic(auto)]
+
 ghost use Rattle.std.specs.Prelude.{◌≡◌, ◌+◌, ◌≤◌, take};
 ghost use Rattle.memory_spans.specs.Span.{places};
 ghost use Rattle.load_header.specs.Header.{descriptors};

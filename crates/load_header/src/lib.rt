@@ -1,5 +1,6 @@
 // The header of a CMD file: its descriptors, and the rules that a header is held to.
 #![tactic(auto)]
+
 ghost use Rattle.std.specs.Prelude.{◌≡◌, ◌+◌, ◌*◌, ◌≤◌, ◌<◌, eqb};
 ghost use Rattle.lists.specs.Bounded.{any, every};
 ghost use Rattle.numbers.specs.Numbers.{two};

@@ -1,5 +1,6 @@
 // A file's records and its size, as the file calls show them: whether all of it can be read, and its image.
 #![tactic(auto)]
+
 ghost use Rattle.std.specs.Prelude.{◌≡◌, ◌+◌, ◌-◌, ◌*◌, ◌≤◌, ◌<◌, min, length, replicate};
 ghost use Rattle.lists.specs.Bytes.{part};
 ghost use Rattle.disk_geometry.specs.Geometry.{record_bytes};

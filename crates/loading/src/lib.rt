@@ -1,6 +1,7 @@
 // Function 59, load: a CMD file is read to its end, its groups are granted, and its image and the base page are laid into the
 // memory. It stands above the file calls and the memory calls and relies on nothing below but their promises.
 #![tactic(auto)]
+
 use call_answers::Refusal;
 use memory_calls::Table;
 

@@ -1,5 +1,6 @@
 // The memory table in 66 lent bytes and the memory control block in five: read from them, laid into them, and a memory call over both.
 #![tactic(auto)]
+
 ghost use Rattle.std.specs.Prelude.{◌≡◌, true, cond, ◌&&◌, ◌+◌, ◌*◌, ◌≤◌, ◌<◌, leb, ltb, length, take, get_or};
 ghost use Rattle.memory_spans.specs.Span.{places, none};
 ghost use Rattle.memory_calls.specs.Calls.{ALLOC_MEM, FREE_ALL_MEM};

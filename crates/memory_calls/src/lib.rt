@@ -1,5 +1,6 @@
 // The memory calls 53 to 58 over a table of pieces and regions, by value.
 #![tactic(auto)]
+
 ghost use Rattle.std.specs.Prelude.{◌≡◌, ◌<◌};
 ghost use Rattle.memory_spans.specs.Span.{places};
 ghost use Rattle.memory_spans.specs.Room.{has_room};

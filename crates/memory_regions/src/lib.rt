@@ -1,5 +1,6 @@
 // The regions of a table: one added behind the others, and a part of one freed.
 #![tactic(auto)]
+
 ghost use Rattle.std.specs.Prelude.{◌≡◌, true, [], ◌∷◌, ◌++◌, suc, ◌≤◌, ◌<◌, ltb, take, drop, get_or};
 ghost use Rattle.memory_spans.specs.Span.{places, paragraphs, none, end, any_of};
 ghost use Rattle.memory_regions.specs.Places.{padded, places_of};

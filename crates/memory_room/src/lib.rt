@@ -1,5 +1,6 @@
 // Where there is room for so many paragraphs, the longest free run, and what a group is granted.
 #![tactic(auto)]
+
 ghost use Rattle.std.specs.Prelude.{◌≡◌, cond, ◌&&◌, ◌≤◌, ◌<◌, min, take, ltb};
 ghost use Rattle.lists.specs.Bounded.{low_from};
 ghost use Rattle.memory_spans.specs.Span.{places, paragraphs, end, most_of};

@@ -1,5 +1,6 @@
 // Memory in paragraphs of 16 bytes: physical pieces and granted regions, the rules of their table, and the room that is left.
 #![tactic(auto)]
+
 ghost use Rattle.std.specs.Prelude.{◌≡◌, ◌+◌, ◌*◌, ◌-◌, ◌≤◌, ◌<◌, max, take, drop};
 ghost use Rattle.lists.specs.Bounded.{low_from};
 ghost use Rattle.memory_spans.specs.Span.{places, paragraphs, end, covers, overlap, lies_in, any_of, all_of};

@@ -1,6 +1,7 @@
 // Replays a script of calls that stands on standard input and prints its transcript: a line for each call, the records that
 // the run has changed, and the number of calls.
 #![tactic(auto)]
+
 ghost use Rattle.std.specs.Prelude.{◌≡◌, ◌-◌, ◌≤◌, min, length};
 ghost use Rattle.lists.specs.Bytes.{part};
 ghost use Rattle.replay_script.specs.Layout.{longest_volume};

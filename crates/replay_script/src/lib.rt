@@ -1,5 +1,6 @@
 // The script of a replay: its header, and the call that stands next.
 #![tactic(auto)]
+
 ghost use Rattle.std.specs.Prelude.{◌≡◌, length};
 ghost use Rattle.numbers.specs.Numbers.{three};
 ghost use Rattle.replay_script.specs.Script.{header_of, next_of, is_known};

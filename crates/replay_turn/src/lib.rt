@@ -1,5 +1,6 @@
 // The calls of a script are done one after the other, each with its line in the transcript.
 #![tactic(auto)]
+
 ghost use Rattle.std.specs.Prelude.{◌≡◌, ◌≤◌, length};
 ghost use Rattle.filecalls.specs.Outcome.{left};
 ghost use Rattle.call_served.specs.Asked.{asked};

@@ -1,5 +1,6 @@
 // Log-in, every other call and a call that is cut off, over the drive's bytes and whatever else is lent.
 #![tactic(auto)]
+
 ghost use Rattle.std.specs.Prelude.{◌≡◌, true, ◌||◌, List, [], ℕ};
 ghost use Rattle.call_served.specs.Calls.{call_of};
 ghost use Rattle.call_served.specs.declared.Call.TheVariants.{LogIn};

@@ -1,5 +1,6 @@
 // The edition desk over lent bytes alone: a siglum replaced by another, and which manuscript a siglum means.
 #![tactic(auto)]
+
 ghost use Rattle.std.specs.Prelude.{◌≡◌, ◌+◌, ◌*◌, ◌<◌};
 ghost use Rattle.drive_bytes.specs.Layout.{decoded};
 ghost use Rattle.desk_manuscripts.specs.Manuscript.{line_bytes, name_at};

@@ -1,5 +1,6 @@
 // A fresh disk at the seam: a copy of a volume in good order, written to a second lent volume.
 #![tactic(auto)]
+
 ghost use Rattle.std.specs.Prelude.{◌≡◌};
 ghost use Rattle.disk_geometry.specs.Geometry.{geometry_of, with_placing};
 ghost use Rattle.seam_fresh.specs.SeamFresh.{fresh_sealed, fresh_at_seam};

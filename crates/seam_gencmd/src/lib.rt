@@ -1,5 +1,6 @@
 // A hex text made a CMD file, for the seam: the answer is one number of 64 bits, since a file's length has more than 16.
 #![tactic(auto)]
+
 ghost use Rattle.std.specs.Prelude.{◌≡◌, ◌<◌};
 ghost use Rattle.seam_gencmd.specs.Gencmd.{made, gencmd_at_seam};
 

@@ -1,5 +1,6 @@
 // Why a volume is refused, and which files it has, over lent bytes alone.
 #![tactic(auto)]
+
 ghost use Rattle.std.specs.Prelude.{◌≡◌};
 ghost use Rattle.disk_geometry.specs.Geometry.{geometry_of, with_placing};
 ghost use Rattle.seam_looks.specs.Fault.{explained, fault_at_seam};

@@ -1,5 +1,6 @@
 // The seam for the memory calls 53 to 58 and for load, 59, over lent bytes alone.
 #![tactic(auto)]
+
 ghost use Rattle.std.specs.Prelude.{◌≡◌, ◌<◌};
 ghost use Rattle.memory_bytes.specs.Over.{over, memory_over};
 ghost use Rattle.loading.specs.Load.{value_of};

@@ -1,5 +1,6 @@
 // A volume is put on the shelf whose figures stand in 64 lent bytes.
 #![tactic(auto)]
+
 ghost use Rattle.std.specs.Prelude.{◌≡◌, length};
 ghost use Rattle.disk_geometry.specs.Geometry.{geometry_of, with_placing};
 ghost use Rattle.shelf_bytes.specs.Layout.{shelf_bytes};

@@ -1,5 +1,6 @@
 // What all functions of the seam share: a caller's numbers as sizes and as a geometry, and an answer as one number.
 #![tactic(auto)]
+
 ghost use Rattle.std.specs.Prelude.{◌≡◌, ◌%◌, ◌<◌};
 ghost use Rattle.call_answers.specs.Answer.{number_of, value_of};
 ghost use Rattle.disk_geometry.specs.Geometry.{geometry_of, with_placing};

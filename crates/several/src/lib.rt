@@ -1,6 +1,7 @@
 // Several records a call: a sequential read (220) and write (221) of 1 to 16 records. Each single call is lent its own piece of
 // the buffer.
 #![tactic(auto)]
+
 ghost use Rattle.std.specs.Prelude.{◌≡◌, List, ℕ, ◌+◌, ◌*◌, ◌≤◌, length};
 ghost use Rattle.disk_geometry.specs.Geometry.{record_bytes};
 ghost use Rattle.call_answers.specs.Refusal.{first_met};

@@ -1,5 +1,6 @@
 // Reads volumes of V's geometry from standard input, one after another, and prints what they hold together, one figure a line.
 #![tactic(auto)]
+
 ghost use Rattle.std.specs.Prelude.{◌≡◌, ◌≤◌, length, take};
 ghost use Rattle.io.specs.Counts.{IsPrefixLen};
 ghost use Rattle.shelf_report.specs.Report.{report};

@@ -1,5 +1,6 @@
 // The shelf in 64 lent bytes: read from them, and laid into them.
 #![tactic(auto)]
+
 ghost use Rattle.std.specs.Prelude.{◌≡◌, ◌<◌, length};
 ghost use Rattle.shelf_bytes.specs.Layout.{shelf_bytes, figure_at, encoded, decoded};
 

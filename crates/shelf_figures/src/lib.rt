@@ -1,5 +1,6 @@
 // The shelf: what up to 65,535 volumes hold together.
 #![tactic(auto)]
+
 ghost use Rattle.std.specs.Prelude.{◌≡◌, true};
 ghost use Rattle.call_answers.specs.Answer.{number_of};
 ghost use Rattle.filecalls.specs.LogIn.{log_in};

@@ -1,6 +1,7 @@
 // Is an entry the first of its file? The first entries of files are in a tree by the keys of their users and names, so that few
 // lower slots are looked at.
 #![tactic(auto)]
+
 ghost use Rattle.std.specs.Prelude.{◌≡◌, false, ◌+◌, ◌-◌, ◌/◌, ◌≤◌, ◌<◌, eqb, length};
 ghost use Rattle.lists.specs.Bounded.{any};
 ghost use Rattle.lists.specs.Bytes.{byte};

@@ -1,5 +1,6 @@
 // What a volume holds: files, entries, records present, blocks held and free, waste.
 #![tactic(auto)]
+
 ghost use Rattle.std.specs.Prelude.{◌≡◌, true, cond, ◌+◌, ◌-◌, ◌*◌, ◌≤◌, ◌<◌};
 ghost use Rattle.disk_geometry.specs.Geometry.{lawful, slots, records, places};
 ghost use Rattle.disk_volume.specs.CodeLent.{IsVolume, IsEntry};

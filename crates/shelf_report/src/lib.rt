@@ -1,5 +1,6 @@
 // The text of a shelf's figures, laid into a lent buffer.
 #![tactic(auto)]
+
 ghost use Rattle.std.specs.Prelude.{◌≡◌, ◌≤◌, length};
 ghost use Rattle.text.specs.Text.{text, puts};
 ghost use Rattle.shelf_report.specs.Report.{line, report};

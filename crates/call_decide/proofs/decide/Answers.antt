@@ -21,26 +21,30 @@ own_is c =
     let a = c.args in
     c.find-own.ensures.0 ∙ ap (λ (k : ℕ). find_slot a.g a.volume.now a.user (strip a.name.now) (Group k)) c.group-group.ensures
 
-from_is : (c : tie.After-own-or) → (let a = c.before.before.before.before.before.before.before.args in c.own-or.result ≡ from_slot a.g a.volume.now a.user (strip a.name.now) a.n)
+-- TODO place After-own_or-from 
+from_is : (c : goal.After-own_or-from) → (let a = c.args in c.own_or-from.result ≡ from_slot a.g a.volume.now a.user (strip a.name.now) a.n)
 unfolding from_slot
 from_is c =
-    let a = c.before.before.before.before.before.before.before.args in
-    c.own-or.ensures.0 ∙ ap (λ (i : ℕ). own_or a.g a.volume.now a.user (strip a.name.now) i File) (own_is c.before)
+    let a = c.args in
+    c.own_or-from.ensures.0 ∙ ap (λ (i : ℕ). own_or a.g a.volume.now a.user (strip a.name.now) i File) (own_is c@After-find)
 
-why_is : (c : tie.After-file-why) → (let a = c.before.before.before.before.before.before.before.before.args in c.file-why.result ≡ first_met (file_tests a.g a.volume.now a.user (strip a.name.now) (from_slot a.g a.volume.now a.user (strip a.name.now) a.n)))
+-- TODO place After-file_why-why 
+why_is : (c : goal.After-file_why-why) → (let a = c.args in c.file_why-why.result ≡ first_met (file_tests a.g a.volume.now a.user (strip a.name.now) (from_slot a.g a.volume.now a.user (strip a.name.now) a.n)))
 why_is c =
-    let a = c.before.before.before.before.before.before.before.before.args in
-    c.file-why.ensures ∙ ap (λ (i : ℕ). first_met (file_tests a.g a.volume.now a.user (strip a.name.now) i)) (from_is c.before)
+    let a = c.args in
+    c.file_why-why.ensures ∙ ap (λ (i : ℕ). first_met (file_tests a.g a.volume.now a.user (strip a.name.now) i)) (from_is c@After-own_or)
 
-entry_is : (c : tie.After-base-entry) → (let a = c.before.before.before.before.before.before.before.before.before.before.before.before.args in c.base-entry.new.1.1.1.1.0 ≡ base_entry a.g a.volume.now a.user (strip a.name.now) a.n)
+-- TODO place After-base_entry 
+entry_is : (c : goal.After-base_entry) → (let a = c.args in c.base_entry.new.1.1.1.1.0 ≡ base_entry a.g a.volume.now a.user (strip a.name.now) a.n)
 entry_is c =
-    let a = c.before.before.before.before.before.before.before.before.before.before.before.before.args in
-    c.base-entry.ensures ∙ rw (own_is c.before.before.before.before.before.before, from_is c.before.before.before.before.before) (sym (base_is a.g a.volume.now a.user (strip a.name.now) a.n))
+    let a = c.args in
+    c.base_entry.ensures ∙ rw (own_is c@After-find, from_is c@After-own_or) (sym (base_is a.g a.volume.now a.user (strip a.name.now) a.n))
 
-slot_here : (c : tie.After-own-or2) → (let a = c.before.before.before.before.before.before.before.before.before.before.before.before.before.before.before.args in c.own-or2.result ≡ own_or a.g a.volume.now a.user (strip a.name.now) (record_slot a.g a.volume.now a.user (strip a.name.now) a.n) Empty)
+-- TODO place After-own_or-slot 
+slot_here : (c : goal.After-own_or-slot) → (let a = c.args in c.own_or-slot.result ≡ own_or a.g a.volume.now a.user (strip a.name.now) (record_slot a.g a.volume.now a.user (strip a.name.now) a.n) Empty)
 slot_here c =
-    let a = c.before.before.before.before.before.before.before.before.before.before.before.before.before.before.before.args in
-    c.own-or2.ensures.0 ∙ ap (λ (i : ℕ). own_or a.g a.volume.now a.user (strip a.name.now) i Empty) (own_is c.before.before.before.before.before.before.before.before.before)
+    let a = c.args in
+    c.own_or-slot.ensures.0 ∙ ap (λ (i : ℕ). own_or a.g a.volume.now a.user (strip a.name.now) i Empty) (own_is c@After-find)
 
 pub returns-then-not-is_none : goal.returns-then-not-is_none
 returns-then-not-is_none c =

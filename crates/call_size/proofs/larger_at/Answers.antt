@@ -7,12 +7,13 @@ use Rattle.disk_volume.proofs.EntryLaws.{lent_slot}
 use Rattle.call_size.specs.Size.{entry_end}
 use Rattle.call_size.proofs.larger_at.Goals as goal
 
+-- TODO place After-entry_end-end 
 -- the end by slot i is what `entry_end` answered
-end : (c : tie.After-entry-end) → (let a = c.before.before.before.before.args in entry_end (slot_at a.g a.volume.now a.i) ≡ c.entry-end.result)
+end : (c : goal.After-entry_end-end) → (let a = c.args in entry_end (slot_at a.g a.volume.now a.i) ≡ c.entry_end-end.result)
 end c =
-    let a = c.before.before.before.before.args in
-    let at = c.before.before.slot-start in
-    rw (← lent_slot a.g a.volume.now a.i at.result at.ensures.0, c.entry-end.ensures.0)
+    let a = c.args in
+    let at = c.slot_start-at in
+    rw (← lent_slot a.g a.volume.now a.i at.result at.ensures.0, c.entry_end-end.ensures.0)
 
 pub returns-then-m-end : goal.returns-then-m-end
 returns-then-m-end c = (rw (end c@After-entry_end) (omega arith), search rules)

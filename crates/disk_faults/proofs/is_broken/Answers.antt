@@ -8,9 +8,10 @@ use mathlib.Core.Path.{◌≡◌}
 use borrow.Author.Rules.{rules}
 use Rattle.disk_faults.proofs.is_broken.Goals as goal
 
+-- TODO place After-block_in-b 
 -- what `block_in` answered is the block in place p of slot i
-block : (c : tie.After-block-in) → (let a = c.before.before.before.args in c.block_in.result ≡ block_in a.g (slot_at a.g a.volume.now a.i) a.p)
-block c = rw (← c.before.before.before.requires.0.1.1.1) c.block_in.ensures.0
+block : (c : goal.After-block_in-b) → (let a = c.args in c.block_in-b.result ≡ block_in a.g (slot_at a.g a.volume.now a.i) a.p)
+block c = rw (← c.requires.0.1.1.1) c.block_in-b.ensures.0
 
 pub returns-then-b-eq0 : goal.returns-then-b-eq0
 unfolding breaks_at

@@ -4,8 +4,9 @@ use borrow.Author.Rules.{rules}
 use Rattle.disk_held.proofs.CountLaws.{HeldAndFree, held_and_free}
 use Rattle.disk_held.proofs.free_count.Goals as goal
 
-counts : (c : tie.After-held-below2) → (let a = c.before.before.before.args in HeldAndFree a.held.now a.d a.t)
-counts c = held_and_free _ _ _ c.before.before.before.requires.0
+-- TODO place After-held_below-below_d
+counts : (c : goal.After-held_below-below_d) → (let a = c.args in HeldAndFree a.held.now a.d a.t)
+counts c = held_and_free _ _ _ c.requires.0
 
 pub overflow_sub-result-2 : goal.overflow_sub-result-2
 overflow_sub-result-2 c = omega (arith, counts c)

@@ -20,17 +20,6 @@ loop-b-preserved-then-held-b c =
     let over = searched_over l.invariant.1 c.word_end-b.result (omega arith) (omega arith) in
     (omega arith, over (λ m x y. ap not (full_word held l.b c.if-held-b.true m (omega arith))))
 
-pub returns-then-not-is_held : goal.returns-then-not-is_held
-unfolding lowest_free
-returns-then-not-is_held c =
-    let l = c.loop-b in
-    (sym (searched_hit l.invariant.1 (omega arith) (rw (← c.is_held.ensures) c.if-not-is_held.true)), omega arith)
-
-pub loop-b-preserved : goal.loop-b-preserved
-loop-b-preserved c =
-    let l = c.loop-b in
-    (omega arith, searched_next l.invariant.1 (omega arith) (rw (← c.is_held.ensures) c.if-not-is_held.false))
-
 pub returns : goal.returns
 unfolding lowest_free
 returns c =

@@ -21,12 +21,13 @@ used c =
     let at = c.slot_start-at in
     slot_used a.g a.volume.now a.i at.result at.ensures.0 c.if-volume-at.false
 
+-- TODO place After-good_entry 
 -- what `good_entry` answered of slot i
-entry : (c : tie.After-good-entry) → (let a = c.before.before.before.before.before.before.before.before.args in let e = slot_at a.g a.volume.now a.i in c.good_entry_lem.result ≡ good_fields e && good_name false (name_of e) && good_top_bits e)
+entry : (c : goal.After-good_entry) → (let a = c.args in let e = slot_at a.g a.volume.now a.i in c.good_entry.result ≡ good_fields e && good_name false (name_of e) && good_top_bits e)
 entry c =
-    let a = c.before.before.before.before.before.before.before.before.args in
-    let at = c.before.before.before.before.slot-start in
-    rw (← lent_slot a.g a.volume.now a.i at.result at.ensures.0) c.good_entry_lem.ensures
+    let a = c.args in
+    let at = c.slot_start-at in
+    rw (← lent_slot a.g a.volume.now a.i at.result at.ensures.0) c.good_entry.ensures
 
 pub returns-then-volume-at : goal.returns-then-volume-at
 returns-then-volume-at c =

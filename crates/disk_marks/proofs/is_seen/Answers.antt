@@ -16,9 +16,10 @@ use Rattle.disk_marks.proofs.is_seen.Goals as goal
 used : (c : goal.Start) → (let a = c.args in is_empty (slot_at a.g a.volume.now a.i) ≡ false)
 used c = rw (← c.requires.i_bound.1.1) c.requires.e_value.0
 
-own_mark : (c : tie.After-mark-of) → (let a = c.before.before.before.before.before.before.before.before.args in c.mark_of.result ≡ entry_mark a.g (slot_at a.g a.volume.now a.i))
+-- TODO place After-mark_of-mark 
+own_mark : (c : goal.After-mark_of-mark) → (let a = c.args in c.mark_of-mark.result ≡ entry_mark a.g (slot_at a.g a.volume.now a.i))
 unfolding name_at part
-own_mark c = rw (← c.before.before.before.before.before.before.before.before.requires.1.0.1.1, ← c.before.before.before.before.extent-of.ensures.0, ← c.before.before.before.group.ensures) c.mark_of.ensures.0
+own_mark c = rw (← c.requires.i_bound.1.1, ← c.extent_of.ensures.0, ← c.group-k.ensures) c.mark_of-mark.ensures.0
 
 pub returns-then-is_held : goal.returns-then-is_held
 unfolding seen_below name_at part

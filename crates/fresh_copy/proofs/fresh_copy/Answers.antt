@@ -14,9 +14,10 @@ use Rattle.filecalls.proofs.ReadyLaws.{Accepted, accepted}
 use Rattle.fresh_copy.proofs.CopyLaws.{first_refused, second_refused, copy_done}
 use Rattle.fresh_copy.proofs.fresh_copy.Goals as goal
 
+-- TODO place After-log_in-reply 
 -- what log-in said of the first
-said : (c : tie.After-log-in) → (let a = c.before.before.before.args in c.log_in_lem.result.answer ≡ (log_in a.g a.first.now).answer)
-said c = ap (λ (r : Reply). r.answer) c.log_in_lem.ensures
+said : (c : goal.After-log_in-reply) → (let a = c.args in c.log_in-reply.result.answer ≡ (log_in a.g a.first.now).answer)
+said c = ap (λ (r : Reply). r.answer) c.log_in-reply.ensures
 
 -- TODO place Else-not-succeeded 
 passed : (c : goal.Else-not-succeeded) → succeeded c.log_in-reply.result.answer ≡ true

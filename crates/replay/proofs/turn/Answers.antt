@@ -5,8 +5,9 @@ use Prim.Native.Nat.{◌≤◌, ◌+◌}
 use borrow.Author.Rules.{rules}
 use Rattle.replay.proofs.turn.Goals as goal
 
-used_in_lem : (c : tie.After-struct-known) → c.before.before.before.before.before.before.before.before.before.before.before.before.before.before.before.before.before.refill.result.from + c.before.before.before.before.before.before.before.before.take-turn.result.used ≤ c.before.before.before.before.before.before.before.before.before.before.before.before.before.before.before.before.before.refill.result.to
-used_in_lem c = omega (arith, c.before.before.before.before.before.before.before.before.before.before.before.before.before.before.before.before.before.refill.ensures.0, simp (length-take, length-drop) at c.before.before.before.before.before.before.before.before.take-turn.ensures.0.1.1)
+-- TODO place After-struct_known-1 
+used_in_lem : (c : goal.After-struct_known-1) → c.refill-u.result.from + c.take_turn-t.result.used ≤ c.refill-u.result.to
+used_in_lem c = omega (arith, c.refill-u.ensures.from_le_to, simp (length-take, length-drop) at c.take_turn-t.ensures.next_value.1.1)
 
 -- TODO c.before.before.before.before.before.before.before.before.before.before.before.before.before.before.before.before.before.before.before.before.before.before.well-formed.1.1.0.0
 pub overflow_add-result : goal.overflow_add-result

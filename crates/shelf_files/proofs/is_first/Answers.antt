@@ -15,10 +15,11 @@ use Rattle.shelf_files.proofs.TreeLaws.{heads_still, nodes_still, last_low, last
 use Rattle.shelf_files.proofs.WalkLaws.{first_is}
 use Rattle.shelf_files.proofs.is_first.Goals as goal
 
+-- TODO place After-key_of-key 
 -- the key is the entry's
-own : (c : tie.After-key-of) → (let a = c.before.before.before.before.before.before.before.args in c.key_of.result ≡ entry_key (slot_at a.g a.volume.now a.i))
+own : (c : goal.After-key_of-key) → (let a = c.args in c.key_of-key.result ≡ entry_key (slot_at a.g a.volume.now a.i))
 unfolding name_at part
-own c = rw (← c.before.before.before.before.before.before.before.requires.1.0.1.1) c.key_of.ensures.0
+own c = rw (← c.requires.i_bound.1.1) c.key_of-key.ensures.0
 
 -- TODO place After-follow-way 
 -- no lower slot has an entry of the file, or one has

@@ -10,12 +10,6 @@ use Rattle.text.proofs.put_bytes.Goals as goal
 pub loop-i-init : goal.loop-i-init
 loop-i-init c = (search rules, (refl, refl))
 
-pub loop-i-preserved : goal.loop-i-preserved
-loop-i-preserved c =
-    let l = c.loop-i in
-    let s = c.args.s.now in
-    (search rules, (c.put_byte-p.auto.0 ∙ l.invariant.1.0, ap (λ (t : Text). puts t (drop (l.i + 1) s)) c.put_byte-p.ensures ∙ sym (puts_next (text l.out l.p) s l.i (search rules)) ∙ l.invariant.1.1))
-
 pub returns : goal.returns
 returns c =
     let l = c.loop-i in

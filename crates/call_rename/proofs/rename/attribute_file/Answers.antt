@@ -12,10 +12,11 @@ use mathlib.Core.Path.{◌≡◌, refl, sym, ◌∙◌}
 use borrow.Author.Rules.{rules}
 use Rattle.call_rename.proofs.rename.attribute_file.Goals as goal
 
-why : (c : tie.After-first-of) → (let a = c.before.before.before.before.before.before.before.args in c.first_of.result ≡ first a.before (first_met (test NoMatch (leb (slots a.g) (find_slot a.g a.volume.now a.user (strip a.name.now) File)) ∷ [])))
+-- TODO place After-first_of-why 
+why : (c : goal.After-first_of-why) → (let a = c.args in c.first_of-why.result ≡ first a.before (first_met (test NoMatch (leb (slots a.g) (find_slot a.g a.volume.now a.user (strip a.name.now) File)) ∷ [])))
 why c =
-    let a = c.before.before.before.before.before.before.before.args in
-    rw (← ladder_one NoMatch (leb (slots a.g) (find_slot a.g a.volume.now a.user (strip a.name.now) File)) refl, ← c.before.before.before.find.ensures.0, ← c.before.before.slots.ensures.0, ← c.before.refuse.ensures) c.first_of.ensures
+    let a = c.args in
+    rw (← ladder_one NoMatch (leb (slots a.g) (find_slot a.g a.volume.now a.user (strip a.name.now) File)) refl, ← c.find-first.ensures.0, ← c.slots.ensures.0, ← c.refuse-no_match.ensures) c.first_of-why.ensures
 
 pub change_most-requires : goal.change_most-requires
 change_most-requires c = ((c.requires.0, c.requires.1.0), ((c.requires.1.1, c.requires.1.1), c.find-first.ensures.0))

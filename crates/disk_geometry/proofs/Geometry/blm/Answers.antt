@@ -5,18 +5,18 @@ use Rattle.disk_geometry.proofs.Geometry.blm.Goals as goal
 
 pub returns-in-1024 : goal.returns-in-1024
 unfolding blm
-returns-in-1024 c = rw c.in-1024.keys1
+returns-in-1024 c = rw c.in-1024.is
 
 pub returns-in-2048 : goal.returns-in-2048
 unfolding blm
-returns-in-2048 c = rw c.in-2048.keys2
+returns-in-2048 c = rw c.in-2048.is
 
 pub returns-in-4096 : goal.returns-in-4096
 unfolding blm
-returns-in-4096 c = rw c.in-4096.keys3
+returns-in-4096 c = rw c.in-4096.is
 
 pub returns-in_default : goal.returns-in_default
 unfolding blm
 returns-in_default c =
-    let (((_, h1024), h2048), h4096) = c.in_default.rest in
+    let (((_, h1024), h2048), h4096) = c.in_default.in_default-own.rest in
     rw (ne_eqb _ 1024 h1024, ne_eqb _ 2048 h2048, ne_eqb _ 4096 h4096)

@@ -13,14 +13,16 @@ use Rattle.disk_volume.specs.Entry.{place_start}
 use Rattle.disk_volume.proofs.MapLaws.{place_in, with_one, with_two}
 use Rattle.disk_volume.proofs.entry.with_block.Goals as goal
 
+-- TODO place After-number_bytes-n 
 -- the bytes of place p, as code finds them
-inside : (c : tie.After-number-bytes) → 16 + c.before.before.args.p * c.number_bytes_lem.result + c.number_bytes_lem.result ≤ 32
+inside : (c : goal.After-number_bytes-n) → 16 + c.args.p * c.number_bytes-n.result + c.number_bytes-n.result ≤ 32
 inside c =
-    let a = c.before.before.args in
-    rw c.number_bytes_lem.ensures.0 (place_in a.g a.p c.before.before.requires.1.0)
+    let a = c.args in
+    rw c.number_bytes-n.ensures.0 (place_in a.g a.p c.requires.1.0)
 
-start : (c : tie.After-number-bytes) → 16 + c.before.before.args.p * c.number_bytes_lem.result ≡ place_start c.before.before.args.g c.before.before.args.p
-start c = rw c.number_bytes_lem.ensures.0
+-- TODO place After-number_bytes-n 
+start : (c : goal.After-number_bytes-n) → 16 + c.args.p * c.number_bytes-n.result ≡ place_start c.args.g c.args.p
+start c = rw c.number_bytes-n.ensures.0
 
 -- one byte is enough where a number has one
 one_byte : (g : Geometry) → lawful g ≡ true → (b : ℕ) → b < g.blocks → number_bytes g ≡ 1 → b < 256

@@ -19,12 +19,13 @@ seen c =
     let at = c.slot_start-at in
     rw (← lent_slot a.g a.volume.now a.i at.result at.ensures.0, c.has.ensures)
 
+-- TODO place After-used_places 
 -- what `used_places` counted is in slot i
-used : (c : tie.After-used-places) → (let a = c.before.before.before.before.before.before.before.before.args in used_places a.g (slot_at a.g a.volume.now a.i) ≡ c.used-places.result)
+used : (c : goal.After-used_places) → (let a = c.args in used_places a.g (slot_at a.g a.volume.now a.i) ≡ c.used_places.result)
 used c =
-    let a = c.before.before.before.before.before.before.before.before.args in
-    let at = c.before.before.before.before.before.slot-start in
-    rw (← lent_slot a.g a.volume.now a.i at.result at.ensures.0, c.used-places.ensures.0)
+    let a = c.args in
+    let at = c.slot_start-at in
+    rw (← lent_slot a.g a.volume.now a.i at.result at.ensures.0, c.used_places.ensures.0)
 
 pub returns-then-not-has : goal.returns-then-not-has
 unfolding more_blocks

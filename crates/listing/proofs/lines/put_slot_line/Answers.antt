@@ -9,12 +9,13 @@ use Rattle.disk_volume.specs.Directory.{slot_at}
 use borrow.Author.Rules.{rules}
 use Rattle.listing.proofs.lines.put_slot_line.Goals as goal
 
+-- TODO place After-is_listed 
 -- what `is_listed` answered is the test of slot i
-seen : (c : tie.After-is-listed) → (let a = c.before.before.before.before.before.args in is_listed a.g a.volume.now (slot_at a.g a.volume.now a.i) a.i ≡ c.is-listed.result)
+seen : (c : goal.After-is_listed) → (let a = c.args in is_listed a.g a.volume.now (slot_at a.g a.volume.now a.i) a.i ≡ c.is_listed.result)
 seen c =
-    let a = c.before.before.before.before.before.args in
-    let at = c.before.before.slot-start in
-    rw (← lent_slot a.g a.volume.now a.i at.result at.ensures.0, c.is-listed.ensures)
+    let a = c.args in
+    let at = c.slot_start-s in
+    rw (← lent_slot a.g a.volume.now a.i at.result at.ensures.0, c.is_listed.ensures)
 
 pub returns-then-not-is_listed : goal.returns-then-not-is_listed
 unfolding line_at puts

@@ -12,11 +12,12 @@ use Rattle.seam_looks.proofs.FaultLaws.{owner_length_lem, other_length}
 use borrow.Author.Rules.{rules}
 use Rattle.seam_looks.proofs.bad_slot.put_fault.Goals as goal
 
+-- TODO place After-first_broken-f 
 -- the other slot is one of the volume
-other : (c : tie.After-first-broken) → c.first_broken_lem.result.other < slots c.before.before.before.args.g
+other : (c : goal.After-first_broken-f) → c.first_broken-f.result.other < slots c.args.g
 other c =
-    let a = c.before.before.before.args in
-    rw c.first_broken_lem.ensures (omega (arith, other_below a.g a.volume.now a.i c.before.before.before.requires.1.1, c.before.before.before.requires.1.1))
+    let a = c.args in
+    rw c.first_broken-f.ensures (omega (arith, other_below a.g a.volume.now a.i c.requires.1.1, c.requires.1.1))
 
 pub put_other-requires : goal.put_other-requires
 put_other-requires c = (search rules, (search rules, other c@After-first_broken))

@@ -1,9 +1,0 @@
--- Each arm is the definition's case of the same name.
-use borrow.Author.Rules.{rules}
-use Rattle.call_answers.proofs.why_of.Goals as goal
-
-pub returns-in-Refused : goal.returns-in-Refused
-returns-in-Refused c = rw c.a-1.given.1
-
-pub returns-in-Several : goal.returns-in-Several
-returns-in-Several c = rw c.a-in-Several-1.given.1
