@@ -46,4 +46,4 @@ pub lowest_free-requires : goal.lowest_free-requires
 lowest_free-requires c = omega (arith, bounds _ c.requires.g_value.0)
 
 pub returns : goal.returns
-returns c = (c.lowest_free.ensures.0 ∙ sym (else_lowest c@Joined1), c.lowest_free.ensures.1)
+returns c = (c.lowest_free.ensures.0 ∙ sym (else_lowest c), c.lowest_free.ensures.1)

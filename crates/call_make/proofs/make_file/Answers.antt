@@ -17,18 +17,21 @@ once c = ap strip (named c) ∙ (unfold name_at in strip_strip (part c.args.fcb.
 
 pub put_slot-requires : goal.put_slot-requires
 put_slot-requires c =
-    ((c.requires.0, c.requires.1.0), (c.make_why-plan.ensures.slot_bound (sym c.is_none.ensures ∙ c.if-is_none.true), search rules))
+    record {
+      volume = (c.requires.0, c.requires.1.0);
+      i_bound = (c.make_why-plan.ensures.slot_bound (sym c.is_none.ensures ∙ c.if-is_none.true), search rules);
+    }
 
 pub returns-then-is_none : goal.returns-then-is_none
 returns-then-is_none c =
     let w = c.make_why-plan in
     let t = sym c.is_none.ensures ∙ c.if-is_none.true in
-    let n = once c@After-lay_name in
+    let n = once c in
     let o = c.put_slot in (
       rw n at w.ensures.0,
       (
         rw n at w.ensures.1.0,
-        (rw (t, ← n, ← c.fresh_entry-e.ensures) o.ensures.0, (rw (t, ← named c@After-lay_name) c.set_made.ensures, rw t o.ensures.1)),
+        (rw (t, ← n, ← c.fresh_entry-e.ensures) o.ensures.0, (rw (t, ← named c) c.set_made.ensures, rw t o.ensures.1)),
       ),
     )
 
@@ -36,5 +39,11 @@ pub returns-else-is_none : goal.returns-else-is_none
 returns-else-is_none c =
     let w = c.make_why-plan in
     let t = sym c.is_none.ensures ∙ c.if-is_none.false in
-    let n = once c@After-lay_name in
-    (rw n at w.ensures.0, (rw n at w.ensures.1.0, (rw t, (rw t, rw t))))
+    let n = once c in
+    record {
+      why_value = rw n at w.ensures.0;
+      slot_value = rw n at w.ensures.1.0;
+      volume_after = rw t;
+      fcb_after = rw t;
+      left_after = rw t;
+    }

@@ -25,5 +25,9 @@ why c =
 pub returns : goal.returns
 returns c =
     let a = c.args in
-    let e = c.first_of-why.ensures ∙ ap (first a.before) (why c@After-first_of) in
-    (e, (c.find_empty-slot.ensures.0, λ q. rw c.find_empty-slot.ensures.0 (empty_slot_below a.g a.volume.now a.user (strip a.name.now) (later_clear a.before _ (ap is_none (sym e) ∙ q)))))
+    let e = c.first_of-why.ensures ∙ ap (first a.before) (why c) in
+    record {
+      why_value = e;
+      slot_value = c.find_empty-slot.ensures.0;
+      slot_bound = λ q. rw c.find_empty-slot.ensures.0 (empty_slot_below a.g a.volume.now a.user (strip a.name.now) (later_clear a.before _ (ap is_none (sym e) ∙ q)));
+    }

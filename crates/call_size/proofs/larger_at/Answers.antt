@@ -16,7 +16,7 @@ end c =
     rw (← lent_slot a.g a.volume.now a.i at.result at.ensures.0, c.entry_end-end.ensures.0)
 
 pub returns-then-m-end : goal.returns-then-m-end
-returns-then-m-end c = (rw (end c@After-entry_end) (omega arith), search rules)
+returns-then-m-end c = (rw (end c) (omega arith), search rules)
 
 pub returns-else-m-end : goal.returns-else-m-end
-returns-else-m-end c = (rw (end c@After-entry_end) (omega arith), search rules)
+returns-else-m-end c = (rw (end c) (omega arith), search rules)

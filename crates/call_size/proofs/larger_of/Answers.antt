@@ -20,7 +20,7 @@ seen c =
 
 pub returns-then-not-has : goal.returns-then-not-has
 unfolding larger
-returns-then-not-has c = (rw (seen c@After-has, not-true c.has.result c.if-not-has.true), search rules)
+returns-then-not-has c = (rw (seen c, not-true c.has.result c.if-not-has.true), search rules)
 
 pub returns : goal.returns
 unfolding larger

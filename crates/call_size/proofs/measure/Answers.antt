@@ -24,9 +24,15 @@ pub returns-then-is_none : goal.returns-then-is_none
 unfolding name_at part
 returns-then-is_none c =
     let n = sym c.is_none.ensures ∙ c.if-is_none.true in
-    (why c@After-slots, rw (n, ← c.size_from-size.ensures.0) c.set_random.ensures)
+    record {
+      value = why c;
+      fcb_after = rw (n, ← c.size_from-size.ensures.0) c.set_random.ensures;
+    }
 
 pub returns-else-is_none : goal.returns-else-is_none
 returns-else-is_none c =
     let n = sym c.is_none.ensures ∙ c.if-is_none.false in
-    (why c@After-refuse, rw n)
+    record {
+      value = why c;
+      fcb_after = rw n;
+    }

@@ -15,17 +15,17 @@ block c = rw (← c.requires.0.1.1.1) c.block_in-b.ensures.0
 
 pub returns-then-b-eq0 : goal.returns-then-b-eq0
 unfolding breaks_at
-returns-then-b-eq0 c = rw (← block c@After-block_in, eq-eqb _ 0 c.if-b-eq0.true)
+returns-then-b-eq0 c = rw (← block c, eq-eqb _ 0 c.if-b-eq0.true)
 
 pub returns-in-Outside : goal.returns-in-Outside
 unfolding breaks_at
-returns-in-Outside c = rw (c.enum_told-1.given.1, ← block c@After-block_in, ne_eqb _ 0 c.if-b-eq0.false, ← c.is_inside.ensures)
+returns-in-Outside c = rw (c.in-Outside.is, ← block c, ne_eqb _ 0 c.if-b-eq0.false, ← c.is_inside.ensures)
 
 pub returns-in-Twice : goal.returns-in-Twice
 unfolding breaks_at
 returns-in-Twice c =
-    rw (c.enum_told-in-Twice-1.given.1, ← block c@After-block_in, ne_eqb _ 0 c.if-b-eq0.false, ← c.requires.0.1.1.1) c.in_places.ensures
+    rw (c.in-Twice.is, ← block c, ne_eqb _ 0 c.if-b-eq0.false, ← c.requires.0.1.1.1) c.in_places.ensures
 
 pub returns-in-Lower : goal.returns-in-Lower
 unfolding breaks_at
-returns-in-Lower c = rw (c.enum_told-in-Lower-1.given.1, ← block c@After-block_in, ne_eqb _ 0 c.if-b-eq0.false, named_by_slot, ← c.slot_of.ensures)
+returns-in-Lower c = rw (c.in-Lower.is, ← block c, ne_eqb _ 0 c.if-b-eq0.false, named_by_slot, ← c.slot_of.ensures)

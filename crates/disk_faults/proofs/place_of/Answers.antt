@@ -17,10 +17,10 @@ pub loop-p-init : goal.loop-p-init
 loop-p-init c = (search rules, searched_start)
 
 pub returns-then-is_broken : goal.returns-then-is_broken
-returns-then-is_broken c = sym (whole c@After-places ∙ searched_hit c.loop-p.invariant.1 (search rules) (sym c.is_broken.ensures ∙ c.if-is_broken.true))
+returns-then-is_broken c = sym (whole c ∙ searched_hit c.loop-p.invariant.1 (search rules) (sym c.is_broken.ensures ∙ c.if-is_broken.true))
 
 pub loop-p-preserved : goal.loop-p-preserved
 loop-p-preserved c = (search rules, searched_next c.loop-p.invariant.1 (search rules) (sym c.is_broken.ensures ∙ c.if-is_broken.false))
 
 pub returns : goal.returns
-returns c = sym (whole c@After-places ∙ searched_none c.loop-p.invariant.1 (search rules))
+returns c = sym (whole c ∙ searched_none c.loop-p.invariant.1 (search rules))

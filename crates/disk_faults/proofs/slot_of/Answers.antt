@@ -32,10 +32,10 @@ pub loop-j-init : goal.loop-j-init
 loop-j-init c = (search rules, searched_start)
 
 pub returns-then-names_block : goal.returns-then-names_block
-returns-then-names_block c = sym (whole c@Start ∙ searched_hit c.loop-j.invariant.1 (search rules) (sym (seen c@After-names_block) ∙ c.if-names_block.true))
+returns-then-names_block c = sym (whole c ∙ searched_hit c.loop-j.invariant.1 (search rules) (sym (seen c) ∙ c.if-names_block.true))
 
 pub loop-j-preserved : goal.loop-j-preserved
-loop-j-preserved c = (search rules, searched_next c.loop-j.invariant.1 (search rules) (sym (seen c@After-names_block) ∙ c.if-names_block.false))
+loop-j-preserved c = (search rules, searched_next c.loop-j.invariant.1 (search rules) (sym (seen c) ∙ c.if-names_block.false))
 
 pub returns : goal.returns
-returns c = sym (whole c@Start ∙ searched_none c.loop-j.invariant.1 (search rules))
+returns c = sym (whole c ∙ searched_none c.loop-j.invariant.1 (search rules))

@@ -16,8 +16,8 @@ found c = rw (← c.requires.1.1.1, ← c.extent_of.ensures.0, ← c.group.ensur
 
 pub returns-then-slot-i : goal.returns-then-slot-i
 unfolding twin_fault
-returns-then-slot-i c = rw (← found c@After-find, lt-ltb _ _ c.if-slot-i.true)
+returns-then-slot-i c = rw (← found c, lt-ltb _ _ c.if-slot-i.true)
 
 pub returns : goal.returns
 unfolding twin_fault
-returns c = rw (c.alone.ensures, ← found c@After-find, le-ltb _ _ c.if-slot-i.false)
+returns c = rw (c.alone.ensures, ← found c, le-ltb _ _ c.if-slot-i.false)

@@ -44,30 +44,42 @@ returns-then-volume-at c =
 pub returns-then-not-good_entry : goal.returns-then-not-good_entry
 returns-then-not-good_entry c =
     let a = c.args in
-    let bad = sym (entry c@After-good_entry) ∙ not-true c.good_entry.result c.if-not-good_entry.true in
-    (sym (entry_bad a.g a.volume.now a.i (used c@Else1) bad), (λ h. absurd (false≢true h), λ h. absurd (false≢true h)))
+    let bad = sym (entry c) ∙ not-true c.good_entry.result c.if-not-good_entry.true in
+    record {
+      value = sym (entry_bad a.g a.volume.now a.i (used c) bad);
+      held_after = λ h. absurd (false≢true h);
+      i_after = λ h. absurd (false≢true h);
+    }
 
 pub returns-then-not-take_map : goal.returns-then-not-take_map
 returns-then-not-take_map c =
     let a = c.args in
     let m = c.take_map in
     let bad = sym m.ensures.0 ∙ not-true m.result c.if-not-take_map.true in
-    (sym (map_bad a.g a.volume.now a.i (used c@Else1) bad), (λ h. absurd (false≢true h), λ h. absurd (false≢true h)))
+    record {
+      value = sym (map_bad a.g a.volume.now a.i (used c) bad);
+      held_after = λ h. absurd (false≢true h);
+      i_after = λ h. absurd (false≢true h);
+    }
 
 pub is_seen-requires : goal.is_seen-requires
 is_seen-requires c =
     let a = c.args in
     let at = c.slot_start-at in
     let e = lent_slot a.g a.volume.now a.i at.result at.ensures.0 in
-    (search rules, ((search rules, (search rules, e)), (rw e (used c@Else1), (search rules, search rules))))
+    record {
+      volume = search rules;
+      i_bound = (search rules, (search rules, e));
+      e_value = (rw e (used c), (search rules, search rules));
+    }
 
 pub returns : goal.returns
 returns c =
     let a = c.args in
-    let full = used c@Else1 in
+    let full = used c in
     let t = c.take_map in
     let m = not-false t.result c.if-not-take_map.false in
-    let e = sym (entry c@After-good_entry) ∙ not-false c.good_entry.result c.if-not-good_entry.false in
+    let e = sym (entry c) ∙ not-false c.good_entry.result c.if-not-good_entry.false in
     let good = seen_decides a.g a.volume.now a.i full e (sym t.ensures.0 ∙ m) in (
       ap not c.is_seen.ensures.value ∙ sym good,
       (λ h. t.ensures.1 m ∙ full_slot a.g a.volume.now a.i full, λ h. c.is_seen.ensures.i_after),

@@ -53,9 +53,12 @@ returns-then-not-take_block c =
     let a = c.args in
     let l = c.loop-p in
     let t = c.take_block in
-    let bad = place_test a.g a.volume.now a.i l.p c.requires.volume.0 c.block_in-b.result (block c@After-block_in) c.if-b-ne0.true l.held l.invariant.1.0
+    let bad = place_test a.g a.volume.now a.i l.p c.requires.volume.0 c.block_in-b.result (block c) c.if-b-ne0.true l.held l.invariant.1.0
     ∙ sym t.ensures.0 ∙ not-true t.result c.if-not-take_block.true in
-    (rw (← whole c@After-places) (sym (passed_fails l.invariant.1.1 (search rules) bad)), λ h. absurd (false≢true h))
+    record {
+      value = rw (← whole c) (sym (passed_fails l.invariant.1.1 (search rules) bad));
+      held_after = λ h. absurd (false≢true h);
+    }
 
 pub loop-p-preserved : goal.loop-p-preserved
 loop-p-preserved c =
@@ -63,7 +66,7 @@ loop-p-preserved c =
     let law = c.requires.volume.0 in
     let l = c.loop-p in
     let b = c.block_in-b.result in
-    let e = block c@After-block_in in
+    let e = block c in
     ⊎_elim
     (λ w.
     let taken = not-false w.2.result w.5.left in
@@ -83,4 +86,7 @@ pub returns : goal.returns
 returns c =
     let l = c.loop-p in
     let z : l.p ≡ places c.args.g = omega (arith, c.places-n.ensures.0) in
-    (rw (← whole c@After-places) (sym (passed_all l.invariant.1.1 (search rules))), λ h. rw (← z) l.invariant.1.0)
+    record {
+      value = rw (← whole c) (sym (passed_all l.invariant.1.1 (search rules)));
+      held_after = λ h. rw (← z) l.invariant.1.0;
+    }

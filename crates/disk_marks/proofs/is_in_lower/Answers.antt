@@ -27,10 +27,10 @@ pub loop-j-init : goal.loop-j-init
 loop-j-init c = (search rules, asked_start)
 
 pub returns-then-has : goal.returns-then-has
-returns-then-has c = sym (asked_hit c.loop-j.invariant.1 (search rules) (sym (seen c@After-has) ∙ c.if-has.true))
+returns-then-has c = sym (asked_hit c.loop-j.invariant.1 (search rules) (sym (seen c) ∙ c.if-has.true))
 
 pub loop-j-preserved : goal.loop-j-preserved
-loop-j-preserved c = (search rules, asked_next c.loop-j.invariant.1 (search rules) (sym (seen c@After-has) ∙ c.if-has.false))
+loop-j-preserved c = (search rules, asked_next c.loop-j.invariant.1 (search rules) (sym (seen c) ∙ c.if-has.false))
 
 pub returns : goal.returns
 returns c = sym (asked_none c.loop-j.invariant.1 (search rules))

@@ -26,13 +26,13 @@ unfolding seen_below name_at part
 returns-then-is_held c =
     let a = c.args in (
       rw (← c.requires.i_bound.1.1, ← c.extent_of.ensures.0, ← c.group-k.ensures) c.is_below.ensures,
-      still_marked a.g a.volume.now a.marks.now a.i c.requires.e_value.1.1 (rw (used s, ← own_mark c@After-mark_of-arg) (sym c.is_held.ensures ∙ c.if-is_held.true)),
+      still_marked a.g a.volume.now a.marks.now a.i c.requires.e_value.1.1 (rw (used s, ← own_mark c) (sym c.is_held.ensures ∙ c.if-is_held.true)),
     )
 
 pub returns : goal.returns
 returns c =
     let a = c.args in
-    let own = own_mark c@After-mark_of-arg in (
+    let own = own_mark c in (
       sym (unmarked a.g a.volume.now a.marks.now a.i c.requires.e_value.1.1 (used s) (rw own at (sym c.is_held.ensures ∙ c.if-is_held.false))),
       rw (c.hold.ensures, own) (now_marked a.g a.volume.now a.marks.now a.i c.requires.e_value.1.1 (rw (← own) (search rules))),
     )

@@ -19,10 +19,10 @@ loop-k-init c = (search rules, passed_start)
 
 pub returns-then-not-e-k : goal.returns-then-not-e-k
 unfolding good_top_bits
-returns-then-not-e-k c = sym (passed_fails c.loop-k.invariant.1 (search rules) (not-true _ c.if-not-e-k.true))
+returns-then-not-e-k c = sym (passed_fails c.loop-k.invariant.1 (search rules) c.if-not-e-k.true)
 
 pub loop-k-preserved : goal.loop-k-preserved
-loop-k-preserved c = (search rules, passed_next c.loop-k.invariant.1 (search rules) (not-false _ c.if-not-e-k.false))
+loop-k-preserved c = (search rules, passed_next c.loop-k.invariant.1 (search rules) c.if-not-e-k.false)
 
 pub returns : goal.returns
 unfolding good_top_bits

@@ -16,13 +16,13 @@ slot_is c = rw (← c.group-group.ensures) c.find-slot.ensures.0
 pub returns-then-slot-count : goal.returns-then-slot-count
 returns-then-slot-count c =
     let a = c.args in
-    let s = slot_is c@After-find in
+    let s = slot_is c in
     c.plan_in.ensures ∙ rw s (plan_in_lem a.g a.volume.now a.user (strip a.name.now) a.n a.missing c.requires.missing_value (omega arith))
 
 pub returns-then-file-count : goal.returns-then-file-count
 returns-then-file-count c =
     let a = c.args in
-    let s = slot_is c@After-find in
+    let s = slot_is c in
     let f = c.find-file.ensures.0 in
     plan_missing a.g a.volume.now a.user (strip a.name.now) a.n a.missing c.requires.missing_value (omega arith) (omega arith)
 

@@ -17,11 +17,17 @@ place_within c =
 pub returns-then-k-n : goal.returns-then-k-n
 returns-then-k-n c =
     let a = c.args in
-    let e : a.k ≡ a.n % records a.g = c.if-k-n.true ∙ place_within c@After-blm in
-    (c.put_record.ensures.volume_after ∙ rw (eq-eqb a.k (a.n % records a.g) e), c.put_record.ensures.left_after)
+    let e : a.k ≡ a.n % records a.g = c.if-k-n.true ∙ place_within c in
+    record {
+      volume_after = c.put_record.ensures.volume_after ∙ rw (eq-eqb a.k (a.n % records a.g) e);
+      left_after = c.put_record.ensures.left_after;
+    }
 
 pub returns : goal.returns
 returns c =
     let a = c.args in
-    let e : a.k ≢ a.n % records a.g = λ q. c.if-k-n.false (q ∙ sym (place_within c@After-blm)) in
-    (c.put_record-2.ensures.volume_after ∙ rw (ne_eqb a.k (a.n % records a.g) e), c.put_record-2.ensures.left_after)
+    let e : a.k ≢ a.n % records a.g = λ q. c.if-k-n.false (q ∙ sym (place_within c)) in
+    record {
+      volume_after = c.put_record-2.ensures.volume_after ∙ rw (ne_eqb a.k (a.n % records a.g) e);
+      left_after = c.put_record-2.ensures.left_after;
+    }

@@ -38,8 +38,8 @@ unfolding name_at part
 write_decided-requires c =
     let a = c.args in
     let w = c.decide-plan.ensures.why_value in
-    let none = none_met c@Else1 in
-    let d = decided c@Else1 in (
+    let none = none_met c in
+    let d = decided c in (
       c.requires.volume,
       (
         c.requires.fcb,

@@ -31,16 +31,16 @@ unfolding set_random_tests first_met
 returns-then-not-whole c = λ (held : List ℕ). rw (← c.is_open.ensures held, c.if-not-is_open.false, c.if-not-whole.true)
 
 pub bounds-fcb-12 : goal.bounds-fcb-12
-bounds-fcb-12 c = omega (arith, whole c@Else2)
+bounds-fcb-12 c = omega (arith, whole c)
 
 pub bounds-fcb-14 : goal.bounds-fcb-14
-bounds-fcb-14 c = omega (arith, whole c@Else2)
+bounds-fcb-14 c = omega (arith, whole c)
 
 pub bounds-fcb-32 : goal.bounds-fcb-32
-bounds-fcb-32 c = omega (arith, whole c@Else2)
+bounds-fcb-32 c = omega (arith, whole c)
 
 pub bounds-fcb-0 : goal.bounds-fcb-0
-bounds-fcb-0 c = omega (arith, whole c@Else2)
+bounds-fcb-0 c = omega (arith, whole c)
 
 pub returns : goal.returns
 unfolding set_random_tests first_met

@@ -38,11 +38,11 @@ returns-then-not-is_none c = λ (held : List ℕ).
     refused_at (joined a.self held) [] a.fcb.now [] (set_random_tests (joined a.self held) a.fcb.now) [] _ (c.position_why-why.ensures held) c.is_none.ensures c.if-not-is_none.true (c.refused.ensures held)
 
 pub position_of-n-requires : goal.position_of-n-requires
-position_of-n-requires c = whole c@After-is_none
+position_of-n-requires c = whole c
 
 pub set_random-requires : goal.set_random-requires
-set_random-requires c = (whole c@After-is_none, omega (arith, c.position_of-n.ensures.1))
+set_random-requires c = (whole c, omega (arith, c.position_of-n.ensures.1))
 
 pub returns : goal.returns
 unfolding set_random_act set_random_tests unless outcome changed_state laid
-returns c = λ (held : List ℕ). reply_left (c.done.ensures held) (rw (none held c@After-is_none, c.set_random.ensures, c.position_of-n.ensures.0))
+returns c = λ (held : List ℕ). reply_left (c.done.ensures held) (rw (none held c, c.set_random.ensures, c.position_of-n.ensures.0))
