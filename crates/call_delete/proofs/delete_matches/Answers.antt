@@ -7,7 +7,7 @@ use Rattle.call_delete.proofs.delete_matches.Goals as goal
 
 pub returns-then-not-is_none : goal.returns-then-not-is_none
 returns-then-not-is_none c =
-    let n = sym c.is_none.ensures ∙ not-true _ c.if-not-is_none.true in
+    let n = sym c.is_none.ensures ∙ c.if-not-is_none.true in
     record {
       value = c.first_of-why.ensures ∙ ap (first c.args.before) c.delete_why.ensures;
       held_after = rw n;
@@ -20,7 +20,7 @@ change_most-requires c = let p = c.requires.volume_and in ((p.0, p.1.0), ((p.1.1
 
 pub returns : goal.returns
 returns c =
-    let n = sym c.is_none.ensures ∙ not-false _ c.if-not-is_none.false in
+    let n = sym c.is_none.ensures ∙ c.if-not-is_none.false in
     let o = c.change_most in
     record {
       value = c.first_of-why.ensures ∙ ap (first c.args.before) c.delete_why.ensures;

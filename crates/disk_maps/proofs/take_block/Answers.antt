@@ -9,12 +9,6 @@ use Rattle.disk_geometry.proofs.InsideLaws.{inside_low}
 use borrow.Author.Rules.{rules}
 use Rattle.disk_maps.proofs.take_block.Goals as goal
 
--- TODO place Else-not-is_inside 
--- the words have a bit for the block
-low : (c : goal.Else-not-is_inside) → (let a = c.args in a.b < room a.held.now)
-low c =
-    omega (arith, inside_low c.args.g c.requires.0 c.args.b (sym c.is_inside.ensures ∙ not-false c.is_inside.result c.if-not-is_inside.false))
-
 pub returns-then-not-is_inside : goal.returns-then-not-is_inside
 returns-then-not-is_inside c =
     record {
@@ -23,7 +17,9 @@ returns-then-not-is_inside c =
     }
 
 pub is_held-requires : goal.is_held-requires
-is_held-requires c = omega (arith, low c, bounds _ c.requires.0)
+is_held-requires c =
+    let low : (let a = c.args in a.b < room a.held.now) = omega (arith, inside_low c.args.g c.requires.0 c.args.b (sym c.is_inside.ensures ∙ not-false c.is_inside.result c.if-not-is_inside.false)) in
+    omega (arith, low, bounds _ c.requires.0)
 
 pub returns-then-is_held : goal.returns-then-is_held
 returns-then-is_held c =
@@ -33,7 +29,9 @@ returns-then-is_held c =
     }
 
 pub hold-requires : goal.hold-requires
-hold-requires c = omega (arith, low c, bounds _ c.requires.0)
+hold-requires c =
+    let low : (let a = c.args in a.b < room a.held.now) = omega (arith, inside_low c.args.g c.requires.0 c.args.b (sym c.is_inside.ensures ∙ not-false c.is_inside.result c.if-not-is_inside.false)) in
+    omega (arith, low, bounds _ c.requires.0)
 
 pub returns : goal.returns
 returns c =

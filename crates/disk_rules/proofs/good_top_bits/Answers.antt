@@ -11,9 +11,6 @@ use Rattle.lists.proofs.BoundedLaws.{Passed, passed_start, passed_next, passed_f
 use Rattle.disk_rules.specs.GoodSlot.{good_top_bits}
 use Rattle.disk_rules.proofs.good_top_bits.Goals as goal
 
-abbrev good_at : List ℕ → ℕ → Bool
-good_at e k = ltb (byte e (1 + k)) 128 || eqb k 8 || eqb k 9
-
 pub loop-k-init : goal.loop-k-init
 loop-k-init c = (search rules, passed_start)
 

@@ -37,7 +37,7 @@ pub returns-then-not-whole : goal.returns-then-not-whole
 returns-then-not-whole c =
     let a = c.args in
     second_refused a.g a.first.now a.second.now (said c) (passed c)
-    (ap (λ (n : ℕ). eqb (length a.second.now) n) (sym c.bytes.ensures) ∙ not-true _ c.if-not-whole.true)
+    (ap (λ (n : ℕ). eqb (length a.second.now) n) (sym c.bytes.ensures) ∙ c.if-not-whole.true)
 
 pub lay_out-requires : goal.lay_out-requires
 lay_out-requires c =
@@ -51,4 +51,4 @@ pub returns : goal.returns
 returns c =
     let a = c.args in
     copy_done a.g a.first.now a.second.now (said c) (passed c)
-    (ap (λ (n : ℕ). eqb (length a.second.now) n) (sym c.bytes.ensures) ∙ not-false _ c.if-not-whole.false) c.lay_out.ensures
+    (ap (λ (n : ℕ). eqb (length a.second.now) n) (sym c.bytes.ensures) ∙ c.if-not-whole.false) c.lay_out.ensures

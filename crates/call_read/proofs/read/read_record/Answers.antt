@@ -7,17 +7,12 @@ use Rattle.call_read.specs.Read.{read_bytes}
 use Rattle.call_read.proofs.ReadLaws.{Goes, plan_go, plan_no}
 use Rattle.call_read.proofs.read.read_record.Goals as goal
 
--- TODO place In-Go-2 
--- what the arm that reads may rely on
-goes : (c : goal.In-Go-2) → (let a = c.args in Goes a.g a.volume.now a.user (name_of a.fcb.now) a.n a.missing c.slot-1.given.0.0 c.slot-1.given.0.1.0)
-unfolding name_at part
-goes c =
-    let a = c.args in
-    plan_go a.g a.volume.now a.user (name_of a.fcb.now) a.n a.missing c.requires.n_lt_file_records.1 c.slot-1.given.0.0 c.slot-1.given.0.1.0 (sym c.plan.ensures ∙ c.in-Go.is)
-
 pub act-requires : goal.act-requires
+unfolding name_at part
 act-requires c =
-    let k = goes c in
+    let goes : (let a = c.args in Goes a.g a.volume.now a.user (name_of a.fcb.now) a.n a.missing c.slot-1.given.0.0 c.slot-1.given.0.1.0) = (let a = c.args in
+      plan_go a.g a.volume.now a.user (name_of a.fcb.now) a.n a.missing c.requires.n_lt_file_records.1 c.slot-1.given.0.0 c.slot-1.given.0.1.0 (sym c.plan.ensures ∙ c.in-Go.is)) in
+    let k = goes in
     record {
       volume_and = c.requires.volume_and;
       slot_bound = (k.slot_in, (k.block_in, c.requires.n_lt_file_records.0));
@@ -35,9 +30,11 @@ returns-in-No c =
     }
 
 pub returns-in-Go : goal.returns-in-Go
-unfolding read_bytes
+unfolding read_bytes name_at part
 returns-in-Go c =
-    let k = goes c in
+    let goes : (let a = c.args in Goes a.g a.volume.now a.user (name_of a.fcb.now) a.n a.missing c.slot-1.given.0.0 c.slot-1.given.0.1.0) = (let a = c.args in
+      plan_go a.g a.volume.now a.user (name_of a.fcb.now) a.n a.missing c.requires.n_lt_file_records.1 c.slot-1.given.0.0 c.slot-1.given.0.1.0 (sym c.plan.ensures ∙ c.in-Go.is)) in
+    let k = goes in
     record {
       value = sym k.clear;
       fcb_after = rw (← k.slot_is) c.act.ensures.fcb_after;

@@ -21,12 +21,6 @@ use Rattle.filecalls.proofs.Front.search_next.Goals as goal
 passed : (held : List ℕ) (c : goal.Else-not-is_none) → Next (joined c.args.self held) c.args.volume.now c.args.buffer.now
 passed held c = next_passed _ _ _ (c.lent_why-why.ensures held) c.is_none.ensures c.if-not-is_none.false
 
--- TODO place Else-not-is_open_search 
-below : (c : goal.Else-not-is_open_search) → c.args.self.search.last < slots c.args.self.geometry
-below c =
-    let q = c.args.self.search in
-    kept_below q.kind q.user q.last q.pattern _ (sym c.is_open_search.ensures ∙ not-false c.is_open_search.result c.if-not-is_open_search.false) (passed [] c).lent.state.kept
-
 pub returns-then-not-is_none : goal.returns-then-not-is_none
 unfolding search_next_act next_tests
 returns-then-not-is_none c = λ (held : List ℕ).
@@ -49,12 +43,17 @@ returns-then-not-is_open_search c = λ (held : List ℕ).
     says_no d v [] b (stops_then (next_lent d v b) NoMatch m [] _ (passed held c).none t refl) (c.refused-then-not-is_open_search.ensures held)
 
 pub overflow_add-search : goal.overflow_add-search
-overflow_add-search c = omega (arith, below c, (bounds _ (passed [] c).lent.state.law).slots_high)
+overflow_add-search c =
+    let below : c.args.self.search.last < slots c.args.self.geometry = (let q = c.args.self.search in
+      kept_below q.kind q.user q.last q.pattern _ (sym c.is_open_search.ensures ∙ not-false c.is_open_search.result c.if-not-is_open_search.false) (passed [] c).lent.state.kept) in
+    omega (arith, below, (bounds _ (passed [] c).lent.state.law).slots_high)
 
 pub hit-slot-requires : goal.hit-slot-requires
 hit-slot-requires c =
+    let below : c.args.self.search.last < slots c.args.self.geometry = (let q = c.args.self.search in
+      kept_below q.kind q.user q.last q.pattern _ (sym c.is_open_search.ensures ∙ not-false c.is_open_search.result c.if-not-is_open_search.false) (passed [] c).lent.state.kept) in
     let l = (passed [] c).lent in
-    (l.state.law, (l.volume, (l.buffer, omega (arith, below c))))
+    (l.state.law, (l.volume, (l.buffer, omega (arith, below))))
 
 pub hit_reply-requires : goal.hit_reply-requires
 hit_reply-requires c = (passed [] c).lent.state.law
