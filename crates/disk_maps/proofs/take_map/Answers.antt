@@ -1,6 +1,6 @@
 -- The places passed so far are good, and the blocks in them are held beside those of the lower slots.
 use mathlib.Core.Path.{◌≡◌, sym, ap, ◌∙◌}
-use mathlib.Core.Bool.{Bool, true, false, cond, false≢true}
+use mathlib.Core.Bool.{Bool, true, false, cond, false≢true, not}
 use mathlib.Core.Logic.{⊎_elim}
 use mathlib.Core.List.{List}
 use Prim.Native.Nat.{ℕ, ◌≤◌, ◌-◌}
@@ -40,14 +40,14 @@ shape_of-held-then-not-take_block c =
 pub returns-then-not-take_block : goal.returns-then-not-take_block
 returns-then-not-take_block c =
     let block : (let a = c.args in c.block_in-b.result ≡ block_in a.g (slot_at a.g a.volume.now a.i) c.loop-p.p) = (let a = c.args in
-      let at = c.slot_start-at in
-      rw (← lent_slot a.g a.volume.now a.i at.result at.ensures.0) c.block_in-b.ensures.0) in
+    let at = c.slot_start-at in
+    rw (← lent_slot a.g a.volume.now a.i at.result at.ensures.0) c.block_in-b.ensures.0) in
     let whole : c.places-n.result - 0 ≡ places c.args.g = omega (arith, c.places-n.ensures.0) in
     let a = c.args in
     let l = c.loop-p in
     let t = c.take_block in
     let bad = place_test a.g a.volume.now a.i l.p c.requires.volume.0 c.block_in-b.result block c.if-b-ne0.true l.held l.invariant.1.0
-    ∙ sym t.ensures.0 ∙ not-true t.result c.if-not-take_block.true in
+    ∙ sym t.ensures.value ∙ not-true t.result (ap not c.if-not-take_block.true) in
     record {
       value = rw (← whole) (sym (passed_fails l.invariant.1.1 (search rules) bad));
       held_after = λ h. absurd (false≢true h);
@@ -56,8 +56,8 @@ returns-then-not-take_block c =
 pub loop-p-preserved : goal.loop-p-preserved
 loop-p-preserved c =
     let block : (let a = c.args in c.block_in-b.result ≡ block_in a.g (slot_at a.g a.volume.now a.i) c.loop-p.p) = (let a = c.args in
-      let at = c.slot_start-at in
-      rw (← lent_slot a.g a.volume.now a.i at.result at.ensures.0) c.block_in-b.ensures.0) in
+    let at = c.slot_start-at in
+    rw (← lent_slot a.g a.volume.now a.i at.result at.ensures.0) c.block_in-b.ensures.0) in
     let a = c.args in
     let law = c.requires.volume.0 in
     let l = c.loop-p in

@@ -22,15 +22,15 @@ loop-j-init c = (search rules, asked_start)
 pub returns-then-has : goal.returns-then-has
 returns-then-has c =
     let seen : (let a = c.args in c.has.result ≡ group_at a.g a.volume.now a.user a.name.now a.k c.loop-j.j) = (let a = c.args in
-      let at = c.slot_start-at in
-      rw (← lent_slot a.g a.volume.now c.loop-j.j at.result at.ensures.0) c.has.ensures) in
+    let at = c.slot_start-at in
+    rw (← lent_slot a.g a.volume.now c.loop-j.j at.result at.ensures.0) c.has.ensures) in
     sym (asked_hit c.loop-j.invariant.1 (search rules) (sym seen ∙ c.if-has.true))
 
 pub loop-j-preserved : goal.loop-j-preserved
 loop-j-preserved c =
     let seen : (let a = c.args in c.has.result ≡ group_at a.g a.volume.now a.user a.name.now a.k c.loop-j.j) = (let a = c.args in
-      let at = c.slot_start-at in
-      rw (← lent_slot a.g a.volume.now c.loop-j.j at.result at.ensures.0) c.has.ensures) in
+    let at = c.slot_start-at in
+    rw (← lent_slot a.g a.volume.now c.loop-j.j at.result at.ensures.0) c.has.ensures) in
     (search rules, asked_next c.loop-j.invariant.1 (search rules) (sym seen ∙ c.if-has.false))
 
 pub returns : goal.returns

@@ -11,7 +11,7 @@ pub act-requires : goal.act-requires
 unfolding name_at part
 act-requires c =
     let goes : (let a = c.args in Goes a.g a.volume.now a.user (name_of a.fcb.now) a.n a.missing c.slot-1.given.0.0 c.slot-1.given.0.1.0) = (let a = c.args in
-      plan_go a.g a.volume.now a.user (name_of a.fcb.now) a.n a.missing c.requires.n_lt_file_records.1 c.slot-1.given.0.0 c.slot-1.given.0.1.0 (sym c.plan.ensures ∙ c.in-Go.is)) in
+    plan_go a.g a.volume.now a.user (name_of a.fcb.now) a.n a.missing c.requires.n_lt_file_records.1 c.slot-1.given.0.0 c.slot-1.given.0.1.0 (sym c.plan.ensures ∙ c.in-Go.is)) in
     let k = goes in
     record {
       volume_and = c.requires.volume_and;
@@ -33,7 +33,7 @@ pub returns-in-Go : goal.returns-in-Go
 unfolding read_bytes name_at part
 returns-in-Go c =
     let goes : (let a = c.args in Goes a.g a.volume.now a.user (name_of a.fcb.now) a.n a.missing c.slot-1.given.0.0 c.slot-1.given.0.1.0) = (let a = c.args in
-      plan_go a.g a.volume.now a.user (name_of a.fcb.now) a.n a.missing c.requires.n_lt_file_records.1 c.slot-1.given.0.0 c.slot-1.given.0.1.0 (sym c.plan.ensures ∙ c.in-Go.is)) in
+    plan_go a.g a.volume.now a.user (name_of a.fcb.now) a.n a.missing c.requires.n_lt_file_records.1 c.slot-1.given.0.0 c.slot-1.given.0.1.0 (sym c.plan.ensures ∙ c.in-Go.is)) in
     let k = goes in
     record {
       value = sym k.clear;
