@@ -26,7 +26,7 @@ pub loop-k-preserved : goal.loop-k-preserved
 loop-k-preserved c =
     let l = c.loop-k in
     let o = c.lay_record in
-    (o.auto.1.0 ∙ l.invariant.0, folded_next l.invariant.1 (omega (arith, c.loop-k-test.true, c.records-n.ensures)) o.ensures)
+    (o.auto.second ∙ l.invariant.0, folded_next l.invariant.1 (omega (arith, c.loop-k-test.true, c.records-n.ensures)) o.ensures)
 
 pub shape_of-second : goal.shape_of-second
 shape_of-second c = c.loop-k.invariant.0

@@ -21,7 +21,7 @@ pub loop-i-preserved : goal.loop-i-preserved
 loop-i-preserved c =
     let l = c.loop-i in
     let o = c.blank_block in
-    (o.auto.1.0 ∙ l.invariant.0, from_next l.invariant.1 c.loop-i-test.true o.ensures)
+    (o.auto.second ∙ l.invariant.0, from_next l.invariant.1 c.loop-i-test.true o.ensures)
 
 pub shape_of-second : goal.shape_of-second
 shape_of-second c = c.loop-i.invariant.0

@@ -24,7 +24,7 @@ pub loop-i-preserved : goal.loop-i-preserved
 loop-i-preserved c =
     let l = c.loop-i in
     let o = c.lay_slot in
-    (o.auto.1.0 ∙ l.invariant.0, from_next l.invariant.1 (omega (arith, c.loop-i-test.true, c.slots-n.ensures.0)) o.ensures)
+    (o.auto.second ∙ l.invariant.0, from_next l.invariant.1 (omega (arith, c.loop-i-test.true, c.slots-n.ensures.0)) o.ensures)
 
 pub shape_of-second : goal.shape_of-second
 shape_of-second c = c.loop-i.invariant.0

@@ -35,4 +35,4 @@ returns c =
     let l = c.loop-i in
     let a = c.args in
     let z : l.i ≡ slots a.g = omega (arith, c.loop-i-test.false, l.invariant.0, c.slots-n.ensures.0) in
-    subst (λ (x : ℕ). InOrder a.g a.volume.now x l.auto l.m) z l.invariant.1
+    subst (λ (x : ℕ). InOrder a.g a.volume.now x l.kept l.m) z l.invariant.1

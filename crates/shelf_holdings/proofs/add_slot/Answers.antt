@@ -15,13 +15,6 @@ use Rattle.shelf_holdings.proofs.SlotLaws.{not_listed, no_file, no_entry_lem, no
 use borrow.Author.Rules.{rules}
 use Rattle.shelf_holdings.proofs.add_slot.Goals as goal
 
--- TODO place Else-volume-at 
-used : (c : goal.Else-volume-at) → (let a = c.args in is_empty (slot_at a.g a.volume.now a.i) ≡ false)
-used c =
-    let a = c.args in
-    let at = c.slot_start-at in
-    slot_used a.g a.volume.now a.i at.result at.ensures.0 c.if-volume-at.false
-
 pub returns-then-volume-at : goal.returns-then-volume-at
 returns-then-volume-at c =
     let a = c.args in
@@ -42,13 +35,16 @@ returns-then-volume-at c =
 
 pub is_first-first-requires : goal.is_first-first-requires
 is_first-first-requires c =
+    let used : (let a = c.args in is_empty (slot_at a.g a.volume.now a.i) ≡ false) = (let a = c.args in
+      let at = c.slot_start-at in
+      slot_used a.g a.volume.now a.i at.result at.ensures.0 c.if-volume-at.false) in
     let a = c.args in
     let at = c.slot_start-at in
     let e = lent_slot a.g a.volume.now a.i at.result at.ensures.0 in
     record {
       volume = c.requires.volume;
       i_bound = (c.requires.i_bound.0, (search rules, e));
-      e_value = (rw e (used c), (c.requires.heads.0, c.requires.heads.1));
+      e_value = (rw e used, (c.requires.heads.0, c.requires.heads.1));
     }
 
 pub overflow_add-files : goal.overflow_add-files
@@ -62,10 +58,13 @@ overflow_add-records c = omega (arith, (bounds _ c.requires.volume.0).slots_high
 
 pub returns : goal.returns
 returns c =
+    let used : (let a = c.args in is_empty (slot_at a.g a.volume.now a.i) ≡ false) = (let a = c.args in
+      let at = c.slot_start-at in
+      slot_used a.g a.volume.now a.i at.result at.ensures.0 c.if-volume-at.false) in
     let a = c.args in
     let at = c.slot_start-at in
     let e = lent_slot a.g a.volume.now a.i at.result at.ensures.0 in
-    let here = used c in
+    let here = used in
     let first = c.is_first-first.ensures.value ∙ ap (λ (x : Entry). is_listed a.g a.volume.now x a.i) e in
     let one = c.one_if.ensures in
     let some = c.entry_records.ensures in (
