@@ -33,10 +33,11 @@ returns-then-lower-key c =
     let l = c.loop-k in
     let a = c.args in
     let z : l.k ≡ suc (l.k - 1) = omega arith in
-    let o = subst (λ (x : ℕ). Opened a.kept.now a.m a.key l.kept x) z l.invariant in (
-      subst⁻¹ (λ (x : ℕ). take (a.m + 1) (set l.kept x a.key) ≡ entered (take a.m a.kept.now) a.key) z (opened_hit a.kept.now a.m a.key l.kept (l.k - 1) o c.requires.1 c.if-lower-key.true),
-      length-set l.kept l.k a.key ∙ l.invariant.room,
-    )
+    let o = subst (λ (x : ℕ). Opened a.kept.now a.m a.key l.kept x) z l.invariant in
+    record {
+      kept_after = subst⁻¹ (λ (x : ℕ). take (a.m + 1) (set l.kept x a.key) ≡ entered (take a.m a.kept.now) a.key) z (opened_hit a.kept.now a.m a.key l.kept (l.k - 1) o c.requires.1 c.if-lower-key.true);
+      kept_len_unchanged = length-set l.kept l.k a.key ∙ l.invariant.room;
+    }
 
 pub offset_bounds-kept-k-in-loop-k : goal.offset_bounds-kept-k-in-loop-k
 offset_bounds-kept-k-in-loop-k c = omega arith

@@ -43,10 +43,12 @@ is_here-requires c =
     let a = c.args in
     let l = c.loop-s in
     let some : 0 < l.s = omega arith in
-    let first = walk_listed a.g a.volume.now a.user (strip a.name.now) a.i l.s l.rest l.last l.bit l.invariant some in (
-      c.requires.volume,
-      ((omega (arith, in_directory, c.requires.i_bound.0), ap (λ (x : ℕ). x / 16777216) c.word-node.ensures.0 ∙ c.requires.nodes.keyed (l.s - 1) in_directory first), (c.requires.i_bound.1.0, c.requires.key_value.0)),
-    )
+    let first = walk_listed a.g a.volume.now a.user (strip a.name.now) a.i l.s l.rest l.last l.bit l.invariant some in
+    record {
+      volume = c.requires.volume;
+      j_bound = (omega (arith, in_directory, c.requires.i_bound.0), ap (λ (x : ℕ). x / 16777216) c.word-node.ensures.0 ∙ c.requires.nodes.keyed (l.s - 1) in_directory first);
+      name = (c.requires.i_bound.1.0, c.requires.key_value.0);
+    }
 
 pub returns-then-is_here : goal.returns-then-is_here
 returns-then-is_here c =
@@ -92,7 +94,8 @@ returns c =
     let a = c.args in
     let l = c.loop-s in
     let z : l.s ≡ 0 = omega arith in
-    let w : Walk a.g a.volume.now a.user (strip a.name.now) a.i 0 l.rest l.last l.bit = rw z at l.invariant in (
-      sym (walk_end a.g a.volume.now a.user (strip a.name.now) a.i l.rest l.last l.bit c.requires.i_bound.0 c.requires.i_bound.1.1 w),
-      λ e. rw c.requires.key_value.0 (walk_ended a.g a.volume.now a.user (strip a.name.now) a.i l.rest l.last l.bit w),
-    )
+    let w : Walk a.g a.volume.now a.user (strip a.name.now) a.i 0 l.rest l.last l.bit = rw z at l.invariant in
+    record {
+      seen_value = sym (walk_end a.g a.volume.now a.user (strip a.name.now) a.i l.rest l.last l.bit c.requires.i_bound.0 c.requires.i_bound.1.1 w);
+      ended = λ e. rw c.requires.key_value.0 (walk_ended a.g a.volume.now a.user (strip a.name.now) a.i l.rest l.last l.bit w);
+    }

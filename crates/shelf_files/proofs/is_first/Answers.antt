@@ -17,13 +17,13 @@ use Rattle.shelf_files.proofs.is_first.Goals as goal
 
 pub follow-way-requires : goal.follow-way-requires
 follow-way-requires c =
-    let k = c.key_of-key in (
-      c.requires.volume,
-      (
-        (c.requires.i_bound.0, (search rules, c.requires.e_value.0)),
-        ((k.ensures.0, c.wide-first.ensures ∙ c.requires.e_value.1.0.begins k.result), c.requires.e_value.1.1),
-      ),
-    )
+    let k = c.key_of-key in
+    record {
+      volume = c.requires.volume;
+      i_bound = (c.requires.i_bound.0, (search rules, c.requires.e_value.0));
+      key_value = (k.ensures.0, c.wide-first.ensures ∙ c.requires.e_value.1.0.begins k.result);
+      nodes = c.requires.e_value.1.1;
+    }
 
 pub returns-then-way : goal.returns-then-way
 unfolding name_at part
@@ -46,19 +46,19 @@ link-requires c =
       ap not c.follow-way.ensures.seen_value ∙ sym (first_is a.g a.volume.now a.i a.e.now c.requires.i_bound.1.1 c.requires.i_bound.0 c.requires.e_value.0)) in
     let listed : (let a = c.args in is_listed a.g a.volume.now (slot_at a.g a.volume.now a.i) a.i ≡ true) = rw (← c.requires.i_bound.1.1) (sym told ∙ ap not c.if-way.false) in
     let ended : (let a = c.args in Ended a.g a.volume.now a.i (entry_key (slot_at a.g a.volume.now a.i)) c.follow-way.result.last c.follow-way.result.bit) = rw own at (c.follow-way.ensures.ended c.if-way.false) in
+    let few : c.args.i < 2048 = omega (arith, (bounds _ c.requires.volume.0).slots_high, c.requires.i_bound.0) in
     let a = c.args in
-    let first = listed in
-    let end = ended in
-    let way = c.follow-way.result in (
-      (c.requires.e_value.1.0.many, c.requires.e_value.1.1.long),
-      (
-        few s,
+    let way = c.follow-way.result in
+    record {
+      heads_len = (c.requires.e_value.1.0.many, c.requires.e_value.1.1.long);
+      i_lt_most_slots = (
+        few,
         (
-          last_low a.g a.volume.now a.i (few s) first way.last way.bit end,
-          last_open a.g a.volume.now a.i (few s) first way.last way.bit end c.requires.e_value.1.1,
+          last_low a.g a.volume.now a.i few listed way.last way.bit ended,
+          last_open a.g a.volume.now a.i few listed way.last way.bit ended c.requires.e_value.1.1,
         ),
-      ),
-    )
+      );
+    }
 
 pub offset_bounds-nodes-i : goal.offset_bounds-nodes-i
 offset_bounds-nodes-i c =
@@ -78,14 +78,13 @@ returns c =
       ap not c.follow-way.ensures.seen_value ∙ sym (first_is a.g a.volume.now a.i a.e.now c.requires.i_bound.1.1 c.requires.i_bound.0 c.requires.e_value.0)) in
     let listed : (let a = c.args in is_listed a.g a.volume.now (slot_at a.g a.volume.now a.i) a.i ≡ true) = rw (← c.requires.i_bound.1.1) (sym told ∙ ap not c.if-way.false) in
     let ended : (let a = c.args in Ended a.g a.volume.now a.i (entry_key (slot_at a.g a.volume.now a.i)) c.follow-way.result.last c.follow-way.result.bit) = rw own at (c.follow-way.ensures.ended c.if-way.false) in
+    let few : c.args.i < 2048 = omega (arith, (bounds _ c.requires.volume.0).slots_high, c.requires.i_bound.0) in
     let a = c.args in
-    let first = listed in
-    let end = ended in
     let way = c.follow-way.result in
-    (
-      rw c.requires.i_bound.1.1 (sym first),
-      (
-        rw (c.link.ensures.heads_after, own) (linked_heads_lem a.g a.volume.now a.i (few s) first way.last way.bit end c.requires.e_value.1.0),
-        rw (c.link.ensures.nodes_after, own) (linked_nodes_lem a.g a.volume.now a.i (few s) first way.last way.bit end c.requires.e_value.1.1),
-      ),
-    )
+    record {
+      value = rw c.requires.i_bound.1.1 (sym listed);
+      heads = (
+        rw (c.link.ensures.heads_after, own) (linked_heads_lem a.g a.volume.now a.i few listed way.last way.bit ended c.requires.e_value.1.0),
+        rw (c.link.ensures.nodes_after, own) (linked_nodes_lem a.g a.volume.now a.i few listed way.last way.bit ended c.requires.e_value.1.1),
+      );
+    }

@@ -24,15 +24,14 @@ overflow_mul-room c =
     let sums : Sums c.args.g c.args.volume.now = sums_hold c.args.g c.args.volume.now c.requires.volume.0 c.requires.volume_value.0 in
     let free_are : c.args.free ≡ blocks_free c.args.g c.args.volume.now = c.requires.volume_value.1 ∙ free_is c.args.g c.args.volume.now c.requires.volume.0 in
     let held_are_lem : (let a = c.args in a.g.blocks - a.g.directory_blocks - a.free ≡ blocks_held a.g a.volume.now) = omega (arith, sums.held_and_free, free_are) in
-    let s = sums in
-    rw (held_are_lem, c.records.ensures) (omega (arith, s.waste_and_records, s.waste_most, s.records_most))
+    rw (held_are_lem, c.records.ensures) (omega (arith, sums.waste_and_records, sums.waste_most, sums.records_most))
 
 pub overflow_sub-waste : goal.overflow_sub-waste
 overflow_sub-waste c =
     let sums : Sums c.args.g c.args.volume.now = sums_hold c.args.g c.args.volume.now c.requires.volume.0 c.requires.volume_value.0 in
     let free_are : c.args.free ≡ blocks_free c.args.g c.args.volume.now = c.requires.volume_value.1 ∙ free_is c.args.g c.args.volume.now c.requires.volume.0 in
     let held_are_lem : (let a = c.args in a.g.blocks - a.g.directory_blocks - a.free ≡ blocks_held a.g a.volume.now) = omega (arith, sums.held_and_free, free_are) in
-    let records_are : (let a = c.args in c.count-c.result.records ≡ records_present a.g a.volume.now) = (let s = c in c.count-c.ensures.records_value ∙ sym (by_entries s.args.g s.args.volume.now s.requires.0.0 s.requires.1.0)) in
+    let records_are : (let a = c.args in c.count-c.result.records ≡ records_present a.g a.volume.now) = (c.count-c.ensures.records_value ∙ sym (by_entries c.args.g c.args.volume.now c.requires.volume.0 c.requires.volume_value.0)) in
     rw (held_are_lem, c.records.ensures, records_are) sums.never_below
 
 pub returns : goal.returns
@@ -41,5 +40,5 @@ returns c =
     let sums : Sums c.args.g c.args.volume.now = sums_hold c.args.g c.args.volume.now c.requires.volume.0 c.requires.volume_value.0 in
     let free_are : c.args.free ≡ blocks_free c.args.g c.args.volume.now = c.requires.volume_value.1 ∙ free_is c.args.g c.args.volume.now c.requires.volume.0 in
     let held_are_lem : (let a = c.args in a.g.blocks - a.g.directory_blocks - a.free ≡ blocks_held a.g a.volume.now) = omega (arith, sums.held_and_free, free_are) in
-    let records_are : (let a = c.args in c.count-c.result.records ≡ records_present a.g a.volume.now) = (let s = c in c.count-c.ensures.records_value ∙ sym (by_entries s.args.g s.args.volume.now s.requires.0.0 s.requires.1.0)) in
+    let records_are : (let a = c.args in c.count-c.result.records ≡ records_present a.g a.volume.now) = (c.count-c.ensures.records_value ∙ sym (by_entries c.args.g c.args.volume.now c.requires.volume.0 c.requires.volume_value.0)) in
     rw (held_are_lem, free_are, c.count-c.ensures.files_value, c.count-c.ensures.entries_value, records_are, c.records.ensures)
