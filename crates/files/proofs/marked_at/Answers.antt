@@ -3,7 +3,6 @@ use Rattle.disk_volume.proofs.EntryLaws.{lent_slot}
 use Rattle.disk_volume.specs.Directory.{slot_at}
 use Rattle.disk_volume.specs.Entry.{of_file}
 use Rattle.disk_volume.specs.Name.{strip}
-use borrow.Author.Tests.{not-true, not-false}
 use mathlib.Core.Path.{◌≡◌}
 use Rattle.files.proofs.marked_at.Goals as goal
 

@@ -1,13 +1,7 @@
 -- No slot passed so far stands for its file, so what is still to be searched gives the whole.
-use Rattle.files.specs.Files.{is_listed, next_file}
+use Rattle.files.specs.Files.{next_file}
 use Rattle.disk_volume.proofs.EntryLaws.{lent_slot}
-use Rattle.disk_volume.specs.Directory.{slot_at}
-use Rattle.disk_geometry.specs.Geometry.{slots}
-use Rattle.disk_geometry.specs.declared.Geometry.{Geometry}
-use Rattle.lists.proofs.BoundedLaws.{Searched, searched_start, searched_next, searched_hit, searched_none}
-use Prim.Native.Nat.{ℕ, ◌-◌}
-use mathlib.Core.List.{List}
-use mathlib.Core.Bool.{Bool}
+use Rattle.lists.proofs.BoundedLaws.{searched_start, searched_next, searched_hit, searched_none}
 use mathlib.Core.Path.{◌≡◌, sym, ◌∙◌}
 use borrow.Author.Rules.{rules}
 use Rattle.files.proofs.next_file.Invariants.{listed_at}

@@ -1,5 +1,5 @@
 -- No slot passed so far stands for its file, so what is still to be searched gives the whole.
-use Rattle.files.specs.Files.{is_listed, next_file}
+use Rattle.files.specs.Files.{is_listed}
 use Rattle.disk_volume.specs.Directory.{slot_at}
 use Rattle.disk_geometry.specs.Geometry.{slots}
 use Rattle.disk_geometry.specs.declared.Geometry.{Geometry}

@@ -10,7 +10,7 @@ pub loop-k-init : goal.loop-k-init
 loop-k-init c = let a = c.args in laid_none a.g a.first.now a.m a.second.now
 
 pub offset_bounds-kept-k : goal.offset_bounds-kept-k
-offset_bounds-kept-k c = omega (arith, c.loop-k-test.true, kept_long c.args.g c.args.first.now c.requires.accepted.0 c.args.kept.now c.args.m c.requires.in_order, c.type_inv)
+offset_bounds-kept-k c = omega (arith, c.loop-k-test.true, kept_long c.args.g c.args.first.now c.requires.accepted.0 c.args.kept.now c.args.m c.requires.in_order)
 
 pub bounds-kept-k : goal.bounds-kept-k
 bounds-kept-k c = omega (arith, c.loop-k-test.true, kept_long c.args.g c.args.first.now c.requires.accepted.0 c.args.kept.now c.args.m c.requires.in_order)

@@ -25,13 +25,14 @@ move_blocks-next-requires c =
     let long : length (c.copy.new.dst ++ replicate 16 0) ≡ 32 = length-append c.copy.new.dst (replicate 16 0) ∙ omega (arith, c.copy.auto.dst) in
     let a = c.args in
     let at = c.slot_start-at in
-    let e = lent_slot a.g a.first.now a.i at.result at.ensures.0 in (
-      c.requires.volume_and,
-      (
+    let e = lent_slot a.g a.first.now a.i at.result at.ensures.0 in
+    record {
+      volume_and = c.requires.volume_and;
+      entry = (
         ap length e ∙ slot_length a.g c.requires.volume_and.0 a.first.now c.requires.volume_and.1.0 a.i c.requires.i_bound.0,
         (long, subst⁻¹ (λ (x : Entry). MapFits a.g x a.b) e c.requires.i_bound.1.1),
-      ),
-    )
+      );
+    }
 
 pub slice_bounds-lay_slot-end : goal.slice_bounds-lay_slot-end
 slice_bounds-lay_slot-end c =

@@ -1,15 +1,13 @@
 -- No slot that was passed has an entry of the file; the walk goes up, so it ends.
-use mathlib.Core.Path.{◌≡◌, refl, sym, ap, ◌∙◌}
-use mathlib.Core.Bool.{Bool, true, false, cond, true≢false}
-use Prim.Native.Nat.{ℕ, zero, suc, ◌+◌, ◌-◌, ◌/◌, ◌%◌, ◌≤◌, ◌<◌}
+use mathlib.Core.Path.{◌≡◌, sym, ap, ◌∙◌}
+use mathlib.Core.Bool.{true≢false}
+use Prim.Native.Nat.{ℕ, ◌-◌, ◌/◌, ◌%◌, ◌≤◌, ◌<◌}
 use native.Mathlib.Omega.{arith}
-use lib.Dec.{eqb}
-use borrow.Author.Rules.{rules}
 use Rattle.lists.specs.Bytes.{byte}
 use Rattle.disk_geometry.proofs.GeometryLaws.{bounds}
 use Rattle.disk_volume.specs.Name.{strip}
 use Rattle.shelf_files.specs.CodeTree.{way, next_in}
-use Rattle.shelf_files.proofs.WalkLaws.{Walk, walk_start, walk_low, walk_listed, walk_rises, walk_below, walk_next, walk_hit, walk_end, walk_ended, behind, behind_less}
+use Rattle.shelf_files.proofs.WalkLaws.{Walk, walk_start, walk_low, walk_listed, walk_rises, walk_below, walk_next, walk_hit, walk_end, walk_ended, behind_less}
 use Rattle.shelf_files.proofs.follow.Goals as goal
 
 pub loop-s-init : goal.loop-s-init
@@ -21,25 +19,25 @@ loop-s-init c =
 pub offset_bounds-nodes-s : goal.offset_bounds-nodes-s
 offset_bounds-nodes-s c =
     let in_directory : (let a = c.args in c.loop-s.s - 1 < a.i) = (let a = c.args in
-      let l = c.loop-s in
-      let some : 0 < l.s = omega arith in
-      omega (arith, walk_low a.g a.volume.now a.user (strip a.name.now) a.i l.s l.rest l.last l.bit l.invariant some)) in
+    let l = c.loop-s in
+    let some : 0 < l.s = omega arith in
+    omega (arith, walk_low a.g a.volume.now a.user (strip a.name.now) a.i l.s l.rest l.last l.bit l.invariant some)) in
     omega (arith, in_directory, (bounds _ c.requires.volume.0).slots_high, c.requires.i_bound.0)
 
 pub bounds-nodes-s : goal.bounds-nodes-s
 bounds-nodes-s c =
     let in_directory : (let a = c.args in c.loop-s.s - 1 < a.i) = (let a = c.args in
-      let l = c.loop-s in
-      let some : 0 < l.s = omega arith in
-      omega (arith, walk_low a.g a.volume.now a.user (strip a.name.now) a.i l.s l.rest l.last l.bit l.invariant some)) in
+    let l = c.loop-s in
+    let some : 0 < l.s = omega arith in
+    omega (arith, walk_low a.g a.volume.now a.user (strip a.name.now) a.i l.s l.rest l.last l.bit l.invariant some)) in
     omega (arith, in_directory, (bounds _ c.requires.volume.0).slots_high, c.requires.i_bound.0, c.requires.nodes.long)
 
 pub is_here-requires : goal.is_here-requires
 is_here-requires c =
     let in_directory : (let a = c.args in c.loop-s.s - 1 < a.i) = (let a = c.args in
-      let l = c.loop-s in
-      let some : 0 < l.s = omega arith in
-      omega (arith, walk_low a.g a.volume.now a.user (strip a.name.now) a.i l.s l.rest l.last l.bit l.invariant some)) in
+    let l = c.loop-s in
+    let some : 0 < l.s = omega arith in
+    omega (arith, walk_low a.g a.volume.now a.user (strip a.name.now) a.i l.s l.rest l.last l.bit l.invariant some)) in
     let a = c.args in
     let l = c.loop-s in
     let some : 0 < l.s = omega arith in
@@ -53,9 +51,9 @@ is_here-requires c =
 pub returns-then-is_here : goal.returns-then-is_here
 returns-then-is_here c =
     let in_directory : (let a = c.args in c.loop-s.s - 1 < a.i) = (let a = c.args in
-      let l = c.loop-s in
-      let some : 0 < l.s = omega arith in
-      omega (arith, walk_low a.g a.volume.now a.user (strip a.name.now) a.i l.s l.rest l.last l.bit l.invariant some)) in
+    let l = c.loop-s in
+    let some : 0 < l.s = omega arith in
+    omega (arith, walk_low a.g a.volume.now a.user (strip a.name.now) a.i l.s l.rest l.last l.bit l.invariant some)) in
     let a = c.args in
     let l = c.loop-s in
     let some : 0 < l.s = omega arith in
@@ -68,9 +66,9 @@ returns-then-is_here c =
 pub loop-s-smaller : goal.loop-s-smaller
 loop-s-smaller c =
     let in_directory : (let a = c.args in c.loop-s.s - 1 < a.i) = (let a = c.args in
-      let l = c.loop-s in
-      let some : 0 < l.s = omega arith in
-      omega (arith, walk_low a.g a.volume.now a.user (strip a.name.now) a.i l.s l.rest l.last l.bit l.invariant some)) in
+    let l = c.loop-s in
+    let some : 0 < l.s = omega arith in
+    omega (arith, walk_low a.g a.volume.now a.user (strip a.name.now) a.i l.s l.rest l.last l.bit l.invariant some)) in
     let told : (let l = c.loop-s in c.next_in-s.result ≡ next_in (l.rest % 2) (byte c.args.nodes.now (l.s - 1))) = c.next_in-s.ensures ∙ ap (λ (x : ℕ). next_in (c.loop-s.rest % 2) x) c.word-node.ensures.0 in
     let a = c.args in
     let l = c.loop-s in

@@ -1,7 +1,6 @@
 -- The branches are the definition's, of the entry as it is lent.
 use mathlib.Core.Path.{◌≡◌}
 use native.Mathlib.Omega.{arith}
-use borrow.Author.Tests.{not-true, not-false}
 use Rattle.files.specs.Files.{used_places, more_blocks}
 use Rattle.disk_geometry.proofs.GeometryLaws.{bounds}
 use Rattle.disk_volume.proofs.EntryLaws.{lent_slot}
