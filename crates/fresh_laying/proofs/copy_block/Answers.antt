@@ -1,13 +1,9 @@
 -- The records passed so far are laid, so what is still to be laid gives the whole.
-use mathlib.Core.Path.{◌≡◌, refl, sym, ap, ◌∙◌}
-use mathlib.Core.List.{List}
-use Prim.Native.Nat.{ℕ, ◌-◌}
+use mathlib.Core.Path.{refl, sym, ap, ◌∙◌}
 use native.Mathlib.Omega.{arith}
 use lib.ListN.{length}
-use borrow.Author.Rules.{rules}
-use Rattle.lists.proofs.FoldLaws.{Folded, folded_start, folded_next, folded_end}
-use Rattle.disk_geometry.specs.Geometry.{records}
-use Rattle.disk_volume.specs.Record.{record_at, put_record}
+use Rattle.lists.proofs.FoldLaws.{folded_start, folded_next, folded_end}
+use Rattle.disk_volume.specs.Record.{put_record}
 use Rattle.disk_volume.proofs.DirectoryLaws.{record_length}
 use Rattle.fresh_volume.specs.Copy.{put_block}
 use Rattle.fresh_laying.proofs.MoveLaws.{lent_record}

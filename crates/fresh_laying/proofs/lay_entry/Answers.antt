@@ -4,7 +4,6 @@ use mathlib.Core.List.{List, ◌++◌}
 use Prim.Native.Nat.{ℕ, ◌+◌}
 use native.Mathlib.Omega.{arith}
 use lib.ListN.{length, replicate, length-append}
-use borrow.Author.Rules.{rules}
 use Rattle.disk_geometry.specs.Geometry.{places}
 use Rattle.disk_volume.specs.Directory.{put_slot}
 use Rattle.disk_volume.specs.Entry.{Entry}
