@@ -22,4 +22,8 @@ returns-then-is_none c =
 pub returns-else-is_none : goal.returns-else-is_none
 returns-else-is_none c =
     let n = sym c.is_none.ensures ∙ c.if-is_none.false in
-    (rw (← c.slot_to_open-slot.ensures.0) c.slot_why-why.ensures.value, (c.slot_to_open-slot.ensures.0, rw n))
+    record {
+      why_value = rw (← c.slot_to_open-slot.ensures.0) c.slot_why-why.ensures.value;
+      slot_value = c.slot_to_open-slot.ensures.0;
+      fcb_after = rw n;
+    }

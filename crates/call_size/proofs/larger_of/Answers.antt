@@ -10,17 +10,13 @@ use Rattle.disk_volume.proofs.EntryLaws.{lent_slot}
 use Rattle.call_size.specs.Size.{larger}
 use Rattle.call_size.proofs.larger_of.Goals as goal
 
--- TODO place After-has 
--- what `has` answered is the test of slot i
-seen : (c : goal.After-has) → (let a = c.args in of_file a.user (strip a.name.now) (slot_at a.g a.volume.now a.i) ≡ c.has.result)
-seen c =
-    let a = c.args in
-    let at = c.slot_start-at in
-    rw (← lent_slot a.g a.volume.now a.i at.result at.ensures.0, c.has.ensures)
-
 pub returns-then-not-has : goal.returns-then-not-has
 unfolding larger
-returns-then-not-has c = (rw (seen c@After-has, not-true c.has.result c.if-not-has.true), search rules)
+returns-then-not-has c =
+    let seen : (let a = c.args in of_file a.user (strip a.name.now) (slot_at a.g a.volume.now a.i) ≡ c.has.result) = (let a = c.args in
+      let at = c.slot_start-at in
+      rw (← lent_slot a.g a.volume.now a.i at.result at.ensures.0, c.has.ensures)) in
+    (rw (seen, not-true c.has.result c.if-not-has.true), search rules)
 
 pub returns : goal.returns
 unfolding larger

@@ -9,7 +9,10 @@ use Rattle.call_store.proofs.store_most.Goals as goal
 
 pub put_slot-requires : goal.put_slot-requires
 put_slot-requires c =
-    ((c.requires.volume.0, c.put_filled.auto.1.1.0 ∙ c.requires.volume.1), (c.requires.slot_bound.0, c.requires.fact.1))
+    record {
+      volume = (c.requires.volume.0, c.put_filled.auto.1.1.0 ∙ c.requires.volume.1);
+      i_bound = (c.requires.slot_bound.0, c.requires.fact.1);
+    }
 
 pub returns : goal.returns
 returns c =

@@ -16,7 +16,11 @@ pub loop-k-init : goal.loop-k-init
 loop-k-init c = (search rules, (search rules, folded_start))
 
 pub change_one-requires : goal.change_one-requires
-change_one-requires c = ((search rules, simp (length-take, length-drop) (omega arith)), search rules)
+change_one-requires c =
+    record {
+      g_value = (search rules, simp (length-take, length-drop) (omega arith));
+      name = search rules;
+    }
 
 pub loop-k-preserved : goal.loop-k-preserved
 loop-k-preserved c =

@@ -48,7 +48,10 @@ returns-then-not-take_slot c =
     let l = c.loop-i in
     let s = c.take_slot in
     let e = sym (searched_hit l.invariant.good (search rules) (ap not (sym s.ensures.0) ∙ c.if-not-take_slot.true)) ∙ from_zero (bad a.g a.volume.now) (slots a.g) in
-    ((e, search rules), λ h. absurd (omega arith))
+    record {
+      value = (e, search rules);
+      held_after = λ h. absurd (omega arith);
+    }
 
 pub loop-i-preserved : goal.loop-i-preserved
 loop-i-preserved c =
@@ -75,4 +78,7 @@ returns c =
     let l = c.loop-i in
     let z : l.i ≡ slots a.g = omega arith in
     let e = sym (searched_none l.invariant.good (search rules)) ∙ from_zero (bad a.g a.volume.now) (slots a.g) in
-    ((e, search rules), λ h. l.invariant.blocks ∙ ap (λ (x : ℕ). words_of (held_below a.g a.volume.now x)) z ∙ all_slots a.g a.volume.now)
+    record {
+      value = (e, search rules);
+      held_after = λ h. l.invariant.blocks ∙ ap (λ (x : ℕ). words_of (held_below a.g a.volume.now x)) z ∙ all_slots a.g a.volume.now;
+    }

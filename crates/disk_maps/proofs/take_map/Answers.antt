@@ -25,17 +25,6 @@ use Rattle.disk_maps.proofs.take_map.Goals as goal
 all_words : (held : List ℕ) (p : ℕ → Bool) → held ≡ words_of p → length held ≡ held_words
 all_words held p e = ap length e ∙ length_words p
 
--- what `block_in` answered is the block number in place p of slot i
-block : (c : tie.After-block-in invariant-loop decreases-loop) → (let a = c.before.before.before.before.before.before.before.before.args in c.block_in.result ≡ block_in a.g (slot_at a.g a.volume.now a.i) c.before.before.before.loop.p)
-block c =
-    let a = c.before.before.before.before.before.before.before.before.args in
-    let at = c.before.before.before.before.before.slot-start in
-    rw (← lent_slot a.g a.volume.now a.i at.result at.ensures.0) c.block_in.ensures.0
-
--- the loop goes over all places
-whole : (c : tie.After-places invariant-loop decreases-loop) → c.places.result - 0 ≡ places c.before.before.before.before.args.g
-whole c = omega (arith, c.places.ensures.0)
-
 pub loop-p-init : goal.loop-p-init
 loop-p-init c = (search rules, (c.requires.i_bound.1 ∙ no_places _ _ _, passed_start))
 
@@ -50,20 +39,30 @@ shape_of-held-then-not-take_block c =
 
 pub returns-then-not-take_block : goal.returns-then-not-take_block
 returns-then-not-take_block c =
+    let block : (let a = c.args in c.block_in-b.result ≡ block_in a.g (slot_at a.g a.volume.now a.i) c.loop-p.p) = (let a = c.args in
+      let at = c.slot_start-at in
+      rw (← lent_slot a.g a.volume.now a.i at.result at.ensures.0) c.block_in-b.ensures.0) in
+    let whole : c.places-n.result - 0 ≡ places c.args.g = omega (arith, c.places-n.ensures.0) in
     let a = c.args in
     let l = c.loop-p in
     let t = c.take_block in
-    let bad = place_test a.g a.volume.now a.i l.p c.requires.volume.0 c.block_in-b.result (block c@After-block_in) c.if-b-ne0.true l.held l.invariant.1.0
+    let bad = place_test a.g a.volume.now a.i l.p c.requires.volume.0 c.block_in-b.result block c.if-b-ne0.true l.held l.invariant.1.0
     ∙ sym t.ensures.0 ∙ not-true t.result c.if-not-take_block.true in
-    (rw (← whole c@After-places) (sym (passed_fails l.invariant.1.1 (search rules) bad)), λ h. absurd (false≢true h))
+    record {
+      value = rw (← whole) (sym (passed_fails l.invariant.1.1 (search rules) bad));
+      held_after = λ h. absurd (false≢true h);
+    }
 
 pub loop-p-preserved : goal.loop-p-preserved
 loop-p-preserved c =
+    let block : (let a = c.args in c.block_in-b.result ≡ block_in a.g (slot_at a.g a.volume.now a.i) c.loop-p.p) = (let a = c.args in
+      let at = c.slot_start-at in
+      rw (← lent_slot a.g a.volume.now a.i at.result at.ensures.0) c.block_in-b.ensures.0) in
     let a = c.args in
     let law = c.requires.volume.0 in
     let l = c.loop-p in
     let b = c.block_in-b.result in
-    let e = block c@After-block_in in
+    let e = block in
     ⊎_elim
     (λ w.
     let taken = not-false w.2.result w.5.left in
@@ -81,6 +80,10 @@ shape_of-held c = all_words _ _ c.loop-p.invariant.1.0 ∙ sym (all_words _ _ c.
 
 pub returns : goal.returns
 returns c =
+    let whole : c.places-n.result - 0 ≡ places c.args.g = omega (arith, c.places-n.ensures.0) in
     let l = c.loop-p in
     let z : l.p ≡ places c.args.g = omega (arith, c.places-n.ensures.0) in
-    (rw (← whole c@After-places) (sym (passed_all l.invariant.1.1 (search rules))), λ h. rw (← z) l.invariant.1.0)
+    record {
+      value = rw (← whole) (sym (passed_all l.invariant.1.1 (search rules)));
+      held_after = λ h. rw (← z) l.invariant.1.0;
+    }

@@ -17,10 +17,10 @@ seen c =
     rw (← lent_slot a.g a.volume.now a.i at.result at.ensures.0, c.has.ensures)
 
 pub returns-then-not-has : goal.returns-then-not-has
-returns-then-not-has c = rw (seen c@After-has, not-true c.has.result c.if-not-has.true)
+returns-then-not-has c = rw (seen c, not-true c.has.result c.if-not-has.true)
 
 pub returns : goal.returns
 returns c =
     let a = c.args in
     let at = c.slot_start-at in
-    rw (seen c@After-has, not-false c.has.result c.if-not-has.false, ← lent_slot a.g a.volume.now a.i at.result at.ensures.0)
+    rw (seen c, not-false c.has.result c.if-not-has.false, ← lent_slot a.g a.volume.now a.i at.result at.ensures.0)

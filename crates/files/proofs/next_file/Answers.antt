@@ -27,10 +27,10 @@ loop-i-init c = searched_start
 
 pub returns-then-is_listed : goal.returns-then-is_listed
 unfolding next_file
-returns-then-is_listed c = sym (searched_hit c.loop-i.invariant (search rules) (sym (seen c@After-is_listed) ∙ c.if-is_listed.true))
+returns-then-is_listed c = sym (searched_hit c.loop-i.invariant (search rules) (sym (seen c) ∙ c.if-is_listed.true))
 
 pub loop-i-preserved : goal.loop-i-preserved
-loop-i-preserved c = searched_next c.loop-i.invariant (search rules) (sym (seen c@After-is_listed) ∙ c.if-is_listed.false)
+loop-i-preserved c = searched_next c.loop-i.invariant (search rules) (sym (seen c) ∙ c.if-is_listed.false)
 
 pub returns : goal.returns
 unfolding next_file

@@ -25,10 +25,10 @@ passed c = sym c.succeeded.ensures ∙ not-false c.succeeded.result c.if-not-suc
 
 -- TODO place Else-not-succeeded 
 ready : (c : goal.Else-not-succeeded) → (let a = c.args in Accepted a.g a.first.now)
-ready c = accepted _ _ (sym (ap succeeded (said c@After-log_in)) ∙ passed c)
+ready c = accepted _ _ (sym (ap succeeded (said c)) ∙ passed c)
 
 pub returns-then-not-succeeded : goal.returns-then-not-succeeded
-returns-then-not-succeeded c = let a = c.args in first_refused a.g a.first.now a.second.now (said c@After-log_in) (sym c.succeeded.ensures ∙ not-true c.succeeded.result c.if-not-succeeded.true)
+returns-then-not-succeeded c = let a = c.args in first_refused a.g a.first.now a.second.now (said c) (sym c.succeeded.ensures ∙ not-true c.succeeded.result c.if-not-succeeded.true)
 
 pub bytes-requires : goal.bytes-requires
 bytes-requires c = (ready c).law
@@ -36,16 +36,19 @@ bytes-requires c = (ready c).law
 pub returns-then-not-whole : goal.returns-then-not-whole
 returns-then-not-whole c =
     let a = c.args in
-    second_refused a.g a.first.now a.second.now (said c@After-log_in) (passed c@Else1)
-    (ap (λ (n : ℕ). eqb (length a.second.now) n) (sym c.bytes.ensures) ∙ not-true _ c.if-not-whole.true)
+    second_refused a.g a.first.now a.second.now (said c) (passed c)
+    (ap (λ (n : ℕ). eqb (length a.second.now) n) (sym c.bytes.ensures) ∙ c.if-not-whole.true)
 
 pub lay_out-requires : goal.lay_out-requires
 lay_out-requires c =
-    let r = ready c@Else1 in
-    ((r.law, (r.size, r.good)), eqb-true _ _ (not-false _ c.if-not-whole.false) ∙ c.bytes.ensures)
+    let r = ready c in
+    record {
+      accepted = (r.law, (r.size, r.good));
+      second_len = eqb-true _ _ c.if-not-whole.false ∙ c.bytes.ensures;
+    }
 
 pub returns : goal.returns
 returns c =
     let a = c.args in
-    copy_done a.g a.first.now a.second.now (said c@After-log_in) (passed c@Else1)
-    (ap (λ (n : ℕ). eqb (length a.second.now) n) (sym c.bytes.ensures) ∙ not-false _ c.if-not-whole.false) c.lay_out.ensures
+    copy_done a.g a.first.now a.second.now (said c) (passed c)
+    (ap (λ (n : ℕ). eqb (length a.second.now) n) (sym c.bytes.ensures) ∙ c.if-not-whole.false) c.lay_out.ensures

@@ -16,7 +16,11 @@ pub loop-k-init : goal.loop-k-init
 loop-k-init c = (refl, folded_start)
 
 pub lay_record-requires : goal.lay_record-requires
-lay_record-requires c = ((c.requires.volume.0, c.loop-k.invariant.0 ∙ c.requires.volume.1), (c.requires.b_bound, length-replicate {A = ℕ} 128 229))
+lay_record-requires c =
+    record {
+      volume = (c.requires.volume.0, c.loop-k.invariant.0 ∙ c.requires.volume.1);
+      b_bound = (c.requires.b_bound, length-replicate {A = ℕ} 128 229);
+    }
 
 pub loop-k-preserved : goal.loop-k-preserved
 loop-k-preserved c =

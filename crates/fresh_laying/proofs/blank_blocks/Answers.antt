@@ -11,7 +11,11 @@ pub loop-i-init : goal.loop-i-init
 loop-i-init c = (refl, from_start)
 
 pub blank_block-requires : goal.blank_block-requires
-blank_block-requires c = ((c.requires.volume.0, c.loop-i.invariant.0 ∙ c.requires.volume.1), c.loop-i-test.true)
+blank_block-requires c =
+    record {
+      volume = (c.requires.volume.0, c.loop-i.invariant.0 ∙ c.requires.volume.1);
+      b_bound = c.loop-i-test.true;
+    }
 
 pub loop-i-preserved : goal.loop-i-preserved
 loop-i-preserved c =

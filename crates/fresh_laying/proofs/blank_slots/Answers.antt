@@ -15,7 +15,10 @@ loop-i-init c = (refl, from_start)
 
 pub lay_slot-requires : goal.lay_slot-requires
 lay_slot-requires c =
-    ((c.requires.volume.0, c.loop-i.invariant.0 ∙ c.requires.volume.1), (omega (arith, c.loop-i-test.true, c.slots-n.ensures.0), length-replicate {A = ℕ} 32 229))
+    record {
+      volume = (c.requires.volume.0, c.loop-i.invariant.0 ∙ c.requires.volume.1);
+      k_bound = (omega (arith, c.loop-i-test.true, c.slots-n.ensures.0), length-replicate {A = ℕ} 32 229);
+    }
 
 pub loop-i-preserved : goal.loop-i-preserved
 loop-i-preserved c =

@@ -36,12 +36,15 @@ move_blocks-next-requires c =
     )
 
 pub slice_bounds-lay_slot-end : goal.slice_bounds-lay_slot-end
-slice_bounds-lay_slot-end c = sym (c.move_blocks-next.auto.1.1.1.1.0 ∙ long c@After-new3)
+slice_bounds-lay_slot-end c = sym (c.move_blocks-next.auto.1.1.1.1.0 ∙ long c)
 
 pub lay_slot-requires : goal.lay_slot-requires
 lay_slot-requires c =
     let m = c.move_blocks-next in
-    ((c.requires.volume_and.0, m.auto.1.1.1.0 ∙ c.requires.volume_and.1.1), (c.requires.i_bound.1.0, m.auto.1.1.1.1.0 ∙ long c@After-new3))
+    record {
+      volume = (c.requires.volume_and.0, m.auto.1.1.1.0 ∙ c.requires.volume_and.1.1);
+      k_bound = (c.requires.i_bound.1.0, m.auto.1.1.1.1.0 ∙ long c);
+    }
 
 pub shape_of-second : goal.shape_of-second
 shape_of-second c = c.lay_slot.auto.1.0 ∙ c.move_blocks-next.auto.1.1.1.0

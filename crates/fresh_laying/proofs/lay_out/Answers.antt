@@ -9,18 +9,29 @@ pub slice_bounds-order_of-end : goal.slice_bounds-order_of-end
 slice_bounds-order_of-end c = sym (length-replicate {A = ℕ} 2048 0)
 
 pub order_of-m-requires : goal.order_of-m-requires
-order_of-m-requires c = (c.requires.accepted, length-replicate {A = ℕ} 2048 0)
+order_of-m-requires c =
+    record {
+      accepted = c.requires.accepted;
+      kept_len = length-replicate {A = ℕ} 2048 0;
+    }
 
 pub slice_bounds-lay_entries-end : goal.slice_bounds-lay_entries-end
 slice_bounds-lay_entries-end c = sym c.order_of-m.ensures.room
 
 pub lay_entries-next-requires : goal.lay_entries-next-requires
-lay_entries-next-requires c = ((c.requires.accepted, c.requires.second_len), c.order_of-m.ensures)
+lay_entries-next-requires c =
+    record {
+      accepted = (c.requires.accepted, c.requires.second_len);
+      in_order = c.order_of-m.ensures;
+    }
 
 pub blank_slots-requires : goal.blank_slots-requires
 blank_slots-requires c =
     let o = c.order_of-m in
-    ((c.requires.accepted.0, c.lay_entries-next.auto.1.1.1.1.0 ∙ c.requires.second_len), kept_few c.args.g c.args.first.now c.requires.accepted o.new.1.1.0 o.result o.ensures)
+    record {
+      volume = (c.requires.accepted.0, c.lay_entries-next.auto.1.1.1.1.0 ∙ c.requires.second_len);
+      k_bound = kept_few c.args.g c.args.first.now c.requires.accepted o.new.1.1.0 o.result o.ensures;
+    }
 
 pub blank_blocks-requires : goal.blank_blocks-requires
 blank_blocks-requires c =

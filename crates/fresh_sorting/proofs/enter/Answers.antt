@@ -71,4 +71,7 @@ returns c =
     let a = c.args in
     let z : l.k ≡ 0 = omega arith in
     let o = subst (λ (x : ℕ). Opened a.kept.now a.m a.key l.auto x) z l.invariant in
-    (opened_none a.kept.now a.m a.key l.auto o, length-set l.auto 0 a.key ∙ l.invariant.room)
+    record {
+      kept_after = opened_none a.kept.now a.m a.key l.auto o;
+      kept_len_unchanged = length-set l.auto 0 a.key ∙ l.invariant.room;
+    }

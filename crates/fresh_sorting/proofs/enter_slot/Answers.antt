@@ -24,7 +24,11 @@ returns-then-e c =
     (eq-eqb (byte (slot_at a.g a.volume.now a.i) 0) 229 (sym (ap (λ (l : List ℕ). byte l 0) e) ∙ c.if-e.true))
 
 pub key_of-key-requires : goal.key_of-key-requires
-key_of-key-requires c = (search rules, omega (arith, c.requires.i_bound.0, (bounds c.args.g c.requires.accepted.0).slots_high))
+key_of-key-requires c =
+    record {
+      volume_and = search rules;
+      i_lt_most_slots = omega (arith, c.requires.i_bound.0, (bounds c.args.g c.requires.accepted.0).slots_high);
+    }
 
 pub enter-requires : goal.enter-requires
 enter-requires c =

@@ -12,7 +12,11 @@ pub loop-i-init : goal.loop-i-init
 loop-i-init c = (omega arith, in_order_none c.args.g c.args.volume.now c.args.kept.now c.requires.kept_len)
 
 pub enter_slot-m-requires : goal.enter_slot-m-requires
-enter_slot-m-requires c = (c.requires.accepted, (omega (arith, c.loop-i-test.true, c.slots-n.ensures.0), c.loop-i.invariant.1))
+enter_slot-m-requires c =
+    record {
+      accepted = c.requires.accepted;
+      i_bound = (omega (arith, c.loop-i-test.true, c.slots-n.ensures.0), c.loop-i.invariant.1);
+    }
 
 pub overflow_add-i : goal.overflow_add-i
 overflow_add-i c = omega arith

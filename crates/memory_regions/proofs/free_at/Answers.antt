@@ -27,16 +27,16 @@ pub returns-then-part-region : goal.returns-then-part-region
 returns-then-part-region c =
     let a = c.args in
     let l = take a.m a.t1 in
-    let w = freed_whole a.part (take a.m a.t1) a.at (first c@Start) (c.if-part-region.true ∙ ap (λ (s : Span). s.length) (sym (here c@Start))) in
-    let n = without_length (take a.m a.t1) a.at (omega (arith, size c@Start, c.requires.1.1.0)) in
-    places_are (freed a.part (take a.m a.t1)) _ _ (c.without_region-list.ensures ∙ ap (padded 8) (sym w)) (rw w (omega (arith, n, size c@Start)))
+    let w = freed_whole a.part (take a.m a.t1) a.at (first c) (c.if-part-region.true ∙ ap (λ (s : Span). s.length) (sym (here c))) in
+    let n = without_length (take a.m a.t1) a.at (omega (arith, size c, c.requires.1.1.0)) in
+    places_are (freed a.part (take a.m a.t1)) _ _ (c.without_region-list.ensures ∙ ap (padded 8) (sym w)) (rw w (omega (arith, n, size c)))
 
 pub rest-requires : goal.rest-requires
-rest-requires c = (ap (edge c.args.part) (sym (here c@Start)) ∙ (first c@Start).matches, (c.if-part-region.false, c.requires.1.1.1))
+rest-requires c = (ap (edge c.args.part) (sym (here c)) ∙ (first c).matches, (c.if-part-region.false, c.requires.1.1.1))
 
 pub returns : goal.returns
 returns c =
     let a = c.args in
-    let w = freed_rest a.part (take a.m a.t1) a.at c.rest.result (first c@Start) (ap (left a.part) (here c@Start) ∙ c.rest.ensures) in
-    let n = with_length (take a.m a.t1) a.at c.rest.result (omega (arith, size c@Start, c.requires.1.1.0)) in
-    places_are (freed a.part (take a.m a.t1)) _ _ (c.with_region-list.ensures ∙ ap (padded 8) (sym w)) (rw w (sym (n ∙ size c@Start)))
+    let w = freed_rest a.part (take a.m a.t1) a.at c.rest.result (first c) (ap (left a.part) (here c) ∙ c.rest.ensures) in
+    let n = with_length (take a.m a.t1) a.at c.rest.result (omega (arith, size c, c.requires.1.1.0)) in
+    places_are (freed a.part (take a.m a.t1)) _ _ (c.with_region-list.ensures ∙ ap (padded 8) (sym w)) (rw w (sym (n ∙ size c)))

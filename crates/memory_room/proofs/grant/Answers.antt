@@ -25,4 +25,4 @@ pub returns : goal.returns
 unfolding grant_of
 returns c =
     let a = c.args in
-    c.grant_at.ensures ∙ ap (λ (s : ℕ). grant_at (take a.n a.pieces) (take a.m a.regions) s a.need a.most) (start_is c@Joined1)
+    c.grant_at.ensures ∙ ap (λ (s : ℕ). grant_at (take a.n a.pieces) (take a.m a.regions) s a.need a.most) (start_is c)

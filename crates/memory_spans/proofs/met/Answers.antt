@@ -9,10 +9,10 @@ facts : (c : goal.Then-from-to) → Meets c.args.region c.args.start c.args.stop
 facts c = meets_facts c.args.region c.args.start c.args.stop (rw (c.wide-from.ensures.0, c.end_of-to.ensures.0) at c.if-from-to.true)
 
 pub returns-then-from-start : goal.returns-then-from-start
-returns-then-from-start c = let a = c.args in (c.requires, (omega arith, met_at_start a.region a.start a.stop (facts c@Then1) (rw c.wide-from.ensures.0 at c.if-from-start.true)))
+returns-then-from-start c = let a = c.args in (c.requires, (omega arith, met_at_start a.region a.start a.stop (facts c) (rw c.wide-from.ensures.0 at c.if-from-start.true)))
 
 pub returns-else-from-start : goal.returns-else-from-start
-returns-else-from-start c = let a = c.args in (omega (arith, (facts c@Then1).ahead, c.wide-from.ensures.0), (c.if-from-start.false, rw c.wide-from.ensures.0 (met_ahead a.region a.start a.stop (facts c@Then1))))
+returns-else-from-start c = let a = c.args in (omega (arith, (facts c).ahead, c.wide-from.ensures.0), (c.if-from-start.false, rw c.wide-from.ensures.0 (met_ahead a.region a.start a.stop (facts c))))
 
 pub returns-else-from-to : goal.returns-else-from-to
 returns-else-from-to c = let a = c.args in (omega arith, (c.requires, met_never a.region a.start a.stop (rw (c.wide-from.ensures.0, c.end_of-to.ensures.0) at c.if-from-to.false)))

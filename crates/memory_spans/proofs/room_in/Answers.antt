@@ -13,13 +13,13 @@ here : (c : goal.Then-covers) → Covers c.args.piece c.args.start
 here c = covers_facts c.args.piece c.args.start (sym c.covers.ensures ∙ c.if-covers.true)
 
 pub first_taken-requires : goal.first_taken-requires
-first_taken-requires c = (c.requires, omega (arith, (here c@Then1).below, c.end_of-stop.ensures.0))
+first_taken-requires c = (c.requires, omega (arith, (here c).below, c.end_of-stop.ensures.0))
 
 pub returns-then-covers : goal.returns-then-covers
 returns-then-covers c =
     let a = c.args in
     let f = c.first_taken.ensures in
-    (rw (f.0, c.end_of-stop.ensures.0) (sym (room_within a.piece (take a.n a.regions) a.start (sym c.covers.ensures ∙ c.if-covers.true))), omega (arith, (here c@Then1).from, f.1.1, c.end_of-stop.ensures.1.1))
+    (rw (f.0, c.end_of-stop.ensures.0) (sym (room_within a.piece (take a.n a.regions) a.start (sym c.covers.ensures ∙ c.if-covers.true))), omega (arith, (here c).from, f.1.1, c.end_of-stop.ensures.1.1))
 
 pub returns-else-covers : goal.returns-else-covers
 returns-else-covers c =

@@ -11,7 +11,11 @@ use Rattle.replay_script.proofs.header_of.Goals as goal
 
 pub returns-then-not-good : goal.returns-then-not-good
 unfolding header_of
-returns-then-not-good c = (rw (← c.four_at-length.ensures, not-true (leb 10 (length c.args.s.now) && leb c.four_at-length.result longest_volume) c.if-not-good.true), tt)
+returns-then-not-good c =
+    record {
+      value = rw (← c.four_at-length.ensures, not-true (leb 10 (length c.args.s.now) && leb c.four_at-length.result longest_volume) c.if-not-good.true);
+      at_most = tt;
+    }
 
 pub returns : goal.returns
 unfolding header_of

@@ -10,13 +10,21 @@ use Rattle.replay_script.proofs.next_of.Goals as goal
 
 pub returns-then-s-eq0 : goal.returns-then-s-eq0
 unfolding next_of
-returns-then-s-eq0 c = (rw (eq-eqb _ _ c.if-s-eq0.true), tt)
+returns-then-s-eq0 c =
+    record {
+      value = rw (eq-eqb _ _ c.if-s-eq0.true);
+      within = tt;
+    }
 
 pub returns-then-not-good : goal.returns-then-not-good
-returns-then-not-good c = (next_bad c.args.s.now c.byte_at-function.ensures (c.wide-fcb.ensures.0 ∙ c.byte_at.ensures) c.two_at-buffer.ensures.0 c.is_known.ensures c.if-s-eq0.false c.if-not-good.true, tt)
+returns-then-not-good c =
+    record {
+      value = next_bad c.args.s.now c.byte_at-function.ensures (c.wide-fcb.ensures.0 ∙ c.byte_at.ensures) c.two_at-buffer.ensures.0 c.is_known.ensures c.if-s-eq0.false c.if-not-good.true;
+      within = tt;
+    }
 
 pub returns : goal.returns
 returns c = (
   next_call c.args.s.now c.byte_at-function.ensures (c.wide-fcb.ensures.0 ∙ c.byte_at.ensures) c.two_at-buffer.ensures.0 c.is_known.ensures c.if-s-eq0.false c.byte_at-parameter.result c.byte_at-parameter.ensures c.if-not-good.false,
-  (omega (arith, c.wide-fcb.ensures.1), (omega (arith, c.two_at-buffer.ensures.1), leb-true _ _ (and_left _ _ (not-false _ c.if-not-good.false)))),
+  (omega (arith, c.wide-fcb.ensures.1), (omega (arith, c.two_at-buffer.ensures.1), leb-true _ _ (and_left _ _ c.if-not-good.false))),
 )

@@ -27,7 +27,7 @@ next : (c : tie.After-after-read invariant-loop decreases-loop) → Next c.befor
 next c = next_read _ _ _ c.after_read.ensures c.before.before.before.before.before.before.before.loop.invariant.of_volumes
 
 pub loop-more-smaller : goal.loop-more-smaller
-loop-more-smaller c = rw c.loop-more-test.true (next c@After-after_read).fewer
+loop-more-smaller c = rw c.loop-more-test.true (next c).fewer
 
 pub loop-more-preserved : goal.loop-more-preserved
-loop-more-preserved c = record { long = search rules; of_volumes = (next c@After-after_read).of_volumes }
+loop-more-preserved c = record { long = search rules; of_volumes = (next c).of_volumes }

@@ -23,21 +23,31 @@ succeeded_is c = sym (c.succeeded.ensures ∙ ap (λ (r : Reply). succeeded r.an
 
 -- TODO place Then-not-succeeded 
 was_refused : (c : goal.Then-not-succeeded) → (let a = c.args in succeeded (log_in a.g a.volume.now).answer ≡ false)
-was_refused c = succeeded_is c@After-succeeded ∙ not-true c.succeeded.result c.if-not-succeeded.true
+was_refused c = succeeded_is c ∙ not-true c.succeeded.result c.if-not-succeeded.true
 
 -- TODO place Else-not-succeeded 
 was_accepted : (c : goal.Else-not-succeeded) → (let a = c.args in succeeded (log_in a.g a.volume.now).answer ≡ true)
-was_accepted c = succeeded_is c@After-succeeded ∙ not-false c.succeeded.result c.if-not-succeeded.false
+was_accepted c = succeeded_is c ∙ not-false c.succeeded.result c.if-not-succeeded.false
 
 pub returns-then-not-succeeded : goal.returns-then-not-succeeded
-returns-then-not-succeeded c = (said_is c@After-number, c.refused_one-alone.ensures ∙ sym (one_refused _ _ (was_refused c@Then1)))
+returns-then-not-succeeded c =
+    record {
+      said_value = said_is c;
+      alone_value = c.refused_one-alone.ensures ∙ sym (one_refused _ _ (was_refused c));
+    }
 
 pub take_stock-stock-requires : goal.take_stock-stock-requires
 take_stock-stock-requires c =
-    let a = accepted _ _ (was_accepted c@Else1) in
+    let a = accepted _ _ (was_accepted c) in
     let free = c.value.ensures ∙ ap (λ (r : Reply). value_of r.answer) c.log_in-reply.ensures ∙ ap value_of a.answer in
-    ((a.law, a.size), (a.good, free))
+    record {
+      volume = (a.law, a.size);
+      volume_value = (a.good, free);
+    }
 
 pub returns : goal.returns
 returns c =
-    (said_is c@After-number, c.accepted_one-alone.ensures ∙ ap (λ (h : Holdings). accepted_one h) c.take_stock-stock.ensures ∙ sym (one_accepted _ _ (was_accepted c@Else1)))
+    record {
+      said_value = said_is c;
+      alone_value = c.accepted_one-alone.ensures ∙ ap (λ (h : Holdings). accepted_one h) c.take_stock-stock.ensures ∙ sym (one_accepted _ _ (was_accepted c));
+    }

@@ -30,7 +30,7 @@ pub offset_bounds-nodes-s : goal.offset_bounds-nodes-s
 offset_bounds-nodes-s c = omega (arith, in_directory c, (bounds _ c.requires.volume.0).slots_high, c.requires.i_bound.0)
 
 pub bounds-nodes-s : goal.bounds-nodes-s
-bounds-nodes-s c = omega (arith, in_directory c@In-loop, (bounds _ c.requires.volume.0).slots_high, c.requires.i_bound.0, c.requires.nodes.long)
+bounds-nodes-s c = omega (arith, in_directory c, (bounds _ c.requires.volume.0).slots_high, c.requires.i_bound.0, c.requires.nodes.long)
 
 pub is_here-requires : goal.is_here-requires
 is_here-requires c =
@@ -39,7 +39,7 @@ is_here-requires c =
     let some : 0 < l.s = omega arith in
     let first = walk_listed a.g a.volume.now a.user (strip a.name.now) a.i l.s l.rest l.last l.bit l.invariant some in (
       c.requires.volume,
-      ((omega (arith, in_directory c@In-loop, c.requires.i_bound.0), ap (λ (x : ℕ). x / 16777216) c.word-node.ensures.0 ∙ c.requires.nodes.keyed (l.s - 1) (in_directory c@In-loop) first), (c.requires.i_bound.1.0, c.requires.key_value.0)),
+      ((omega (arith, in_directory c, c.requires.i_bound.0), ap (λ (x : ℕ). x / 16777216) c.word-node.ensures.0 ∙ c.requires.nodes.keyed (l.s - 1) (in_directory c) first), (c.requires.i_bound.1.0, c.requires.key_value.0)),
     )
 
 pub returns-then-is_here : goal.returns-then-is_here
@@ -47,8 +47,11 @@ returns-then-is_here c =
     let a = c.args in
     let l = c.loop-s in
     let some : 0 < l.s = omega arith in
-    let low : l.s ≤ a.i = omega (arith, in_directory c@In-loop) in
-    (sym (walk_hit a.g a.volume.now a.user (strip a.name.now) a.i l.s some low (sym c.is_here.ensures ∙ c.if-is_here.true)), λ e. absurd (true≢false e))
+    let low : l.s ≤ a.i = omega (arith, in_directory c) in
+    record {
+      seen_value = sym (walk_hit a.g a.volume.now a.user (strip a.name.now) a.i l.s some low (sym c.is_here.ensures ∙ c.if-is_here.true));
+      ended = λ e. absurd (true≢false e);
+    }
 
 -- where the way goes on by the word of the slot
 told : (c : tie.After-next-in invariant-loop decreases-loop) → (let l = c.before.before.before.before.before.before.loop in c.next-in.result ≡ next_in (l.rest % 2) (byte c.before.before.before.before.before.before.before.before.before.before.args.nodes.now (l.s - 1)))
@@ -59,7 +62,7 @@ loop-s-smaller c =
     let a = c.args in
     let l = c.loop-s in
     let some : 0 < l.s = omega arith in
-    let low : l.s ≤ a.i = omega (arith, in_directory c@In-loop) in
+    let low : l.s ≤ a.i = omega (arith, in_directory c) in
     behind_less a.i l.s c.next_in-s.result some low
     (walk_rises a.g a.volume.now a.user (strip a.name.now) a.i l.s l.rest l.last l.bit l.invariant some a.nodes.now c.requires.nodes c.next_in-s.result (told c))
     (walk_below a.g a.volume.now a.user (strip a.name.now) a.i l.s l.rest l.last l.bit l.invariant some a.nodes.now c.requires.nodes c.next_in-s.result (told c))

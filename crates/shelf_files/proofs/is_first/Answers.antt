@@ -32,11 +32,11 @@ told c =
 -- TODO place Else-way 
 -- a first entry, and where the way of its key ended
 listed : (c : goal.Else-way) → (let a = c.args in is_listed a.g a.volume.now (slot_at a.g a.volume.now a.i) a.i ≡ true)
-listed c = rw (← c.requires.i_bound.1.1) (sym (told c@After-follow) ∙ ap not c.if-way.false)
+listed c = rw (← c.requires.i_bound.1.1) (sym (told c) ∙ ap not c.if-way.false)
 
 -- TODO place Else-way 
 ended : (c : goal.Else-way) → (let a = c.args in Ended a.g a.volume.now a.i (entry_key (slot_at a.g a.volume.now a.i)) c.follow-way.result.last c.follow-way.result.bit)
-ended c = rw (own c@After-key_of-arg) at (c.follow-way.ensures.ended c.if-way.false)
+ended c = rw (own c) at (c.follow-way.ensures.ended c.if-way.false)
 
 -- TODO place Start 
 few : (c : goal.Start) → c.args.i < 2048
@@ -55,15 +55,18 @@ follow-way-requires c =
 pub returns-then-way : goal.returns-then-way
 returns-then-way c =
     let a = c.args in
-    let seen = sym (ap not c.if-way.true) ∙ told c@After-follow in
+    let seen = sym (ap not c.if-way.true) ∙ told c in
     let other : is_listed a.g a.volume.now (slot_at a.g a.volume.now a.i) a.i ≡ false = rw (← c.requires.i_bound.1.1) (sym seen) in
-    (seen, (heads_still a.g a.volume.now a.i other c.requires.e_value.1.0, nodes_still a.g a.volume.now a.i other c.requires.e_value.1.1))
+    record {
+      value = seen;
+      heads = (heads_still a.g a.volume.now a.i other c.requires.e_value.1.0, nodes_still a.g a.volume.now a.i other c.requires.e_value.1.1);
+    }
 
 pub link-requires : goal.link-requires
 link-requires c =
     let a = c.args in
-    let first = listed c@Else1 in
-    let end = ended c@Else1 in
+    let first = listed c in
+    let end = ended c in
     let way = c.follow-way.result in (
       (c.requires.e_value.1.0.many, c.requires.e_value.1.1.long),
       (
@@ -76,21 +79,21 @@ link-requires c =
     )
 
 pub offset_bounds-nodes-i : goal.offset_bounds-nodes-i
-offset_bounds-nodes-i c = omega (arith, few c@Start)
+offset_bounds-nodes-i c = omega (arith, few c)
 
 pub bounds-nodes-i : goal.bounds-nodes-i
-bounds-nodes-i c = omega (arith, few c@Start, c.requires.e_value.1.1.long)
+bounds-nodes-i c = omega (arith, few c, c.requires.e_value.1.1.long)
 
 pub returns : goal.returns
 returns c =
     let a = c.args in
-    let first = listed c@Else1 in
-    let end = ended c@Else1 in
+    let first = listed c in
+    let end = ended c in
     let way = c.follow-way.result in
     (
       rw c.requires.i_bound.1.1 (sym first),
       (
-        rw (c.link.ensures.heads_after, own c@After-key_of-arg) (linked_heads_lem a.g a.volume.now a.i (few s) first way.last way.bit end c.requires.e_value.1.0),
-        rw (c.link.ensures.nodes_after, own c@After-key_of-arg) (linked_nodes_lem a.g a.volume.now a.i (few s) first way.last way.bit end c.requires.e_value.1.1),
+        rw (c.link.ensures.heads_after, own c) (linked_heads_lem a.g a.volume.now a.i (few s) first way.last way.bit end c.requires.e_value.1.0),
+        rw (c.link.ensures.nodes_after, own c) (linked_nodes_lem a.g a.volume.now a.i (few s) first way.last way.bit end c.requires.e_value.1.1),
       ),
     )

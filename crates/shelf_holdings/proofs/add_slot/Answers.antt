@@ -45,7 +45,11 @@ is_first-first-requires c =
     let a = c.args in
     let at = c.slot_start-at in
     let e = lent_slot a.g a.volume.now a.i at.result at.ensures.0 in
-    (c.requires.volume, ((c.requires.i_bound.0, (search rules, e)), (rw e (used c@Else1), (c.requires.heads.0, c.requires.heads.1))))
+    record {
+      volume = c.requires.volume;
+      i_bound = (c.requires.i_bound.0, (search rules, e));
+      e_value = (rw e (used c), (c.requires.heads.0, c.requires.heads.1));
+    }
 
 pub overflow_add-files : goal.overflow_add-files
 overflow_add-files c = omega (arith, (bounds _ c.requires.volume.0).slots_high, c.requires.i_bound, c.one_if.ensures.1)
@@ -61,7 +65,7 @@ returns c =
     let a = c.args in
     let at = c.slot_start-at in
     let e = lent_slot a.g a.volume.now a.i at.result at.ensures.0 in
-    let here = used c@Else1 in
+    let here = used c in
     let first = c.is_first-first.ensures.value ∙ ap (λ (x : Entry). is_listed a.g a.volume.now x a.i) e in
     let one = c.one_if.ensures in
     let some = c.entry_records.ensures in (

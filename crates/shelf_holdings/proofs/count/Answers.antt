@@ -50,7 +50,11 @@ loop-i-init c =
 pub add_slot-c-requires : goal.add_slot-c-requires
 add_slot-c-requires c =
     let s = c.loop-i.invariant in
-    (search rules, ((search rules, (s.few_files, (s.few_entries, s.few_records))), (s.begin, s.go_on)))
+    record {
+      volume = search rules;
+      i_bound = (search rules, (s.few_files, (s.few_entries, s.few_records)));
+      heads = (s.begin, s.go_on);
+    }
 
 pub loop-i-preserved : goal.loop-i-preserved
 loop-i-preserved c =
@@ -71,4 +75,8 @@ pub returns : goal.returns
 unfolding files entries records_by_entries
 returns c =
     let s = c.loop-i.invariant in
-    (summed_end s.files_are (search rules) ∙ sym (count_sum _ 0 _), (summed_end s.entries_are (search rules) ∙ sym (count_sum _ 0 _), summed_end s.records_are (search rules)))
+    record {
+      files_value = summed_end s.files_are (search rules) ∙ sym (count_sum _ 0 _);
+      entries_value = summed_end s.entries_are (search rules) ∙ sym (count_sum _ 0 _);
+      records_value = summed_end s.records_are (search rules);
+    }

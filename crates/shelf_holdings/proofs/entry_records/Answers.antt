@@ -20,7 +20,11 @@ pub loop-p-init : goal.loop-p-init
 loop-p-init c = record { low = search rules; few = search rules; rest = omega arith; sum = summed_start }
 
 pub place_records-m-requires : goal.place_records-m-requires
-place_records-m-requires c = (search rules, c.loop-p.invariant.rest)
+place_records-m-requires c =
+    record {
+      g_value = search rules;
+      left_value = c.loop-p.invariant.rest;
+    }
 
 pub loop-p-preserved : goal.loop-p-preserved
 loop-p-preserved c =

@@ -18,13 +18,13 @@ returns-then-block_in-eq0 c = (sym (place_unused _ _ _ (sym c.block_in.ensures.0
 pub returns-then-left-r : goal.returns-then-left-r
 returns-then-left-r c =
     let a = c.args in
-    let is = place_used a.g a.e.now a.p a.left (used c@Else1) c.requires.left_value in
+    let is = place_used a.g a.e.now a.p a.left (used c) c.requires.left_value in
     let r = c.records-r.ensures in
     (omega arith, omega (arith, (bounds _ c.requires.g_value.0).block_high))
 
 pub returns-else-left-r : goal.returns-else-left-r
 returns-else-left-r c =
     let a = c.args in
-    let is = place_used a.g a.e.now a.p a.left (used c@Else1) c.requires.left_value in
+    let is = place_used a.g a.e.now a.p a.left (used c) c.requires.left_value in
     let r = c.records-r.ensures in
     (omega arith, omega (arith, (bounds _ c.requires.g_value.0).block_high))

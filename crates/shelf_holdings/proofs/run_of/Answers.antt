@@ -25,10 +25,10 @@ pub overflow_mul-result : goal.overflow_mul-result
 overflow_mul-result c = omega (arith, few_below c)
 
 pub overflow_add-result : goal.overflow_add-result
-overflow_add-result c = omega (arith, few_below c@After-extents, c.wide.ensures.0, c.count_of.ensures.1)
+overflow_add-result c = omega (arith, few_below c, c.wide.ensures.0, c.count_of.ensures.1)
 
 pub returns : goal.returns
 returns c =
     let a = c.args in
     let own : c.wide.result ≡ min (byte a.e.now 15) 128 = c.wide.ensures.0 ∙ c.count_of.ensures.0 ∙ count_own a.e.now c.extent_of-x.result c.extent_of-x.ensures.0 in
-    (rw (own, c.extent_of-x.ensures.0, c.extents.ensures), omega (arith, few_below c@After-extents, c.wide.ensures.0, c.count_of.ensures.1))
+    (rw (own, c.extent_of-x.ensures.0, c.extents.ensures), omega (arith, few_below c, c.wide.ensures.0, c.count_of.ensures.1))

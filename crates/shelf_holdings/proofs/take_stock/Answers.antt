@@ -24,23 +24,23 @@ held_are_lem c = omega (arith, (sums c).held_and_free, free_are c)
 
 -- TODO place After-count-c 
 records_are : (c : goal.After-count-c) → (let a = c.args in c.count-c.result.records ≡ records_present a.g a.volume.now)
-records_are c = let s = c@Start in c.count-c.ensures.records_value ∙ sym (by_entries s.args.g s.args.volume.now s.requires.0.0 s.requires.1.0)
+records_are c = let s = c in c.count-c.ensures.records_value ∙ sym (by_entries s.args.g s.args.volume.now s.requires.0.0 s.requires.1.0)
 
 pub overflow_sub-held : goal.overflow_sub-held
 overflow_sub-held c = omega (arith, (bounds _ c.requires.volume.0).directory_below)
 
 pub overflow_sub-held-2 : goal.overflow_sub-held-2
-overflow_sub-held-2 c = omega (arith, (sums c@Start).held_and_free, free_are c@Start)
+overflow_sub-held-2 c = omega (arith, (sums c).held_and_free, free_are c)
 
 pub overflow_mul-room : goal.overflow_mul-room
 overflow_mul-room c =
-    let s = sums c@Start in
-    rw (held_are_lem c@Start, c.records.ensures) (omega (arith, s.waste_and_records, s.waste_most, s.records_most))
+    let s = sums c in
+    rw (held_are_lem c, c.records.ensures) (omega (arith, s.waste_and_records, s.waste_most, s.records_most))
 
 pub overflow_sub-waste : goal.overflow_sub-waste
-overflow_sub-waste c = rw (held_are_lem c@Start, c.records.ensures, records_are c@After-count) (sums c@Start).never_below
+overflow_sub-waste c = rw (held_are_lem c, c.records.ensures, records_are c) (sums c).never_below
 
 pub returns : goal.returns
 unfolding holdings waste
 returns c =
-    rw (held_are_lem c@Start, free_are c@Start, c.count-c.ensures.files_value, c.count-c.ensures.entries_value, records_are c@After-count, c.records.ensures)
+    rw (held_are_lem c, free_are c, c.count-c.ensures.files_value, c.count-c.ensures.entries_value, records_are c, c.records.ensures)

@@ -11,7 +11,11 @@ pub loop-k-init : goal.loop-k-init
 loop-k-init c = (search rules, (search rules, filled_start))
 
 pub fill_record-requires : goal.fill_record-requires
-fill_record-requires c = ((c.requires.volume.0, c.loop-k.invariant.1.0), c.requires.block_bound)
+fill_record-requires c =
+    record {
+      volume = (c.requires.volume.0, c.loop-k.invariant.1.0);
+      block_bound = c.requires.block_bound;
+    }
 
 pub loop-k-preserved : goal.loop-k-preserved
 loop-k-preserved c =

@@ -29,11 +29,11 @@ used c =
 
 pub returns-then-not-has : goal.returns-then-not-has
 unfolding more_blocks
-returns-then-not-has c = (rw (seen c@After-has, not-true c.has.result c.if-not-has.true), search rules)
+returns-then-not-has c = (rw (seen c, not-true c.has.result c.if-not-has.true), search rules)
 
 pub overflow_add-result : goal.overflow_add-result
 overflow_add-result c = omega (arith, bounds _ c.requires.volume_and.0)
 
 pub returns : goal.returns
 unfolding more_blocks
-returns c = (rw (seen c@After-has, not-false c.has.result c.if-not-has.false, used c), search rules)
+returns c = (rw (seen c, not-false c.has.result c.if-not-has.false, used c), search rules)

@@ -19,11 +19,11 @@ seen c =
 
 pub returns-then-not-is_listed : goal.returns-then-not-is_listed
 unfolding line_at puts
-returns-then-not-is_listed c = rw (seen c@After-is_listed, not-true c.is_listed.result c.if-not-is_listed.true)
+returns-then-not-is_listed c = rw (seen c, not-true c.is_listed.result c.if-not-is_listed.true)
 
 pub returns : goal.returns
 unfolding line_at
 returns c =
     let a = c.args in
     let at = c.slot_start-s in
-    rw (seen c@After-is_listed, not-false c.is_listed.result c.if-not-is_listed.false, ← lent_slot a.g a.volume.now a.i at.result at.ensures.0) c.put_line.ensures
+    rw (seen c, not-false c.is_listed.result c.if-not-is_listed.false, ← lent_slot a.g a.volume.now a.i at.result at.ensures.0) c.put_line.ensures

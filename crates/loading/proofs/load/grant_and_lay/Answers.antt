@@ -19,7 +19,10 @@ lay_groups-requires c =
     let w = c.requires in
     let b = c.grant_all-next.ensures in
     let all = all_given c.args.h.now c.args.t c.args.n b c.if-count-m.false in
-    ((w.lent, (w.few, w.left)), (held w b all, w.whole))
+    record {
+      fcb_len = (w.lent, (w.few, w.left));
+      held = (held w b all, w.whole);
+    }
 
 pub slice_bounds-put_page-end : goal.slice_bounds-put_page-end
 slice_bounds-put_page-end c =

@@ -22,11 +22,11 @@ returns-then-not-is_kept c = rw (← c.is_kept.ensures, c.if-not-is_kept.true)
 
 pub returns-then-self-ge-VOLUMES : goal.returns-then-self-ge-VOLUMES
 unfolding put
-returns-then-self-ge-VOLUMES c = rw (self_kept c@Else1, le-leb _ _ c.if-self-ge-VOLUMES.true)
+returns-then-self-ge-VOLUMES c = rw (self_kept c, le-leb _ _ c.if-self-ge-VOLUMES.true)
 
 pub plus-shelf-requires : goal.plus-shelf-requires
-plus-shelf-requires c = (self_kept c@Else1, rw c.look-looked.ensures.alone_value (alone_kept c@After-look))
+plus-shelf-requires c = (self_kept c, rw c.look-looked.ensures.alone_value (alone_kept c))
 
 pub returns : goal.returns
 unfolding put
-returns c = rw (self_kept c@Else1, lt-leb _ _ c.if-self-ge-VOLUMES.false, c.plus-shelf.ensures, c.look-looked.ensures.said_value, c.look-looked.ensures.alone_value)
+returns c = rw (self_kept c, lt-leb _ _ c.if-self-ge-VOLUMES.false, c.plus-shelf.ensures, c.look-looked.ensures.said_value, c.look-looked.ensures.alone_value)
