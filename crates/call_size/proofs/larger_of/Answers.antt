@@ -1,5 +1,6 @@
 -- The branches are the definition's.
-use mathlib.Core.Path.{◌≡◌}
+use mathlib.Core.Bool.{not}
+use mathlib.Core.Path.{◌≡◌, ap}
 use native.Mathlib.Omega.{arith}
 use borrow.Author.Tests.{not-true, not-false}
 use borrow.Author.Rules.{rules}
@@ -14,11 +15,14 @@ pub returns-then-not-has : goal.returns-then-not-has
 unfolding larger
 returns-then-not-has c =
     let seen : (let a = c.args in of_file a.user (strip a.name.now) (slot_at a.g a.volume.now a.i) ≡ c.has.result) = (let a = c.args in
-      let at = c.slot_start-at in
-      rw (← lent_slot a.g a.volume.now a.i at.result at.ensures.0, c.has.ensures)) in
-    (rw (seen, not-true c.has.result c.if-not-has.true), search rules)
+    let at = c.slot_start-at in
+    rw (← lent_slot a.g a.volume.now a.i at.result at.ensures.0, c.has.ensures)) in
+    (rw (seen, c.if-not-has.true), search rules)
 
 pub returns : goal.returns
 unfolding larger
 returns c =
-    (rw (seen h, not-false c.has.result c.if-not-has.false) c.larger_at.ensures.0, c.larger_at.ensures.1)
+    let seen : (let a = c.args in of_file a.user (strip a.name.now) (slot_at a.g a.volume.now a.i) ≡ c.has.result) = (let a = c.args in
+    let at = c.slot_start-at in
+    rw (← lent_slot a.g a.volume.now a.i at.result at.ensures.0, c.has.ensures)) in
+    (rw (seen, c.if-not-has.false) c.larger_at.ensures.0, c.larger_at.ensures.1)

@@ -17,7 +17,7 @@ pub returns-then-is_none : goal.returns-then-is_none
 unfolding name_at part
 returns-then-is_none c =
     let why : (let a = c.args in c.refuse-why.result ≡ first_met (test NoMatch (leb (slots a.g) (find_slot a.g a.volume.now a.user (name_of a.fcb.now) File)) ∷ [])) = (let a = c.args in
-      rw (← ladder_one NoMatch (leb (slots a.g) (find_slot a.g a.volume.now a.user (name_of a.fcb.now) File)) refl, ← c.find-first.ensures.0, ← c.slots.ensures.0) c.refuse-why.ensures) in
+    rw (← ladder_one NoMatch (leb (slots a.g) (find_slot a.g a.volume.now a.user (name_of a.fcb.now) File)) refl, ← c.find-first.ensures.0, ← c.slots.ensures.0) c.refuse-why.ensures) in
     let n = sym c.is_none.ensures ∙ c.if-is_none.true in
     record {
       value = why;
@@ -28,7 +28,7 @@ pub returns-else-is_none : goal.returns-else-is_none
 unfolding name_at part
 returns-else-is_none c =
     let why : (let a = c.args in c.refuse-why.result ≡ first_met (test NoMatch (leb (slots a.g) (find_slot a.g a.volume.now a.user (name_of a.fcb.now) File)) ∷ [])) = (let a = c.args in
-      rw (← ladder_one NoMatch (leb (slots a.g) (find_slot a.g a.volume.now a.user (name_of a.fcb.now) File)) refl, ← c.find-first.ensures.0, ← c.slots.ensures.0) c.refuse-why.ensures) in
+    rw (← ladder_one NoMatch (leb (slots a.g) (find_slot a.g a.volume.now a.user (name_of a.fcb.now) File)) refl, ← c.find-first.ensures.0, ← c.slots.ensures.0) c.refuse-why.ensures) in
     let n = sym c.is_none.ensures ∙ c.if-is_none.false in
     record {
       value = why;
