@@ -10,11 +10,8 @@ use mathlib.Core.List.{List}
 use mathlib.Core.Bool.{Bool}
 use mathlib.Core.Path.{◌≡◌, sym, ◌∙◌}
 use borrow.Author.Rules.{rules}
+use Rattle.files.proofs.next_file.Invariants.{listed_at}
 use Rattle.files.proofs.next_file.Goals as goal
-
--- the test of slot j
-abbrev listed_at : Geometry → List ℕ → ℕ → Bool
-listed_at g volume j = is_listed g volume (slot_at g volume j) j
 
 -- what `is_listed` answered is the test of slot i
 seen : (c : tie.After-is-listed invariant-loop decreases-loop) → (let a = c.before.before.before.before.before.before.before.args in c.is-listed.result ≡ listed_at a.g a.volume.now c.before.before.before.before.loop.i)

@@ -12,6 +12,10 @@ use mathlib.Core.Path.{◌≡◌, sym, ◌∙◌}
 use borrow.Author.Rules.{rules}
 use Rattle.files.proofs.next_file.Given as goal
 
+-- the test of slot j
+abbrev pub listed_at : Geometry → List ℕ → ℕ → Bool
+listed_at g volume j = is_listed g volume (slot_at g volume j) j
+
 abbrev pub invariant-loop-i : goal.invariant-loop-i
 invariant-loop-i l = Searched (listed_at l.g l.volume) l.from (slots l.g) l.i
 

@@ -16,6 +16,17 @@ use Rattle.shelf_holdings.specs.CodeEntries.{slot_records, records_by_entries}
 use borrow.Author.Rules.{rules}
 use Rattle.shelf_holdings.proofs.count.Given as goal
 
+pub record SoFar (g : Geometry) (v heads nodes : List ℕ) (f e r i : ℕ) : Type 0 where
+  pub low : i ≤ slots g
+  pub few_files : f ≤ i
+  pub few_entries : e ≤ i
+  pub few_records : r ≤ 512 * i
+  pub files_are : Summed (λ j. cond (is_file g v j) 1 0) (slots g) f i
+  pub entries_are : Summed (λ j. cond (is_entry g v j) 1 0) (slots g) e i
+  pub records_are : Summed (slot_records g v) (slots g) r i
+  pub begin : Heads g v heads i
+  pub go_on : Nodes g v nodes i
+
 abbrev pub invariant-loop-i : goal.invariant-loop-i
 invariant-loop-i l = SoFar l.g l.volume l.heads l.nodes l.c.files l.c.entries l.c.records l.i
 
