@@ -1,8 +1,6 @@
 -- The size is refused, or a record, or none.
 use Rattle.load_records.proofs.ReadLaws.{rest_unsized, rest_read}
-use borrow.Author.Tests.{not-true, not-false}
 use mathlib.Core.Path.{sym, ◌∙◌}
-use borrow.Author.Rules.{rules}
 use Rattle.load_records.proofs.read_rest.Goals as goal
 
 pub returns-then-not-is_none : goal.returns-then-not-is_none
