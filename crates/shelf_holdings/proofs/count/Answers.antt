@@ -14,6 +14,7 @@ use Rattle.shelf_files.proofs.TreeLaws.{no_heads, no_nodes}
 use Rattle.shelf_holdings.specs.Holdings.{is_entry, entries, is_file, files}
 use Rattle.shelf_holdings.specs.CodeEntries.{slot_records, records_by_entries}
 use borrow.Author.Rules.{rules}
+use Rattle.shelf_holdings.proofs.count.Invariants.{SoFar}
 use Rattle.shelf_holdings.proofs.count.Goals as goal
 
 -- nothing is kept yet

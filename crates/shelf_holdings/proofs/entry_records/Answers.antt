@@ -8,6 +8,7 @@ use Rattle.disk_geometry.specs.declared.Geometry.{Geometry}
 use Rattle.disk_geometry.specs.Geometry.{records, places}
 use Rattle.shelf_holdings.specs.CodeEntries.{run, place_records, entry_records}
 use borrow.Author.Rules.{rules}
+use Rattle.shelf_holdings.proofs.entry_records.Invariants.{SoFar}
 use Rattle.shelf_holdings.proofs.entry_records.Goals as goal
 
 pub loop-p-init : goal.loop-p-init
