@@ -18,69 +18,69 @@ unfolding call_stores does
 returns-in-Delete c = λ (g : Geometry) h.
     let a = c.args in
     let d = joined a.front a.held.now in
-    rw c.enum_told-1.given.1 (buffer_kept a.buffer.now (own_stores d a.volume.now a.fcb.now [] a.left.now (delete_act d a.volume.now a.fcb.now) c.delete_most.ensures))
+    rw c.in-Delete.is (buffer_kept a.buffer.now (own_stores d a.volume.now a.fcb.now [] a.left.now (delete_act d a.volume.now a.fcb.now) c.delete_most.ensures))
 
 pub returns-in-Make : goal.returns-in-Make
 unfolding call_stores does
 returns-in-Make c = λ (g : Geometry) h.
     let a = c.args in
     let d = joined a.front a.held.now in
-    rw c.enum_told-in-Make-1.given.1 (buffer_kept a.buffer.now (own_stores d a.volume.now a.fcb.now [] a.left.now (make_act d a.volume.now a.fcb.now) (c.make_most.ensures a.held.now)))
+    rw c.in-Make.is (buffer_kept a.buffer.now (own_stores d a.volume.now a.fcb.now [] a.left.now (make_act d a.volume.now a.fcb.now) (c.make_most.ensures a.held.now)))
 
 pub returns-in-Rename : goal.returns-in-Rename
 unfolding call_stores does
 returns-in-Rename c = λ (g : Geometry) h.
     let a = c.args in
     let d = joined a.front a.held.now in
-    rw c.enum_told-in-Rename-1.given.1 (buffer_kept a.buffer.now (own_stores d a.volume.now a.fcb.now [] a.left.now (rename_act d a.volume.now a.fcb.now) (c.rename_most.ensures a.held.now)))
+    rw c.in-Rename.is (buffer_kept a.buffer.now (own_stores d a.volume.now a.fcb.now [] a.left.now (rename_act d a.volume.now a.fcb.now) (c.rename_most.ensures a.held.now)))
 
 pub returns-in-Attributes : goal.returns-in-Attributes
 unfolding call_stores does
 returns-in-Attributes c = λ (g : Geometry) h.
     let a = c.args in
     let d = joined a.front a.held.now in
-    rw c.enum_told-in-Attributes-1.given.1 (buffer_kept a.buffer.now (own_stores d a.volume.now a.fcb.now [] a.left.now (attributes_act d a.volume.now a.fcb.now) (c.attributes_most.ensures a.held.now)))
+    rw c.in-Attributes.is (buffer_kept a.buffer.now (own_stores d a.volume.now a.fcb.now [] a.left.now (attributes_act d a.volume.now a.fcb.now) (c.attributes_most.ensures a.held.now)))
 
 pub returns-in-Moves : goal.returns-in-Moves
 unfolding call_stores does
-returns-in-Moves c = λ (g : Geometry) h. rw c.kind-1.given.1 (c.write.ensures (ap (λ (k : Call). changes (way_of k)) (sym c.kind-1.given.1) ∙ h))
+returns-in-Moves c = λ (g : Geometry) h. rw c.in-Moves.is (c.write.ensures (ap (λ (k : Call). changes (way_of k)) (sym c.in-Moves.is) ∙ h))
 
 pub returns-in-LogIn : goal.returns-in-LogIn
 unfolding call_stores does
-returns-in-LogIn c = λ (g : Geometry) h. absurd (false≢true (ap (λ (k : Call). changes (way_of k)) (sym c.enum_told-in-LogIn-1.given.1) ∙ h))
+returns-in-LogIn c = λ (g : Geometry) h. absurd (false≢true (ap (λ (k : Call). changes (way_of k)) (sym c.in-LogIn.is) ∙ h))
 
 pub returns-in-Open : goal.returns-in-Open
 unfolding call_stores does
-returns-in-Open c = λ (g : Geometry) h. absurd (false≢true (ap (λ (k : Call). changes (way_of k)) (sym c.enum_told-in-Open-1.given.1) ∙ h))
+returns-in-Open c = λ (g : Geometry) h. absurd (false≢true (ap (λ (k : Call). changes (way_of k)) (sym c.in-Open.is) ∙ h))
 
 pub returns-in-Close : goal.returns-in-Close
 unfolding call_stores does
-returns-in-Close c = λ (g : Geometry) h. absurd (false≢true (ap (λ (k : Call). changes (way_of k)) (sym c.enum_told-in-Close-1.given.1) ∙ h))
+returns-in-Close c = λ (g : Geometry) h. absurd (false≢true (ap (λ (k : Call). changes (way_of k)) (sym c.in-Close.is) ∙ h))
 
 pub returns-in-SearchFirst : goal.returns-in-SearchFirst
 unfolding call_stores does
-returns-in-SearchFirst c = λ (g : Geometry) h. absurd (false≢true (ap (λ (k : Call). changes (way_of k)) (sym c.enum_told-in-SearchFirst-1.given.1) ∙ h))
+returns-in-SearchFirst c = λ (g : Geometry) h. absurd (false≢true (ap (λ (k : Call). changes (way_of k)) (sym c.in-SearchFirst.is) ∙ h))
 
 pub returns-in-SearchNext : goal.returns-in-SearchNext
 unfolding call_stores does
-returns-in-SearchNext c = λ (g : Geometry) h. absurd (false≢true (ap (λ (k : Call). changes (way_of k)) (sym c.enum_told-in-SearchNext-1.given.1) ∙ h))
+returns-in-SearchNext c = λ (g : Geometry) h. absurd (false≢true (ap (λ (k : Call). changes (way_of k)) (sym c.in-SearchNext.is) ∙ h))
 
 pub returns-in-Protect : goal.returns-in-Protect
 unfolding call_stores does
-returns-in-Protect c = λ (g : Geometry) h. absurd (false≢true (ap (λ (k : Call). changes (way_of k)) (sym c.enum_told-in-Protect-1.given.1) ∙ h))
+returns-in-Protect c = λ (g : Geometry) h. absurd (false≢true (ap (λ (k : Call). changes (way_of k)) (sym c.in-Protect.is) ∙ h))
 
 pub returns-in-User : goal.returns-in-User
 unfolding call_stores does
-returns-in-User c = λ (g : Geometry) h. absurd (false≢true (ap (λ (k : Call). changes (way_of k)) (sym c.enum_told-in-User-1.given.1) ∙ h))
+returns-in-User c = λ (g : Geometry) h. absurd (false≢true (ap (λ (k : Call). changes (way_of k)) (sym c.in-User.is) ∙ h))
 
 pub returns-in-Size : goal.returns-in-Size
 unfolding call_stores does
-returns-in-Size c = λ (g : Geometry) h. absurd (false≢true (ap (λ (k : Call). changes (way_of k)) (sym c.enum_told-in-Size-1.given.1) ∙ h))
+returns-in-Size c = λ (g : Geometry) h. absurd (false≢true (ap (λ (k : Call). changes (way_of k)) (sym c.in-Size.is) ∙ h))
 
 pub returns-in-SetRandom : goal.returns-in-SetRandom
 unfolding call_stores does
-returns-in-SetRandom c = λ (g : Geometry) h. absurd (false≢true (ap (λ (k : Call). changes (way_of k)) (sym c.enum_told-in-SetRandom-1.given.1) ∙ h))
+returns-in-SetRandom c = λ (g : Geometry) h. absurd (false≢true (ap (λ (k : Call). changes (way_of k)) (sym c.in-SetRandom.is) ∙ h))
 
 pub returns-in-Unserved : goal.returns-in-Unserved
 unfolding call_stores does
-returns-in-Unserved c = λ (g : Geometry) h. absurd (false≢true (ap (λ (k : Call). changes (way_of k)) (sym c.enum_told-in-Unserved-1.given.1) ∙ h))
+returns-in-Unserved c = λ (g : Geometry) h. absurd (false≢true (ap (λ (k : Call). changes (way_of k)) (sym c.in-Unserved.is) ∙ h))

@@ -11,28 +11,28 @@ use Rattle.bdos.proofs.read.Goals as goal
 
 pub returns-in-ReadSequential : goal.returns-in-ReadSequential
 unfolding carries
-returns-in-ReadSequential c = λ (held : List ℕ) h. rw c.enum_told-1.given.1 (c.read_sequential.ensures held)
+returns-in-ReadSequential c = λ (held : List ℕ) h. rw c.in-ReadSequential.is (c.read_sequential.ensures held)
 
 pub returns-in-ReadRandom : goal.returns-in-ReadRandom
 unfolding carries
-returns-in-ReadRandom c = λ (held : List ℕ) h. rw c.enum_told-in-ReadRandom-1.given.1 (c.read_random.ensures held)
+returns-in-ReadRandom c = λ (held : List ℕ) h. rw c.in-ReadRandom.is (c.read_random.ensures held)
 
 pub returns-in-ReadSeveral : goal.returns-in-ReadSeveral
 unfolding carries
-returns-in-ReadSeveral c = λ (held : List ℕ) h. rw c.enum_told-in-ReadSeveral-1.given.1 (c.read.ensures held)
+returns-in-ReadSeveral c = λ (held : List ℕ) h. rw c.in-ReadSeveral.is (c.read.ensures held)
 
 pub returns-in-WriteSequential : goal.returns-in-WriteSequential
 unfolding carries
-returns-in-WriteSequential c = λ (held : List ℕ) h. absurd (false≢true (ap (λ (k : Transfer). asks (way_moved k)) (sym c.enum_told-in-WriteSequential-1.given.1) ∙ h))
+returns-in-WriteSequential c = λ (held : List ℕ) h. absurd (false≢true (ap (λ (k : Transfer). asks (way_moved k)) (sym c.in-WriteSequential.is) ∙ h))
 
 pub returns-in-WriteRandom : goal.returns-in-WriteRandom
 unfolding carries
-returns-in-WriteRandom c = λ (held : List ℕ) h. absurd (false≢true (ap (λ (k : Transfer). asks (way_moved k)) (sym c.enum_told-in-WriteRandom-1.given.1) ∙ h))
+returns-in-WriteRandom c = λ (held : List ℕ) h. absurd (false≢true (ap (λ (k : Transfer). asks (way_moved k)) (sym c.in-WriteRandom.is) ∙ h))
 
 pub returns-in-WriteZeroFill : goal.returns-in-WriteZeroFill
 unfolding carries
-returns-in-WriteZeroFill c = λ (held : List ℕ) h. absurd (false≢true (ap (λ (k : Transfer). asks (way_moved k)) (sym c.enum_told-in-WriteZeroFill-1.given.1) ∙ h))
+returns-in-WriteZeroFill c = λ (held : List ℕ) h. absurd (false≢true (ap (λ (k : Transfer). asks (way_moved k)) (sym c.in-WriteZeroFill.is) ∙ h))
 
 pub returns-in-WriteSeveral : goal.returns-in-WriteSeveral
 unfolding carries
-returns-in-WriteSeveral c = λ (held : List ℕ) h. absurd (false≢true (ap (λ (k : Transfer). asks (way_moved k)) (sym c.enum_told-in-WriteSeveral-1.given.1) ∙ h))
+returns-in-WriteSeveral c = λ (held : List ℕ) h. absurd (false≢true (ap (λ (k : Transfer). asks (way_moved k)) (sym c.in-WriteSeveral.is) ∙ h))

@@ -16,34 +16,34 @@ unfolding transfer_stores carries write_random_act write_zero_fill_act
 returns-in-WriteSequential c = λ h.
     let a = c.args in
     let d = joined a.front a.held.now in
-    rw c.enum_told-1.given.1 (own_stores d a.volume.now a.fcb.now a.buffer.now a.left.now (write_sequential_act d a.volume.now a.fcb.now a.buffer.now) c.write_sequential_most.ensures)
+    rw c.in-WriteSequential.is (own_stores d a.volume.now a.fcb.now a.buffer.now a.left.now (write_sequential_act d a.volume.now a.fcb.now a.buffer.now) c.write_sequential_most.ensures)
 
 pub returns-in-WriteRandom : goal.returns-in-WriteRandom
 unfolding transfer_stores carries write_random_act write_zero_fill_act
 returns-in-WriteRandom c = λ h.
     let a = c.args in
     let d = joined a.front a.held.now in
-    rw c.enum_told-in-WriteRandom-1.given.1 (own_stores d a.volume.now a.fcb.now a.buffer.now a.left.now (write_direct_act false d a.volume.now a.fcb.now a.buffer.now) c.write_direct_most.ensures)
+    rw c.in-WriteRandom.is (own_stores d a.volume.now a.fcb.now a.buffer.now a.left.now (write_direct_act false d a.volume.now a.fcb.now a.buffer.now) c.write_direct_most.ensures)
 
 pub returns-in-WriteZeroFill : goal.returns-in-WriteZeroFill
 unfolding transfer_stores carries write_random_act write_zero_fill_act
 returns-in-WriteZeroFill c = λ h.
     let a = c.args in
     let d = joined a.front a.held.now in
-    rw c.enum_told-in-WriteZeroFill-1.given.1 (own_stores d a.volume.now a.fcb.now a.buffer.now a.left.now (write_direct_act true d a.volume.now a.fcb.now a.buffer.now) c.write_direct_most-in-WriteZeroFill.ensures)
+    rw c.in-WriteZeroFill.is (own_stores d a.volume.now a.fcb.now a.buffer.now a.left.now (write_direct_act true d a.volume.now a.fcb.now a.buffer.now) c.write_direct_most-in-WriteZeroFill.ensures)
 
 pub returns-in-WriteSeveral : goal.returns-in-WriteSeveral
 unfolding transfer_stores carries write_random_act write_zero_fill_act
-returns-in-WriteSeveral c = λ h. rw c.enum_told-in-WriteSeveral-1.given.1 c.write_most.ensures
+returns-in-WriteSeveral c = λ h. rw c.in-WriteSeveral.is c.write_most.ensures
 
 pub returns-in-ReadSequential : goal.returns-in-ReadSequential
 unfolding transfer_stores carries write_random_act write_zero_fill_act
-returns-in-ReadSequential c = λ h. absurd (false≢true (ap (λ (k : Transfer). changes (way_moved k)) (sym c.enum_told-in-ReadSequential-1.given.1) ∙ h))
+returns-in-ReadSequential c = λ h. absurd (false≢true (ap (λ (k : Transfer). changes (way_moved k)) (sym c.in-ReadSequential.is) ∙ h))
 
 pub returns-in-ReadRandom : goal.returns-in-ReadRandom
 unfolding transfer_stores carries write_random_act write_zero_fill_act
-returns-in-ReadRandom c = λ h. absurd (false≢true (ap (λ (k : Transfer). changes (way_moved k)) (sym c.enum_told-in-ReadRandom-1.given.1) ∙ h))
+returns-in-ReadRandom c = λ h. absurd (false≢true (ap (λ (k : Transfer). changes (way_moved k)) (sym c.in-ReadRandom.is) ∙ h))
 
 pub returns-in-ReadSeveral : goal.returns-in-ReadSeveral
 unfolding transfer_stores carries write_random_act write_zero_fill_act
-returns-in-ReadSeveral c = λ h. absurd (false≢true (ap (λ (k : Transfer). changes (way_moved k)) (sym c.enum_told-in-ReadSeveral-1.given.1) ∙ h))
+returns-in-ReadSeveral c = λ h. absurd (false≢true (ap (λ (k : Transfer). changes (way_moved k)) (sym c.in-ReadSeveral.is) ∙ h))

@@ -11,6 +11,6 @@ use Rattle.call_fcb.proofs.set_made.Goals as goal
 pub returns : goal.returns
 unfolding made put
 returns c =
-    let l = put_mid 1 11 c.args.fcb.now c.copy.new.0 in
+    let l = put_mid 1 11 c.args.fcb.now c.copy.new.dst in
     let k : length (mid_of 12 20 l) ≡ 20 = mid_len 12 32 l (omega (arith, c.fcb-1.given.1, c.requires)) in
     rw (c.fill.ensures, k, c.copy.ensures)

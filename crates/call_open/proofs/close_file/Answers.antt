@@ -3,4 +3,8 @@ use borrow.Author.Rules.{rules}
 use Rattle.call_open.proofs.close_file.Goals as goal
 
 pub returns : goal.returns
-returns c = (rw (← c.slot_to_close-slot.ensures.0) c.slot_why-why.ensures.value, c.slot_to_close-slot.ensures.0)
+returns c =
+    record {
+      why_value = rw (← c.slot_to_close-slot.ensures.0) c.slot_why-why.ensures.value;
+      slot_value = c.slot_to_close-slot.ensures.0;
+    }

@@ -11,15 +11,13 @@ pub returns-then-is_none : goal.returns-then-is_none
 returns-then-is_none c =
     let a = c.args in
     let slot = c.slot_to_open-slot.result in
-    let n = sym c.is_none.ensures ∙ c.if-is_none.true in (
-      rw (← c.slot_to_open-slot.ensures.0) c.slot_why-why.ensures.value,
-      (
-        c.slot_to_open-slot.ensures.0,
-        rw (n, ← lent_slot a.g a.volume.now slot c.slot_start-at.result c.slot_start-at.ensures.0) c.set_open.ensures,
-      ),
-    )
+    let n = sym c.is_none.ensures ∙ c.if-is_none.true in record { why_value = rw (← c.slot_to_open-slot.ensures.0) c.slot_why-why.ensures.value; slot_value = c.slot_to_open-slot.ensures.0; fcb_after = rw (n, ← lent_slot a.g a.volume.now slot c.slot_start-at.result c.slot_start-at.ensures.0) c.set_open.ensures }
 
 pub returns-else-is_none : goal.returns-else-is_none
 returns-else-is_none c =
     let n = sym c.is_none.ensures ∙ c.if-is_none.false in
-    (rw (← c.slot_to_open-slot.ensures.0) c.slot_why-why.ensures.value, (c.slot_to_open-slot.ensures.0, rw n))
+    record {
+      why_value = rw (← c.slot_to_open-slot.ensures.0) c.slot_why-why.ensures.value;
+      slot_value = c.slot_to_open-slot.ensures.0;
+      fcb_after = rw n;
+    }

@@ -17,4 +17,7 @@ returns c =
     let full = leb (slots a.g) a.slot in
     let e : c.first_of.result ≡ first_met (test Position (not a.fits) ∷ test NoMatch full ∷ []) =
     rw (← ladder_two Position NoMatch (not a.fits) full refl, ← c.slots.ensures.0, ← c.refuse-unfit.ensures, ← c.refuse-no_match.ensures) c.first_of.ensures in
-    (e, λ q. leb-false (slots a.g) a.slot (unmet NoMatch full [] refl (unmet Position (not a.fits) (test NoMatch full ∷ []) refl (ap is_none (sym e) ∙ q)).1).0)
+    record {
+      value = e;
+      slot_bound = λ q. leb-false (slots a.g) a.slot (unmet NoMatch full [] refl (unmet Position (not a.fits) (test NoMatch full ∷ []) refl (ap is_none (sym e) ∙ q)).1).0;
+    }

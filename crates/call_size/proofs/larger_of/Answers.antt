@@ -1,5 +1,6 @@
 -- The branches are the definition's.
-use mathlib.Core.Path.{◌≡◌}
+use mathlib.Core.Bool.{not}
+use mathlib.Core.Path.{◌≡◌, ap}
 use native.Mathlib.Omega.{arith}
 use borrow.Author.Tests.{not-true, not-false}
 use borrow.Author.Rules.{rules}
@@ -10,19 +11,18 @@ use Rattle.disk_volume.proofs.EntryLaws.{lent_slot}
 use Rattle.call_size.specs.Size.{larger}
 use Rattle.call_size.proofs.larger_of.Goals as goal
 
--- TODO place After-has 
--- what `has` answered is the test of slot i
-seen : (c : goal.After-has) → (let a = c.args in of_file a.user (strip a.name.now) (slot_at a.g a.volume.now a.i) ≡ c.has.result)
-seen c =
-    let a = c.args in
-    let at = c.slot_start-at in
-    rw (← lent_slot a.g a.volume.now a.i at.result at.ensures.0, c.has.ensures)
-
 pub returns-then-not-has : goal.returns-then-not-has
 unfolding larger
-returns-then-not-has c = (rw (seen c@After-has, not-true c.has.result c.if-not-has.true), search rules)
+returns-then-not-has c =
+    let seen : (let a = c.args in of_file a.user (strip a.name.now) (slot_at a.g a.volume.now a.i) ≡ c.has.result) = (let a = c.args in
+    let at = c.slot_start-at in
+    rw (← lent_slot a.g a.volume.now a.i at.result at.ensures.0, c.has.ensures)) in
+    (rw (seen, c.if-not-has.true), search rules)
 
 pub returns : goal.returns
 unfolding larger
 returns c =
-    (rw (seen h, not-false c.has.result c.if-not-has.false) c.larger_at.ensures.0, c.larger_at.ensures.1)
+    let seen : (let a = c.args in of_file a.user (strip a.name.now) (slot_at a.g a.volume.now a.i) ≡ c.has.result) = (let a = c.args in
+    let at = c.slot_start-at in
+    rw (← lent_slot a.g a.volume.now a.i at.result at.ensures.0, c.has.ensures)) in
+    (rw (seen, c.if-not-has.false) c.larger_at.ensures.0, c.larger_at.ensures.1)

@@ -13,20 +13,24 @@ use mathlib.Core.Path.{◌≡◌, refl, sym, ◌∙◌}
 use borrow.Author.Rules.{rules}
 use Rattle.call_size.proofs.measure.Goals as goal
 
--- TODO place After-refuse-why 
-why : (c : goal.After-refuse-why) → (let a = c.args in c.refuse-why.result ≡ first_met (test NoMatch (leb (slots a.g) (find_slot a.g a.volume.now a.user (name_of a.fcb.now) File)) ∷ []))
-unfolding name_at part
-why c =
-    let a = c.args in
-    rw (← ladder_one NoMatch (leb (slots a.g) (find_slot a.g a.volume.now a.user (name_of a.fcb.now) File)) refl, ← c.find-first.ensures.0, ← c.slots.ensures.0) c.refuse-why.ensures
-
 pub returns-then-is_none : goal.returns-then-is_none
 unfolding name_at part
 returns-then-is_none c =
+    let why : (let a = c.args in c.refuse-why.result ≡ first_met (test NoMatch (leb (slots a.g) (find_slot a.g a.volume.now a.user (name_of a.fcb.now) File)) ∷ [])) = (let a = c.args in
+    rw (← ladder_one NoMatch (leb (slots a.g) (find_slot a.g a.volume.now a.user (name_of a.fcb.now) File)) refl, ← c.find-first.ensures.0, ← c.slots.ensures.0) c.refuse-why.ensures) in
     let n = sym c.is_none.ensures ∙ c.if-is_none.true in
-    (why c@After-slots, rw (n, ← c.size_from-size.ensures.0) c.set_random.ensures)
+    record {
+      value = why;
+      fcb_after = rw (n, ← c.size_from-size.ensures.0) c.set_random.ensures;
+    }
 
 pub returns-else-is_none : goal.returns-else-is_none
+unfolding name_at part
 returns-else-is_none c =
+    let why : (let a = c.args in c.refuse-why.result ≡ first_met (test NoMatch (leb (slots a.g) (find_slot a.g a.volume.now a.user (name_of a.fcb.now) File)) ∷ [])) = (let a = c.args in
+    rw (← ladder_one NoMatch (leb (slots a.g) (find_slot a.g a.volume.now a.user (name_of a.fcb.now) File)) refl, ← c.find-first.ensures.0, ← c.slots.ensures.0) c.refuse-why.ensures) in
     let n = sym c.is_none.ensures ∙ c.if-is_none.false in
-    (why c@After-refuse, rw n)
+    record {
+      value = why;
+      fcb_after = rw n;
+    }

@@ -3,4 +3,9 @@ use borrow.Author.Rules.{rules}
 use Rattle.call_store.proofs.carry_out.Goals as goal
 
 pub returns : goal.returns
-returns c = (c.store_most.ensures.volume_after, (search rules, c.store_most.ensures.left_after))
+returns c =
+    record {
+      volume_after = c.store_most.ensures.volume_after;
+      fcb_after = search rules;
+      left_after = c.store_most.ensures.left_after;
+    }

@@ -16,7 +16,11 @@ pub loop-k-init : goal.loop-k-init
 loop-k-init c = (search rules, (search rules, folded_start))
 
 pub change_one-requires : goal.change_one-requires
-change_one-requires c = ((search rules, simp (length-take, length-drop) (omega arith)), search rules)
+change_one-requires c =
+    record {
+      g_value = (search rules, simp (length-take, length-drop) (omega arith));
+      name = search rules;
+    }
 
 pub loop-k-preserved : goal.loop-k-preserved
 loop-k-preserved c =
@@ -25,7 +29,7 @@ loop-k-preserved c =
     let o = c.change_one in
     let f = lent_change a.g a.edit a.user a.name.now a.new.now in
     let keeps = meant_keeps a.g (search rules) (lent_meant a.g a.edit a.user a.name.now) (edited a.edit a.new.now) (edited_length a.edit a.new.now (search rules)) in
-    let e = lent_piece f l.sector o.new.1.0 l.k o.ensures in (
+    let e = lent_piece f l.sector o.new.e l.k o.ensures in (
       search rules,
       (
         ap length e ∙ map_piece_length a.g (search rules) f keeps l.sector l.k l.invariant.1.0 (search rules),

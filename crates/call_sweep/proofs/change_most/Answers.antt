@@ -26,17 +26,23 @@ loop-i-init c =
 
 pub change_record-requires : goal.change_record-requires
 change_record-requires c =
-    ((c.requires.volume.0, (c.loop-i.invariant.1.0, omega arith)), c.requires.name)
+    record {
+      volume_and = (c.requires.volume.0, (c.loop-i.invariant.1.0, omega arith));
+      name = c.requires.name;
+    }
 
 pub next_meant-i-requires : goal.next_meant-i-requires
 next_meant-i-requires c =
-    ((c.requires.volume.0, c.change_record.auto.1.0 ∙ c.loop-i.invariant.1.0), (omega arith, c.requires.name.0))
+    record {
+      volume = (c.requires.volume.0, c.change_record.auto.volume ∙ c.loop-i.invariant.1.0);
+      from_bound = (omega arith, c.requires.name.0);
+    }
 
 pub loop-i-smaller : goal.loop-i-smaller
 loop-i-smaller c =
     let a = c.args in
     let i = c.loop-i.i in
-    let v = c.change_record.new.1.0 in
+    let v = c.change_record.new.volume in
     let low = from_low a.g v a.user (strip a.name.now) (meant a.edit) (4 * (i / 4 + 1)) (omega arith) in
     omega (arith, c.next_meant-i.ensures.0)
 
@@ -47,17 +53,19 @@ loop-i-preserved c =
     let l = c.loop-i in
     let o = c.change_record in
     let r = c.next_meant-i in
-    let size = o.auto.1.0 ∙ l.invariant.1.0 in (
+    let size = o.auto.volume ∙ l.invariant.1.0 in (
       r.ensures.1,
       (
         size,
         swept_next a.g c.requires.volume.0 a.user (strip a.name.now) (meant a.edit) (edited a.edit a.new.now) (edited_length a.edit a.new.now c.requires.name.1)
-            l.volume l.invariant.1.0 l.i inside l.invariant.1.1 o.ensures.0 o.ensures.1 size r.ensures.0 r.ensures.1,
+            l.volume l.invariant.1.0 l.i inside l.invariant.1.1 o.ensures.volume_after o.ensures.left_after size r.ensures.0 r.ensures.1,
       ),
     )
 
 pub returns : goal.returns
 returns c =
     let a = c.args in
+    let o =
     swept_end a.g c.requires.volume.0 a.user (strip a.name.now) (meant a.edit) (edited a.edit a.new.now) (edited_length a.edit a.new.now c.requires.name.1)
-    c.loop-i.invariant.1.1 (omega arith) c.loop-i.invariant.0
+    c.loop-i.invariant.1.1 (omega arith) c.loop-i.invariant.0 in
+    record { volume_after = o.0; left_after = o.1 }

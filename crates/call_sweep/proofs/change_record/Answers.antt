@@ -12,7 +12,10 @@ start-at-requires c = (c.requires.volume_and.0, omega (arith, bounds c.args.g c.
 
 pub store_record-requires : goal.store_record-requires
 store_record-requires c =
-    ((c.requires.volume_and.0, c.requires.volume_and.1.0), (omega (arith, bounds c.args.g c.requires.volume_and.0), search rules))
+    record {
+      volume = (c.requires.volume_and.0, c.requires.volume_and.1.0);
+      q_bound = (omega (arith, bounds c.args.g c.requires.volume_and.0), search rules);
+    }
 
 pub returns : goal.returns
 unfolding part
@@ -20,4 +23,7 @@ returns c =
     let at = c.start-at in
     let z : at.result + 128 - at.result ≡ 128 = omega arith in
     let o = c.store_record in
-    (o.ensures.0 ∙ rw (c.change_four.ensures, c.copy.ensures, z, at.ensures.0), o.ensures.1)
+    record {
+      volume_after = o.ensures.volume_after ∙ rw (c.change_four.ensures, c.copy.ensures, z, at.ensures.0);
+      left_after = o.ensures.left_after;
+    }

@@ -3,10 +3,10 @@ use borrow.Author.Rules.{rules}
 use Rattle.call_sweep.proofs.next_meant.Goals as goal
 
 pub returns-in-Erase : goal.returns-in-Erase
-returns-in-Erase c = rw c.enum_told-1.given.1 c.find_from.ensures
+returns-in-Erase c = rw c.in-Erase.is c.find_from.ensures
 
 pub returns-in-Rename : goal.returns-in-Rename
-returns-in-Rename c = rw c.enum_told-in-Rename-1.given.1 c.find_from-in-Rename.ensures
+returns-in-Rename c = rw c.in-Rename.is c.find_from-in-Rename.ensures
 
 pub returns-in-Attributes : goal.returns-in-Attributes
-returns-in-Attributes c = rw c.enum_told-in-Attributes-1.given.1 c.find_from-in-Attributes.ensures
+returns-in-Attributes c = rw c.in-Attributes.is c.find_from-in-Attributes.ensures

@@ -15,11 +15,11 @@ loop-k-init c = (search rules, passed_start)
 pub returns-then-not-typeable_byte : goal.returns-then-not-typeable_byte
 returns-then-not-typeable_byte c =
     sym (all_places typeable_byte 11 c.args.name.now (search rules)
-    ∙ passed_fails c.loop-k.invariant.1 (search rules) (sym c.typeable_byte.ensures ∙ not-true _ c.if-not-typeable_byte.true))
+    ∙ passed_fails c.loop-k.invariant.1 (search rules) (sym c.typeable_byte.ensures ∙ c.if-not-typeable_byte.true))
 
 pub loop-k-preserved : goal.loop-k-preserved
 loop-k-preserved c =
-    (search rules, passed_next c.loop-k.invariant.1 (search rules) (sym c.typeable_byte.ensures ∙ not-false _ c.if-not-typeable_byte.false))
+    (search rules, passed_next c.loop-k.invariant.1 (search rules) (sym c.typeable_byte.ensures ∙ c.if-not-typeable_byte.false))
 
 pub returns : goal.returns
 returns c =

@@ -3,4 +3,4 @@ use borrow.Author.Rules.{rules}
 use Rattle.desk.proofs.number.Goals as goal
 
 pub returns-in-Call : goal.returns-in-Call
-returns-in-Call c = rw (c.a-1.given.1, c.why-1.given.1) c.refusal_number.ensures
+returns-in-Call c = rw (c.in-Refused.is, c.in-Call.is) c.refusal_number.ensures

@@ -8,24 +8,26 @@ use mathlib.Core.Path.{◌≡◌}
 use borrow.Author.Rules.{rules}
 use Rattle.disk_faults.proofs.is_broken.Goals as goal
 
--- TODO place After-block_in-b 
--- what `block_in` answered is the block in place p of slot i
-block : (c : goal.After-block_in-b) → (let a = c.args in c.block_in-b.result ≡ block_in a.g (slot_at a.g a.volume.now a.i) a.p)
-block c = rw (← c.requires.0.1.1.1) c.block_in-b.ensures.0
-
 pub returns-then-b-eq0 : goal.returns-then-b-eq0
 unfolding breaks_at
-returns-then-b-eq0 c = rw (← block c@After-block_in, eq-eqb _ 0 c.if-b-eq0.true)
+returns-then-b-eq0 c =
+    let block : (let a = c.args in c.block_in-b.result ≡ block_in a.g (slot_at a.g a.volume.now a.i) a.p) = rw (← c.requires.0.1.1.1) c.block_in-b.ensures.0 in
+    rw (← block, eq-eqb _ 0 c.if-b-eq0.true)
 
 pub returns-in-Outside : goal.returns-in-Outside
 unfolding breaks_at
-returns-in-Outside c = rw (c.enum_told-1.given.1, ← block c@After-block_in, ne_eqb _ 0 c.if-b-eq0.false, ← c.is_inside.ensures)
+returns-in-Outside c =
+    let block : (let a = c.args in c.block_in-b.result ≡ block_in a.g (slot_at a.g a.volume.now a.i) a.p) = rw (← c.requires.0.1.1.1) c.block_in-b.ensures.0 in
+    rw (c.in-Outside.is, ← block, ne_eqb _ 0 c.if-b-eq0.false, ← c.is_inside.ensures)
 
 pub returns-in-Twice : goal.returns-in-Twice
 unfolding breaks_at
 returns-in-Twice c =
-    rw (c.enum_told-in-Twice-1.given.1, ← block c@After-block_in, ne_eqb _ 0 c.if-b-eq0.false, ← c.requires.0.1.1.1) c.in_places.ensures
+    let block : (let a = c.args in c.block_in-b.result ≡ block_in a.g (slot_at a.g a.volume.now a.i) a.p) = rw (← c.requires.0.1.1.1) c.block_in-b.ensures.0 in
+    rw (c.in-Twice.is, ← block, ne_eqb _ 0 c.if-b-eq0.false, ← c.requires.0.1.1.1) c.in_places.ensures
 
 pub returns-in-Lower : goal.returns-in-Lower
 unfolding breaks_at
-returns-in-Lower c = rw (c.enum_told-in-Lower-1.given.1, ← block c@After-block_in, ne_eqb _ 0 c.if-b-eq0.false, named_by_slot, ← c.slot_of.ensures)
+returns-in-Lower c =
+    let block : (let a = c.args in c.block_in-b.result ≡ block_in a.g (slot_at a.g a.volume.now a.i) a.p) = rw (← c.requires.0.1.1.1) c.block_in-b.ensures.0 in
+    rw (c.in-Lower.is, ← block, ne_eqb _ 0 c.if-b-eq0.false, named_by_slot, ← c.slot_of.ensures)

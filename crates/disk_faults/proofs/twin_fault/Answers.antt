@@ -8,16 +8,14 @@ use mathlib.Core.Path.{◌≡◌}
 use borrow.Author.Rules.{rules}
 use Rattle.disk_faults.proofs.twin_fault.Goals as goal
 
--- TODO place After-find-slot 
--- what the search found
-found : (c : goal.After-find-slot) → (let a = c.args in c.find-slot.result ≡ twin_slot a.g a.volume.now a.i)
-unfolding twin_slot name_at part
-found c = rw (← c.requires.1.1.1, ← c.extent_of.ensures.0, ← c.group.ensures) c.find-slot.ensures.0
-
 pub returns-then-slot-i : goal.returns-then-slot-i
-unfolding twin_fault
-returns-then-slot-i c = rw (← found c@After-find, lt-ltb _ _ c.if-slot-i.true)
+unfolding twin_fault name_at part twin_slot
+returns-then-slot-i c =
+    let found : (let a = c.args in c.find-slot.result ≡ twin_slot a.g a.volume.now a.i) = rw (← c.requires.1.1.1, ← c.extent_of.ensures.0, ← c.group.ensures) c.find-slot.ensures.0 in
+    rw (← found, lt-ltb _ _ c.if-slot-i.true)
 
 pub returns : goal.returns
-unfolding twin_fault
-returns c = rw (c.alone.ensures, ← found c@After-find, le-ltb _ _ c.if-slot-i.false)
+unfolding twin_fault name_at part twin_slot
+returns c =
+    let found : (let a = c.args in c.find-slot.result ≡ twin_slot a.g a.volume.now a.i) = rw (← c.requires.1.1.1, ← c.extent_of.ensures.0, ← c.group.ensures) c.find-slot.ensures.0 in
+    rw (c.alone.ensures, ← found, le-ltb _ _ c.if-slot-i.false)

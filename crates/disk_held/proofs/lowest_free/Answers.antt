@@ -25,3 +25,14 @@ unfolding lowest_free
 returns c =
     let l = c.loop-b in
     (sym (searched_none l.invariant.1 (omega arith)), l.invariant.0)
+
+pub returns-then-not-is_held : goal.returns-then-not-is_held
+unfolding lowest_free
+returns-then-not-is_held c =
+    let l = c.loop-b in
+    (sym (searched_hit l.invariant.1 (omega arith) (rw (← c.is_held.ensures) (ap not c.if-not-is_held.true))), omega arith)
+
+pub loop-b-preserved : goal.loop-b-preserved
+loop-b-preserved c =
+    let l = c.loop-b in
+    (omega arith, searched_next l.invariant.1 (omega arith) (rw (← c.is_held.ensures) (ap not c.if-not-is_held.false)))

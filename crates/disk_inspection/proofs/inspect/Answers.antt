@@ -13,4 +13,8 @@ free_count-free-requires c =
     omega (arith, bounds _ c.requires.volume.0)
 
 pub returns : goal.returns
-returns c = (c.look-slot.ensures.value, λ q. let h = c.look-slot.ensures.held_after q in (h, rw (← h) c.free_count-free.ensures.0))
+returns c =
+    record {
+      slot_value = c.look-slot.ensures.value;
+      held_after = λ q. let h = c.look-slot.ensures.held_after q in (h, rw (← h) c.free_count-free.ensures.0);
+    }

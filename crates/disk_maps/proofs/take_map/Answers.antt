@@ -1,6 +1,6 @@
 -- The places passed so far are good, and the blocks in them are held beside those of the lower slots.
 use mathlib.Core.Path.{◌≡◌, sym, ap, ◌∙◌}
-use mathlib.Core.Bool.{Bool, true, false, cond, false≢true}
+use mathlib.Core.Bool.{Bool, true, false, cond, false≢true, not}
 use mathlib.Core.Logic.{⊎_elim}
 use mathlib.Core.List.{List}
 use Prim.Native.Nat.{ℕ, ◌≤◌, ◌-◌}
@@ -20,21 +20,11 @@ use Rattle.disk_rules.specs.GoodSlot.{good_place}
 use Rattle.disk_maps.specs.CodeHeldBelow.{held_below, held_up_to}
 use Rattle.disk_maps.proofs.HeldLaws.{no_places, zero_place, zero_good, block_place, place_test}
 use Rattle.disk_maps.proofs.take_map.Goals as goal
+use Rattle.disk_maps.proofs.take_map.Goals.{then-b-ne0+else-not-take_block, else-b-ne0}
 
 -- words of a set are as many as a state has
 all_words : (held : List ℕ) (p : ℕ → Bool) → held ≡ words_of p → length held ≡ held_words
 all_words held p e = ap length e ∙ length_words p
-
--- what `block_in` answered is the block number in place p of slot i
-block : (c : tie.After-block-in invariant-loop decreases-loop) → (let a = c.before.before.before.before.before.before.before.before.args in c.block_in.result ≡ block_in a.g (slot_at a.g a.volume.now a.i) c.before.before.before.loop.p)
-block c =
-    let a = c.before.before.before.before.before.before.before.before.args in
-    let at = c.before.before.before.before.before.slot-start in
-    rw (← lent_slot a.g a.volume.now a.i at.result at.ensures.0) c.block_in.ensures.0
-
--- the loop goes over all places
-whole : (c : tie.After-places invariant-loop decreases-loop) → c.places.result - 0 ≡ places c.before.before.before.before.args.g
-whole c = omega (arith, c.places.ensures.0)
 
 pub loop-p-init : goal.loop-p-init
 loop-p-init c = (search rules, (c.requires.i_bound.1 ∙ no_places _ _ _, passed_start))
@@ -50,37 +40,54 @@ shape_of-held-then-not-take_block c =
 
 pub returns-then-not-take_block : goal.returns-then-not-take_block
 returns-then-not-take_block c =
+    let block : (let a = c.args in c.block_in-b.result ≡ block_in a.g (slot_at a.g a.volume.now a.i) c.loop-p.p) = (let a = c.args in
+    let at = c.slot_start-at in
+    rw (← lent_slot a.g a.volume.now a.i at.result at.ensures.0) c.block_in-b.ensures.0) in
+    let whole : c.places-n.result - 0 ≡ places c.args.g = omega (arith, c.places-n.ensures.0) in
     let a = c.args in
     let l = c.loop-p in
     let t = c.take_block in
-    let bad = place_test a.g a.volume.now a.i l.p c.requires.volume.0 c.block_in-b.result (block c@After-block_in) c.if-b-ne0.true l.held l.invariant.1.0
-    ∙ sym t.ensures.0 ∙ not-true t.result c.if-not-take_block.true in
-    (rw (← whole c@After-places) (sym (passed_fails l.invariant.1.1 (search rules) bad)), λ h. absurd (false≢true h))
+    let bad = place_test a.g a.volume.now a.i l.p c.requires.volume.0 c.block_in-b.result block c.if-b-ne0.true l.held l.invariant.1.0
+    ∙ sym t.ensures.value ∙ not-true t.result (ap not c.if-not-take_block.true) in
+    record {
+      value = rw (← whole) (sym (passed_fails l.invariant.1.1 (search rules) bad));
+      held_after = λ h. absurd (false≢true h);
+    }
 
 pub loop-p-preserved : goal.loop-p-preserved
 loop-p-preserved c =
+    let block : (let a = c.args in c.block_in-b.result ≡ block_in a.g (slot_at a.g a.volume.now a.i) c.loop-p.p) = (let a = c.args in
+    let at = c.slot_start-at in
+    rw (← lent_slot a.g a.volume.now a.i at.result at.ensures.0) c.block_in-b.ensures.0) in
     let a = c.args in
     let law = c.requires.volume.0 in
     let l = c.loop-p in
     let b = c.block_in-b.result in
-    let e = block c@After-block_in in
-    ⊎_elim
-    (λ w.
-    let taken = not-false w.2.result w.5.left in
-    let good = place_test a.g a.volume.now a.i l.p law b e w.0.taken l.held l.invariant.1.0 ∙ sym w.2.ensures.0 ∙ taken in
-    let in_g = and_left _ _ (sym w.2.ensures.0 ∙ taken) in
-    let next = ap (λ (t : Bool). cond t (hold l.held b) l.held) taken ∙ ap (λ (h : List ℕ). hold h b) l.invariant.1.0 in
-    (search rules, (w.6 ∙ w.2.ensures.1 ∙ next ∙ block_place a.g a.volume.now a.i l.p law b e in_g, passed_next l.invariant.1.1 (search rules) good)))
-    (λ w.
-    let z = sym e ∙ w.0.left in
-    (search rules, (w.1 ∙ l.invariant.1.0 ∙ zero_place a.g a.volume.now a.i l.p law z, passed_next l.invariant.1.1 (search rules) (zero_good a.g a.volume.now a.i l.p z))))
-    c.if-b-ne0.branch
+    let e = block in
+    elim c.if-b-ne0.branch [
+      | then-b-ne0+else-not-take_block w ↦
+          let taken = w.if-not-take_block.false in
+          let good =
+          place_test a.g a.volume.now a.i l.p law b e w.if-b-ne0.true l.held l.invariant.1.0
+          ∙ sym w.take_block.ensures.value
+          ∙ taken in
+          let in_g = and_left _ _ (sym w.take_block.ensures.value ∙ taken) in
+          let next = ap (λ (t : Bool). cond t (hold l.held b) l.held) taken ∙ ap (λ (h : List ℕ). hold h b) l.invariant.1.0 in
+          (search rules, (w.held-is ∙ w.take_block.ensures.held_after ∙ next ∙ block_place a.g a.volume.now a.i l.p law b e in_g, passed_next l.invariant.1.1 (search rules) good))
+      | else-b-ne0 w ↦
+          let z = sym e ∙ w.if-b-ne0.false in
+          (search rules, (w.held-is ∙ l.invariant.1.0 ∙ zero_place a.g a.volume.now a.i l.p law z, passed_next l.invariant.1.1 (search rules) (zero_good a.g a.volume.now a.i l.p z)))
+    ]
 
 pub shape_of-held : goal.shape_of-held
 shape_of-held c = all_words _ _ c.loop-p.invariant.1.0 ∙ sym (all_words _ _ c.requires.i_bound.1)
 
 pub returns : goal.returns
 returns c =
+    let whole : c.places-n.result - 0 ≡ places c.args.g = omega (arith, c.places-n.ensures.0) in
     let l = c.loop-p in
     let z : l.p ≡ places c.args.g = omega (arith, c.places-n.ensures.0) in
-    (rw (← whole c@After-places) (sym (passed_all l.invariant.1.1 (search rules))), λ h. rw (← z) l.invariant.1.0)
+    record {
+      value = rw (← whole) (sym (passed_all l.invariant.1.1 (search rules)));
+      held_after = λ h. rw (← z) l.invariant.1.0;
+    }

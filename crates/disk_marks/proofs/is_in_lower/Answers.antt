@@ -10,27 +10,25 @@ use Rattle.disk_volume.specs.Entry.{of_group}
 use Rattle.disk_volume.specs.Directory.{slot_at}
 use Rattle.disk_volume.proofs.EntryLaws.{lent_slot}
 use Rattle.lists.proofs.AnyLaws.{AnySoFar, asked_start, asked_next, asked_hit, asked_none}
+use Rattle.disk_marks.proofs.is_in_lower.Invariants.{group_at}
 use Rattle.disk_marks.proofs.is_in_lower.Goals as goal
-
--- the test of slot j
-abbrev group_at : Geometry → List ℕ → ℕ → List ℕ → ℕ → ℕ → Bool
-group_at g volume user name k j = of_group g user (strip name) k (slot_at g volume j)
-
--- what `has` answered is the test of slot j
-seen : (c : tie.After-has invariant-loop decreases-loop) → (let a = c.before.before.before.before.before.before.before.args in c.has.result ≡ group_at a.g a.volume.now a.user a.name.now a.k c.before.before.before.before.loop.j)
-seen c =
-    let a = c.before.before.before.before.before.before.before.args in
-    let at = c.before.before.slot-start in
-    rw (← lent_slot a.g a.volume.now c.before.before.before.before.loop.j at.result at.ensures.0) c.has.ensures
 
 pub loop-j-init : goal.loop-j-init
 loop-j-init c = (search rules, asked_start)
 
 pub returns-then-has : goal.returns-then-has
-returns-then-has c = sym (asked_hit c.loop-j.invariant.1 (search rules) (sym (seen c@After-has) ∙ c.if-has.true))
+returns-then-has c =
+    let seen : (let a = c.args in c.has.result ≡ group_at a.g a.volume.now a.user a.name.now a.k c.loop-j.j) = (let a = c.args in
+    let at = c.slot_start-at in
+    rw (← lent_slot a.g a.volume.now c.loop-j.j at.result at.ensures.0) c.has.ensures) in
+    sym (asked_hit c.loop-j.invariant.1 (search rules) (sym seen ∙ c.if-has.true))
 
 pub loop-j-preserved : goal.loop-j-preserved
-loop-j-preserved c = (search rules, asked_next c.loop-j.invariant.1 (search rules) (sym (seen c@After-has) ∙ c.if-has.false))
+loop-j-preserved c =
+    let seen : (let a = c.args in c.has.result ≡ group_at a.g a.volume.now a.user a.name.now a.k c.loop-j.j) = (let a = c.args in
+    let at = c.slot_start-at in
+    rw (← lent_slot a.g a.volume.now c.loop-j.j at.result at.ensures.0) c.has.ensures) in
+    (search rules, asked_next c.loop-j.invariant.1 (search rules) (sym seen ∙ c.if-has.false))
 
 pub returns : goal.returns
 returns c = sym (asked_none c.loop-j.invariant.1 (search rules))

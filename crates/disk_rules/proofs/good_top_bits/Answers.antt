@@ -11,18 +11,15 @@ use Rattle.lists.proofs.BoundedLaws.{Passed, passed_start, passed_next, passed_f
 use Rattle.disk_rules.specs.GoodSlot.{good_top_bits}
 use Rattle.disk_rules.proofs.good_top_bits.Goals as goal
 
-abbrev good_at : List ℕ → ℕ → Bool
-good_at e k = ltb (byte e (1 + k)) 128 || eqb k 8 || eqb k 9
-
 pub loop-k-init : goal.loop-k-init
 loop-k-init c = (search rules, passed_start)
 
 pub returns-then-not-e-k : goal.returns-then-not-e-k
 unfolding good_top_bits
-returns-then-not-e-k c = sym (passed_fails c.loop-k.invariant.1 (search rules) (not-true _ c.if-not-e-k.true))
+returns-then-not-e-k c = sym (passed_fails c.loop-k.invariant.1 (search rules) c.if-not-e-k.true)
 
 pub loop-k-preserved : goal.loop-k-preserved
-loop-k-preserved c = (search rules, passed_next c.loop-k.invariant.1 (search rules) (not-false _ c.if-not-e-k.false))
+loop-k-preserved c = (search rules, passed_next c.loop-k.invariant.1 (search rules) c.if-not-e-k.false)
 
 pub returns : goal.returns
 unfolding good_top_bits

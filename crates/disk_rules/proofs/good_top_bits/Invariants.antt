@@ -11,6 +11,10 @@ use Rattle.lists.proofs.BoundedLaws.{Passed, passed_start, passed_next, passed_f
 use Rattle.disk_rules.specs.GoodSlot.{good_top_bits}
 use Rattle.disk_rules.proofs.good_top_bits.Given as goal
 
+-- byte k of the name passes
+abbrev pub good_at : List ℕ → ℕ → Bool
+good_at e k = ltb (byte e (1 + k)) 128 || eqb k 8 || eqb k 9
+
 abbrev pub invariant-loop-k : goal.invariant-loop-k
 invariant-loop-k l = (l.k ≤ 11) × Passed (good_at l.e) 0 11 l.k
 

@@ -13,7 +13,10 @@ start-at-requires c = (c.requires.volume.0, slot_record_below _ c.requires.volum
 
 pub store_record-requires : goal.store_record-requires
 store_record-requires c =
-    (c.requires.volume, (slot_record_below _ c.requires.volume.0 c.args.i c.requires.i_bound.0, search rules))
+    record {
+      volume = c.requires.volume;
+      q_bound = (slot_record_below _ c.requires.volume.0 c.args.i c.requires.i_bound.0, search rules);
+    }
 
 pub returns : goal.returns
 unfolding entry_stores part
@@ -21,4 +24,7 @@ returns c =
     let at = c.start-at in
     let z : at.result + 128 - at.result ≡ 128 = omega arith in
     let o = c.store_record in
-    (o.ensures.0 ∙ rw (c.lay.ensures, c.copy.ensures, z, at.ensures.0), o.ensures.1)
+    record {
+      volume_after = o.ensures.volume_after ∙ rw (c.lay.ensures, c.copy.ensures, z, at.ensures.0);
+      left_after = o.ensures.left_after;
+    }

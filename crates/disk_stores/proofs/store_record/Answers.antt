@@ -10,7 +10,10 @@ use Rattle.disk_stores.proofs.store_record.Goals as goal
 pub returns-then-left-eq0 : goal.returns-then-left-eq0
 returns-then-left-eq0 c =
     let a = c.args in
-    (spent a.g a.volume.now _ a.left.now c.if-left-eq0.true, omega (arith, c.if-left-eq0.true))
+    record {
+      volume_after = spent a.g a.volume.now _ a.left.now c.if-left-eq0.true;
+      left_after = omega (arith, c.if-left-eq0.true);
+    }
 
 pub returns : goal.returns
 unfolding put
@@ -19,4 +22,7 @@ returns c =
     let at = c.start-at in
     let z : at.result + 128 - at.result ≡ 128 = omega arith in
     let stored = one_store a.g a.volume.now a.q a.sector.now a.left.now c.if-left-eq0.false in
-    (rw (c.copy.ensures, z, at.ensures.0) stored, search rules)
+    record {
+      volume_after = rw (c.copy.ensures, z, at.ensures.0) stored;
+      left_after = search rules;
+    }

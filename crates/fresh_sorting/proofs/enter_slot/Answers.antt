@@ -24,7 +24,11 @@ returns-then-e c =
     (eq-eqb (byte (slot_at a.g a.volume.now a.i) 0) 229 (sym (ap (λ (l : List ℕ). byte l 0) e) ∙ c.if-e.true))
 
 pub key_of-key-requires : goal.key_of-key-requires
-key_of-key-requires c = (search rules, omega (arith, c.requires.i_bound.0, (bounds c.args.g c.requires.accepted.0).slots_high))
+key_of-key-requires c =
+    record {
+      volume_and = search rules;
+      i_lt_most_slots = omega (arith, c.requires.i_bound.0, (bounds c.args.g c.requires.accepted.0).slots_high);
+    }
 
 pub enter-requires : goal.enter-requires
 enter-requires c =
@@ -47,4 +51,4 @@ returns c =
     let used = ne_eqb (byte (slot_at a.g v a.i) 0) 229 (λ h. c.if-e.false (ap (λ (l : List ℕ). byte l 0) e ∙ h)) in
     let key = c.key_of-key.ensures ∙ ap (λ (l : List ℕ). key_in a.g v l a.i) e in
     entered_in_order a.g v c.requires.accepted a.i c.requires.i_bound.0 a.kept.now a.m c.requires.i_bound.1 used
-    c.enter.new.0 c.enter.ensures.kept_len_unchanged (c.enter.ensures.kept_after ∙ ap (λ (x : ℕ). entered (take a.m a.kept.now) x) key)
+    c.enter.new.kept c.enter.ensures.kept_len_unchanged (c.enter.ensures.kept_after ∙ ap (λ (x : ℕ). entered (take a.m a.kept.now) x) key)

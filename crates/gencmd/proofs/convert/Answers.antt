@@ -8,5 +8,5 @@ pub slice_bounds-deliver-end : goal.slice_bounds-deliver-end
 slice_bounds-deliver-end c =
     let a = c.args in
     let made = c.gencmd in
-    let h = written_within a.text.now a.out.now c.n-1.given.1 made.ensures in
+    let h = written_within a.text.now a.out.now c.in-Written.is made.ensures in
     omega (arith, h, made.auto.1.0)

@@ -8,19 +8,19 @@ use borrow.Author.Rules.{rules}
 use Rattle.listing.proofs.list.Goals as goal
 
 pub put_accepted-requires : goal.put_accepted-requires
-put_accepted-requires c = may_list c.args.volume.now c.geometry-g.ensures c.log_in-r.ensures _ c.answer-1.given.1
+put_accepted-requires c = may_list c.args.volume.now c.geometry-g.ensures c.log_in-r.ensures _ c.in-Ready.is
 
 pub returns-in-Ready : goal.returns-in-Ready
 unfolding listing_for
 returns-in-Ready c =
     let a = c.args in
-    listed a.volume.now c.geometry-g.ensures c.log_in-r.ensures a.out.now _ c.answer-1.given.1 c.put_accepted.ensures
+    listed a.volume.now c.geometry-g.ensures c.log_in-r.ensures a.out.now _ c.in-Ready.is c.put_accepted.ensures
 
 pub returns-in-BadSlot : goal.returns-in-BadSlot
 unfolding listing_for
 returns-in-BadSlot c =
     let a = c.args in
-    let is = c.answer-in-BadSlot-1.given.1 in
+    let is = c.in-BadSlot.is in
     listed a.volume.now c.geometry-g.ensures c.log_in-r.ensures a.out.now _ is
     (then (wrote _ c.put_refused-a.ensures)
     (then (wrote_byte 32 c.put_byte-b.ensures)
@@ -31,13 +31,13 @@ pub returns-in-Refused : goal.returns-in-Refused
 unfolding listing_for
 returns-in-Refused c =
     let a = c.args in
-    let is = c.enum_told-1.given.1 in
+    let is = c.in-Refused.is in
     listed a.volume.now c.geometry-g.ensures c.log_in-r.ensures a.out.now _ is (then (wrote_refused is c.put_refused-a-in-Refused.ensures) (wrote_byte 10 c.put_byte-in-Refused.ensures)).is
 
 pub returns-in-Done : goal.returns-in-Done
 unfolding listing_for puts
-returns-in-Done c = let a = c.args in listed a.volume.now c.geometry-g.ensures c.log_in-r.ensures a.out.now _ c.enum_told-in-Done-1.given.1 refl
+returns-in-Done c = let a = c.args in listed a.volume.now c.geometry-g.ensures c.log_in-r.ensures a.out.now _ c.in-Done.is refl
 
 pub returns-in-Several : goal.returns-in-Several
 unfolding listing_for puts
-returns-in-Several c = let a = c.args in listed a.volume.now c.geometry-g.ensures c.log_in-r.ensures a.out.now _ c.enum_told-in-Several-1.given.1 refl
+returns-in-Several c = let a = c.args in listed a.volume.now c.geometry-g.ensures c.log_in-r.ensures a.out.now _ c.in-Several.is refl

@@ -16,13 +16,13 @@ loop-i-init c =
     (z, granting_start _ _ _ _ _ (omega arith))
 
 pub returns-in_default : goal.returns-in_default
-returns-in_default c = granting_stop c.loop-i.invariant.1 (omega arith) (sym c.grant_one-granted.ensures ∙ c.enum_told-1.given.1)
+returns-in_default c = granting_stop c.loop-i.invariant.1 (omega arith) (sym c.grant_one-granted.ensures ∙ c.in_default.is)
 
 pub loop-i-preserved : goal.loop-i-preserved
 loop-i-preserved c =
     let l = c.loop-i in (
       ap (λ (r : Regions). length r.list) c.add-next.ensures ∙ padded_length places _,
-      granting_next l.invariant.1 (omega arith) (omega arith) (sym c.grant_one-granted.ensures ∙ c.granted-1.given.1) c.add-next.ensures,
+      granting_next l.invariant.1 (omega arith) (omega arith) (sym c.grant_one-granted.ensures ∙ c.in-Given.is) c.add-next.ensures,
     )
 
 pub returns : goal.returns

@@ -20,4 +20,7 @@ returns c =
     let f : a.from + n ≤ length w = omega arith in
     let m : length c.read_full-got.new.1.0 ≡ length e - n = c.window-2-1.given.0 ∙ mid_len n (length e) e (omega arith) in
     let b = c.read_full-got.ensures.0 in
-    ((omega arith, rw c.window-2-1.given.1 (omega arith)), front_stays w e c.read_full-got.new.1.0 a.from n f c.shift.ensures l m)
+    record {
+      from_le_to = (omega arith, rw c.window-2-1.given.1 (omega arith));
+      from_after = front_stays w e c.read_full-got.new.1.0 a.from n f c.shift.ensures l m;
+    }

@@ -14,4 +14,4 @@ pub overflow_add-result : goal.overflow_add-result
 overflow_add-result c = omega (arith, used_in_lem c, c.refill-u.ensures.from_le_to, c.refill-u.auto.0, c.before.before.before.before.before.before.before.before.before.before.before.before.before.before.before.before.before.before.before.before.before.before.well-formed.1.1.0.0)
 
 pub returns : goal.returns
-returns c = (used_in_lem c@After-struct_known, rw c.window-2-1.given.1 (omega (arith, c.refill-u.ensures.from_le_to)))
+returns c = (used_in_lem c, rw c.window-2-1.given.1 (omega (arith, c.refill-u.ensures.from_le_to)))

@@ -7,23 +7,26 @@ use borrow.Author.Rules.{rules}
 use Rattle.replay_turn.proofs.take_turn.Goals as goal
 
 pub call_next-requires : goal.call_next-requires
-call_next-requires c = rw c.next-1.given.1 at c.next_of-next.ensures.within
+call_next-requires c = rw c.in-Call.is at c.next_of-next.ensures.within
 
 pub returns-in-End : goal.returns-in-End
 unfolding after
 returns-in-End c =
-    let e = sym c.next_of-next.ensures.value ∙ c.enum_told-1.given.1 in
+    let e = sym c.next_of-next.ensures.value ∙ c.in-End.is in
     rw c.stopped.ensures ((c.next_of-next.ensures.value, (rw e, omega arith)), rw e)
 
 pub returns-in-Bad : goal.returns-in-Bad
 unfolding after
 returns-in-Bad c =
-    let e = sym c.next_of-next.ensures.value ∙ c.enum_told-in-Bad-1.given.1 in
+    let e = sym c.next_of-next.ensures.value ∙ c.in-Bad.is in
     rw c.stopped-in-Bad.ensures ((c.next_of-next.ensures.value, (rw e, omega arith)), rw e)
 
 pub returns-in-Call : goal.returns-in-Call
 unfolding after
 returns-in-Call c =
-    let e = sym c.next_of-next.ensures.value ∙ c.next-1.given.1 in
-    let w = rw c.next-1.given.1 at c.next_of-next.ensures.within in
-    ((c.call_next.ensures.next_value.0 ∙ sym e, (rw e c.call_next.ensures.next_value.1, omega (arith, c.call_next.ensures.next_value.1, w.1.1))), rw (e, next_lent_lem c.args.s.now _ e) c.call_next.ensures.at_after)
+    let e = sym c.next_of-next.ensures.value ∙ c.in-Call.is in
+    let w = rw c.in-Call.is at c.next_of-next.ensures.within in
+    record {
+      next_value = (c.call_next.ensures.next_value.0 ∙ sym e, (rw e c.call_next.ensures.next_value.1, omega (arith, c.call_next.ensures.next_value.1, w.1.1)));
+      at_after = rw (e, next_lent_lem c.args.s.now _ e) c.call_next.ensures.at_after;
+    }

@@ -4,19 +4,19 @@ use borrow.Author.Rules.{rules}
 use Rattle.seam_desk.proofs.told.Goals as goal
 
 pub high-requires : goal.high-requires
-high-requires c = rw c.place-1.given.1 at c.requires
+high-requires c = rw c.in-Own.is at c.requires
 
 pub high-requires-in-House : goal.high-requires-in-House
-high-requires-in-House c = rw c.place-in-House-1.given.1 at c.requires
+high-requires-in-House c = rw c.in-House.is at c.requires
 
 pub returns-in-Own : goal.returns-in-Own
-returns-in-Own c = rw c.place-1.given.1 (omega (arith, c.high.ensures))
+returns-in-Own c = rw c.in-Own.is (omega (arith, c.high.ensures))
 
 pub returns-in-House : goal.returns-in-House
-returns-in-House c = rw c.place-in-House-1.given.1 (omega (arith, c.high-in-House.ensures))
+returns-in-House c = rw c.in-House.is (omega (arith, c.high-in-House.ensures))
 
 pub returns-in-Neither : goal.returns-in-Neither
-returns-in-Neither c = rw c.enum_told-1.given.1
+returns-in-Neither c = rw c.in-Neither.is
 
 pub returns-in-Lists : goal.returns-in-Lists
-returns-in-Lists c = rw c.enum_told-in-Lists-1.given.1
+returns-in-Lists c = rw c.in-Lists.is

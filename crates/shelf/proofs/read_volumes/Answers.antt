@@ -10,11 +10,8 @@ use Rattle.shelf_figures.proofs.OrderLaws.{bare_within}
 use Rattle.shelf_report.specs.Room.{OfVolumes}
 use Rattle.shelf.proofs.ReadingLaws.{left, Next, next_read}
 use borrow.Author.Rules.{rules}
+use Rattle.shelf.proofs.read_volumes.Invariants.{SoFar}
 use Rattle.shelf.proofs.read_volumes.Goals as goal
-
-record SoFar (volume₀ volume : List ℕ) (shelf : Shelf) : Type 0 where
-  long : length volume ≡ length volume₀
-  of_volumes : OfVolumes shelf
 
 -- a bare shelf has seen none
 none_seen : (s : Shelf) → s ≡ bare → OfVolumes s
@@ -27,7 +24,7 @@ next : (c : tie.After-after-read invariant-loop decreases-loop) → Next c.befor
 next c = next_read _ _ _ c.after_read.ensures c.before.before.before.before.before.before.before.loop.invariant.of_volumes
 
 pub loop-more-smaller : goal.loop-more-smaller
-loop-more-smaller c = rw c.loop-more-test.true (next c@After-after_read).fewer
+loop-more-smaller c = rw c.loop-more-test.true (next c).fewer
 
 pub loop-more-preserved : goal.loop-more-preserved
-loop-more-preserved c = record { long = search rules; of_volumes = (next c@After-after_read).of_volumes }
+loop-more-preserved c = record { long = search rules; of_volumes = (next c).of_volumes }

@@ -1,15 +1,17 @@
 -- At no slot: the chain begins here. At a slot: its word has the new one behind the bit.
-use mathlib.Core.Path.{◌≡◌, refl, sym, ap, ◌∙◌}
-use mathlib.Core.Bool.{cond}
-use Prim.Native.Nat.{ℕ, ◌<◌}
+use mathlib.Core.Path.{ap, ◌∙◌}
+use Prim.Native.Nat.{ℕ}
 use native.Mathlib.Omega.{arith}
-use borrow.Author.Rules.{rules}
 use borrow.Author.Tests.{ne_eqb}
 use Rattle.shelf_files.specs.CodeTree.{next_in}
 use Rattle.shelf_files.proofs.link.Goals as goal
 
 pub returns-then-last-eq0 : goal.returns-then-last-eq0
-returns-then-last-eq0 c = (rw c.if-last-eq0.true, rw c.if-last-eq0.true)
+returns-then-last-eq0 c =
+    record {
+      heads_after = rw c.if-last-eq0.true;
+      nodes_after = rw c.if-last-eq0.true;
+    }
 
 pub with_next-requires : goal.with_next-requires
 with_next-requires c =
@@ -21,4 +23,7 @@ overflow_cast-nodes c = omega (arith, c.with_next.ensures.1)
 pub returns : goal.returns
 returns c =
     let some = ne_eqb c.args.last 0 c.if-last-eq0.false in
-    (rw some, rw (some, c.with_next.ensures.0, c.word-node.ensures.0))
+    record {
+      heads_after = rw some;
+      nodes_after = rw (some, c.with_next.ensures.0, c.word-node.ensures.0);
+    }

@@ -14,18 +14,8 @@ use Rattle.shelf_files.proofs.TreeLaws.{no_heads, no_nodes}
 use Rattle.shelf_holdings.specs.Holdings.{is_entry, entries, is_file, files}
 use Rattle.shelf_holdings.specs.CodeEntries.{slot_records, records_by_entries}
 use borrow.Author.Rules.{rules}
+use Rattle.shelf_holdings.proofs.count.Invariants.{SoFar}
 use Rattle.shelf_holdings.proofs.count.Goals as goal
-
-record SoFar (g : Geometry) (v heads nodes : List ℕ) (f e r i : ℕ) : Type 0 where
-  low : i ≤ slots g
-  few_files : f ≤ i
-  few_entries : e ≤ i
-  few_records : r ≤ 512 * i
-  files_are : Summed (λ j. cond (is_file g v j) 1 0) (slots g) f i
-  entries_are : Summed (λ j. cond (is_entry g v j) 1 0) (slots g) e i
-  records_are : Summed (slot_records g v) (slots g) r i
-  begin : Heads g v heads i
-  go_on : Nodes g v nodes i
 
 -- nothing is kept yet
 no_begin : (n c : ℕ) → byte (replicate n 0) c ≡ 0
@@ -50,7 +40,11 @@ loop-i-init c =
 pub add_slot-c-requires : goal.add_slot-c-requires
 add_slot-c-requires c =
     let s = c.loop-i.invariant in
-    (search rules, ((search rules, (s.few_files, (s.few_entries, s.few_records))), (s.begin, s.go_on)))
+    record {
+      volume = search rules;
+      i_bound = (search rules, (s.few_files, (s.few_entries, s.few_records)));
+      heads = (s.begin, s.go_on);
+    }
 
 pub loop-i-preserved : goal.loop-i-preserved
 loop-i-preserved c =
@@ -71,4 +65,8 @@ pub returns : goal.returns
 unfolding files entries records_by_entries
 returns c =
     let s = c.loop-i.invariant in
-    (summed_end s.files_are (search rules) ∙ sym (count_sum _ 0 _), (summed_end s.entries_are (search rules) ∙ sym (count_sum _ 0 _), summed_end s.records_are (search rules)))
+    record {
+      files_value = summed_end s.files_are (search rules) ∙ sym (count_sum _ 0 _);
+      entries_value = summed_end s.entries_are (search rules) ∙ sym (count_sum _ 0 _);
+      records_value = summed_end s.records_are (search rules);
+    }

@@ -21,4 +21,7 @@ returns c =
     (then (wrote (line s.held) c.put_line-e.ensures)
     (then (wrote (line s.free) c.put_line-f.ensures)
     (wrote (line s.waste) c.put_line.ensures))))))).is in
-    (is, rw (← is) at (puts_within (text a.out.now 0) (report s) (omega arith)))
+    record {
+      result_after = is;
+      upper_bound = rw (← is) at (puts_within (text a.out.now 0) (report s) (omega arith));
+    }

@@ -14,3 +14,9 @@ pub returns : goal.returns
 returns c =
     let l = c.loop-i in
     sym (puts_end (text l.out l.p) c.args.s.now l.i (search rules)) ∙ l.invariant.1.1
+
+pub loop-i-preserved : goal.loop-i-preserved
+loop-i-preserved c =
+    let l = c.loop-i in
+    let s = c.args.s.now in
+    (search rules, (c.put_byte-p.auto.out ∙ l.invariant.1.0, ap (λ (t : Text). puts t (drop (l.i + 1) s)) c.put_byte-p.ensures ∙ sym (puts_next (text l.out l.p) s l.i (search rules)) ∙ l.invariant.1.1))

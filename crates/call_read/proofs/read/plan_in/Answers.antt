@@ -1,4 +1,6 @@
 -- The two tests are the definition's, on the entry that is lent from the slot.
+use mathlib.Core.Bool.{not}
+use mathlib.Core.Path.{ap}
 use borrow.Author.Tests.{not-true, not-false}
 use borrow.Author.Rules.{rules}
 use Rattle.disk_volume.proofs.EntryLaws.{lent_slot}
@@ -10,7 +12,7 @@ unfolding plan_in
 returns-then-not-is_counted c =
     let a = c.args in
     let at = c.slot_start-at in
-    rw (← lent_slot a.g a.volume.now a.slot at.result at.ensures.0, ← c.is_counted.ensures, not-true c.is_counted.result c.if-not-is_counted.true)
+    rw (← lent_slot a.g a.volume.now a.slot at.result at.ensures.0, ← c.is_counted.ensures, not-true c.is_counted.result (ap not c.if-not-is_counted.true))
 
 pub returns-then-not-is_inside : goal.returns-then-not-is_inside
 unfolding plan_in
@@ -20,11 +22,11 @@ returns-then-not-is_inside c =
     rw (
       ← lent_slot a.g a.volume.now a.slot at.result at.ensures.0,
       ← c.is_counted.ensures,
-      not-false c.is_counted.result c.if-not-is_counted.false,
+      not-false c.is_counted.result (ap not c.if-not-is_counted.false),
       ← c.place.ensures.0,
       ← c.block_in-block.ensures.0,
       ← c.is_inside.ensures,
-      not-true c.is_inside.result c.if-not-is_inside.true,
+      not-true c.is_inside.result (ap not c.if-not-is_inside.true),
     )
 
 pub returns : goal.returns
@@ -35,9 +37,9 @@ returns c =
     rw (
       ← lent_slot a.g a.volume.now a.slot at.result at.ensures.0,
       ← c.is_counted.ensures,
-      not-false c.is_counted.result c.if-not-is_counted.false,
+      not-false c.is_counted.result (ap not c.if-not-is_counted.false),
       ← c.place.ensures.0,
       ← c.block_in-block.ensures.0,
       ← c.is_inside.ensures,
-      not-false c.is_inside.result c.if-not-is_inside.false,
+      not-false c.is_inside.result (ap not c.if-not-is_inside.false),
     )

@@ -7,28 +7,36 @@ use Rattle.call_read.specs.Read.{read_bytes}
 use Rattle.call_read.proofs.ReadLaws.{Goes, plan_go, plan_no}
 use Rattle.call_read.proofs.read.read_record.Goals as goal
 
--- TODO place In-Go-2 
--- what the arm that reads may rely on
-goes : (c : goal.In-Go-2) → (let a = c.args in Goes a.g a.volume.now a.user (name_of a.fcb.now) a.n a.missing c.slot-1.given.0.0 c.slot-1.given.0.1.0)
-unfolding name_at part
-goes c =
-    let a = c.args in
-    plan_go a.g a.volume.now a.user (name_of a.fcb.now) a.n a.missing c.requires.n_lt_file_records.1 c.slot-1.given.0.0 c.slot-1.given.0.1.0 (sym c.plan.ensures ∙ c.slot-1.given.1)
-
 pub act-requires : goal.act-requires
+unfolding name_at part
 act-requires c =
-    let k = goes c@After-slot in
-    (c.requires.volume_and, (k.slot_in, (k.block_in, c.requires.n_lt_file_records.0)))
+    let goes : (let a = c.args in Goes a.g a.volume.now a.user (name_of a.fcb.now) a.n a.missing c.in-Go.slot c.in-Go.block) = (let a = c.args in
+    plan_go a.g a.volume.now a.user (name_of a.fcb.now) a.n a.missing c.requires.n_lt_file_records.1 c.in-Go.slot c.in-Go.block (sym c.plan.ensures ∙ c.in-Go.is)) in
+    let k = goes in
+    record {
+      volume_and = c.requires.volume_and;
+      slot_bound = (k.slot_in, (k.block_in, c.requires.n_lt_file_records.0));
+    }
 
 pub returns-in-No : goal.returns-in-No
 unfolding name_at part
 returns-in-No c =
     let a = c.args in
-    let k = plan_no a.g a.volume.now a.user (name_of a.fcb.now) a.n a.missing c.requires.n_lt_file_records.1 c.why-1.given.0.0 (sym c.plan.ensures ∙ c.why-1.given.1) in
-    (k.0, (rw k.1, rw k.1))
+    let k = plan_no a.g a.volume.now a.user (name_of a.fcb.now) a.n a.missing c.requires.n_lt_file_records.1 c.in-No.why (sym c.plan.ensures ∙ c.in-No.is) in
+    record {
+      value = k.0;
+      fcb_after = rw k.1;
+      buffer_after = rw k.1;
+    }
 
 pub returns-in-Go : goal.returns-in-Go
-unfolding read_bytes
+unfolding read_bytes name_at part
 returns-in-Go c =
-    let k = goes c@After-slot in
-    (sym k.clear, (rw (← k.slot_is) c.act.ensures.fcb_after, rw (← k.block_is) c.act.ensures.buffer_after))
+    let goes : (let a = c.args in Goes a.g a.volume.now a.user (name_of a.fcb.now) a.n a.missing c.in-Go.slot c.in-Go.block) = (let a = c.args in
+    plan_go a.g a.volume.now a.user (name_of a.fcb.now) a.n a.missing c.requires.n_lt_file_records.1 c.in-Go.slot c.in-Go.block (sym c.plan.ensures ∙ c.in-Go.is)) in
+    let k = goes in
+    record {
+      value = sym k.clear;
+      fcb_after = rw (← k.slot_is) c.act.ensures.fcb_after;
+      buffer_after = rw (← k.block_is) c.act.ensures.buffer_after;
+    }

@@ -12,22 +12,33 @@ use mathlib.Core.Path.{◌≡◌, refl, sym, ◌∙◌}
 use borrow.Author.Rules.{rules}
 use Rattle.call_rename.proofs.rename.attribute_file.Goals as goal
 
--- TODO place After-first_of-why 
-why : (c : goal.After-first_of-why) → (let a = c.args in c.first_of-why.result ≡ first a.before (first_met (test NoMatch (leb (slots a.g) (find_slot a.g a.volume.now a.user (strip a.name.now) File)) ∷ [])))
-why c =
-    let a = c.args in
-    rw (← ladder_one NoMatch (leb (slots a.g) (find_slot a.g a.volume.now a.user (strip a.name.now) File)) refl, ← c.find-first.ensures.0, ← c.slots.ensures.0, ← c.refuse-no_match.ensures) c.first_of-why.ensures
-
 pub change_most-requires : goal.change_most-requires
-change_most-requires c = ((c.requires.0, c.requires.1.0), ((c.requires.1.1, c.requires.1.1), c.find-first.ensures.0))
+change_most-requires c =
+    record {
+      volume = (c.requires.0, c.requires.1.0);
+      name = (c.requires.1.1, c.requires.1.1);
+      first_value = c.find-first.ensures.0;
+    }
 
 pub returns-then-is_none : goal.returns-then-is_none
 returns-then-is_none c =
+    let why : (let a = c.args in c.first_of-why.result ≡ first a.before (first_met (test NoMatch (leb (slots a.g) (find_slot a.g a.volume.now a.user (strip a.name.now) File)) ∷ []))) = (let a = c.args in
+    rw (← ladder_one NoMatch (leb (slots a.g) (find_slot a.g a.volume.now a.user (strip a.name.now) File)) refl, ← c.find-first.ensures.0, ← c.slots.ensures.0, ← c.refuse-no_match.ensures) c.first_of-why.ensures) in
     let n = sym c.is_none.ensures ∙ c.if-is_none.true in
     let o = c.change_most in
-    (why c@After-first_of, (rw n o.ensures.0, rw n o.ensures.1))
+    record {
+      value = why;
+      volume_after = rw n o.ensures.volume_after;
+      left_after = rw n o.ensures.left_after;
+    }
 
 pub returns-else-is_none : goal.returns-else-is_none
 returns-else-is_none c =
+    let why : (let a = c.args in c.first_of-why.result ≡ first a.before (first_met (test NoMatch (leb (slots a.g) (find_slot a.g a.volume.now a.user (strip a.name.now) File)) ∷ []))) = (let a = c.args in
+    rw (← ladder_one NoMatch (leb (slots a.g) (find_slot a.g a.volume.now a.user (strip a.name.now) File)) refl, ← c.find-first.ensures.0, ← c.slots.ensures.0, ← c.refuse-no_match.ensures) c.first_of-why.ensures) in
     let n = sym c.is_none.ensures ∙ c.if-is_none.false in
-    (why c@After-first_of, (rw n, rw n))
+    record {
+      value = why;
+      volume_after = rw n;
+      left_after = rw n;
+    }

@@ -4,13 +4,13 @@ use borrow.Author.Rules.{rules}
 use Rattle.call_search.proofs.search.find_sought.Goals as goal
 
 pub returns-in-Nothing : goal.returns-in-Nothing
-returns-in-Nothing c = (rw c.enum_told-1.given.1 c.find_from.ensures.0, c.find_from.ensures.1)
+returns-in-Nothing c = (rw c.in-Nothing.is c.find_from.ensures.0, c.find_from.ensures.1)
 
 pub returns-in-Everything : goal.returns-in-Everything
-returns-in-Everything c = (rw c.enum_told-in-Everything-1.given.1 c.find_from-in-Everything.ensures.0, c.find_from-in-Everything.ensures.1)
+returns-in-Everything c = (rw c.in-Everything.is c.find_from-in-Everything.ensures.0, c.find_from-in-Everything.ensures.1)
 
 pub returns-then-ex-eq-WILDCARD : goal.returns-then-ex-eq-WILDCARD
-returns-then-ex-eq-WILDCARD c = (rw (c.enum_told-in-Pattern-1.given.1, eq-eqb c.args.ex 63 c.if-ex-eq-WILDCARD.true) c.find_from-then-ex-eq-WILDCARD.ensures.0, c.find_from-then-ex-eq-WILDCARD.ensures.1)
+returns-then-ex-eq-WILDCARD c = (rw (c.in-Pattern.is, eq-eqb c.args.ex 63 c.if-ex-eq-WILDCARD.true) c.find_from-then-ex-eq-WILDCARD.ensures.0, c.find_from-then-ex-eq-WILDCARD.ensures.1)
 
 pub returns-else-ex-eq-WILDCARD : goal.returns-else-ex-eq-WILDCARD
-returns-else-ex-eq-WILDCARD c = (rw (c.enum_told-in-Pattern-1.given.1, ne_eqb c.args.ex 63 c.if-ex-eq-WILDCARD.false, ← c.wide.ensures.0, ← c.group-k.ensures) c.find_from-else-ex-eq-WILDCARD.ensures.0, c.find_from-else-ex-eq-WILDCARD.ensures.1)
+returns-else-ex-eq-WILDCARD c = (rw (c.in-Pattern.is, ne_eqb c.args.ex 63 c.if-ex-eq-WILDCARD.false, ← c.wide.ensures.0, ← c.group-k.ensures) c.find_from-else-ex-eq-WILDCARD.ensures.0, c.find_from-else-ex-eq-WILDCARD.ensures.1)

@@ -14,7 +14,14 @@ unfolding slot_record part
 returns-then-slot-n c =
     let at = c.slot_record-at in
     let z : at.result + 128 - at.result ≡ 128 = omega arith in
-    (c.hit_from-slot.ensures, rw (lt-ltb c.hit_from-slot.result (slots c.args.g) (omega arith), ← at.ensures.0) (rw z at c.copy.ensures))
+    record {
+      value = c.hit_from-slot.ensures;
+      buffer_after = rw (lt-ltb c.hit_from-slot.result (slots c.args.g) (omega arith), ← at.ensures.0) (rw z at c.copy.ensures);
+    }
 
 pub returns-else-slot-n : goal.returns-else-slot-n
-returns-else-slot-n c = (c.hit_from-slot.ensures, rw (le-ltb c.hit_from-slot.result (slots c.args.g) (omega arith)))
+returns-else-slot-n c =
+    record {
+      value = c.hit_from-slot.ensures;
+      buffer_after = rw (le-ltb c.hit_from-slot.result (slots c.args.g) (omega arith));
+    }

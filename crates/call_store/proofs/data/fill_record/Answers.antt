@@ -9,19 +9,22 @@ use Rattle.disk_geometry.specs.Geometry.{records}
 use Rattle.disk_geometry.proofs.ShiftLaws.{block_shift}
 use Rattle.call_store.proofs.data.fill_record.Goals as goal
 
--- TODO place After-blm 
-place_within : (c : goal.After-blm) → (let a = c.args in bit_and a.n c.blm.result ≡ a.n % records a.g)
-place_within c =
-    ap (bit_and c.args.n) c.blm.ensures ∙ (block_shift c.args.g c.requires.volume.0).remainder c.args.n
-
 pub returns-then-k-n : goal.returns-then-k-n
 returns-then-k-n c =
+    let place_within : (let a = c.args in bit_and a.n c.blm.result ≡ a.n % records a.g) = ap (bit_and c.args.n) c.blm.ensures ∙ (block_shift c.args.g c.requires.volume.0).remainder c.args.n in
     let a = c.args in
-    let e : a.k ≡ a.n % records a.g = c.if-k-n.true ∙ place_within c@After-blm in
-    (c.put_record.ensures.volume_after ∙ rw (eq-eqb a.k (a.n % records a.g) e), c.put_record.ensures.left_after)
+    let e : a.k ≡ a.n % records a.g = c.if-k-n.true ∙ place_within in
+    record {
+      volume_after = c.put_record.ensures.volume_after ∙ rw (eq-eqb a.k (a.n % records a.g) e);
+      left_after = c.put_record.ensures.left_after;
+    }
 
 pub returns : goal.returns
 returns c =
+    let place_within : (let a = c.args in bit_and a.n c.blm.result ≡ a.n % records a.g) = ap (bit_and c.args.n) c.blm.ensures ∙ (block_shift c.args.g c.requires.volume.0).remainder c.args.n in
     let a = c.args in
-    let e : a.k ≢ a.n % records a.g = λ q. c.if-k-n.false (q ∙ sym (place_within c@After-blm)) in
-    (c.put_record-2.ensures.volume_after ∙ rw (ne_eqb a.k (a.n % records a.g) e), c.put_record-2.ensures.left_after)
+    let e : a.k ≢ a.n % records a.g = λ q. c.if-k-n.false (q ∙ sym place_within) in
+    record {
+      volume_after = c.put_record-2.ensures.volume_after ∙ rw (ne_eqb a.k (a.n % records a.g) e);
+      left_after = c.put_record-2.ensures.left_after;
+    }

@@ -4,4 +4,8 @@ use borrow.Author.Rules.{rules}
 use Rattle.call_store.proofs.data.put_record.Goals as goal
 
 pub returns : goal.returns
-returns c = (c.store_record.ensures.volume_after ∙ rw c.record_of-q.ensures.0, c.store_record.ensures.left_after)
+returns c =
+    record {
+      volume_after = c.store_record.ensures.volume_after ∙ rw c.record_of-q.ensures.0;
+      left_after = c.store_record.ensures.left_after;
+    }

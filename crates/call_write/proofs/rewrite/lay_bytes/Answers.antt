@@ -11,10 +11,10 @@ use Rattle.call_write.proofs.rewrite.lay_bytes.Goals as goal
 pub returns-then-not-again : goal.returns-then-not-again
 returns-then-not-again c =
     let a = c.args in
-    rw (not-true a.again c.if-not-again.true) c.copy.ensures
+    rw c.if-not-again.true c.copy.ensures
 
 pub returns : goal.returns
 returns c =
     let a = c.args in
-    rw (not-false a.again c.if-not-again.false)
+    rw c.if-not-again.false
     (c.set_first_two.ensures ∙ ap (λ (x : List ℕ). with_first_two a.low a.high x) c.fetch.ensures)

@@ -4,7 +4,7 @@ use borrow.Author.Rules.{rules}
 use Rattle.call_write.proofs.write.hold_if.Goals as goal
 
 pub returns-then-not-fresh : goal.returns-then-not-fresh
-returns-then-not-fresh c = rw (not-true c.args.fresh c.if-not-fresh.true)
+returns-then-not-fresh c = rw c.if-not-fresh.true
 
 pub returns : goal.returns
-returns c = rw (not-false c.args.fresh c.if-not-fresh.false) c.hold.ensures
+returns c = rw c.if-not-fresh.false c.hold.ensures

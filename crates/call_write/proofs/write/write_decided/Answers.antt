@@ -11,7 +11,11 @@ lay_bytes-requires c =
 
 pub carry_out-requires : goal.carry_out-requires
 carry_out-requires c =
-    (c.requires.volume.0, ((c.requires.fcb.0, (search rules, search rules)), (c.requires.entry.1.0, (c.requires.entry.1.1, c.requires.fcb.1.1))))
+    record {
+      volume = c.requires.volume.0;
+      fcb = (c.requires.fcb.0, (search rules, search rules));
+      slot_bound = (c.requires.entry.1.0, (c.requires.entry.1.1, c.requires.fcb.1.1));
+    }
 
 -- the words have a bit for the block
 pub hold_if-requires : goal.hold_if-requires

@@ -13,15 +13,6 @@ use Rattle.call_write.specs.Rewrite.{with_first_two, bytes_of}
 use Rattle.call_write.proofs.DecidedLaws.{wrote_nothing, wrote, slot_fits_lem, block_fits, shown_counted}
 use Rattle.call_write.proofs.write.write_record.Goals as goal
 
--- TODO place Else-not-is_none 
-none_met : (c : goal.Else-not-is_none) → is_none c.decide-plan.result.why ≡ true
-none_met c = sym c.is_none.ensures ∙ not-false c.is_none.result c.if-not-is_none.false
-
--- TODO place Else-not-is_none 
-decided : (c : goal.Else-not-is_none) → (let a = c.args in let r = c.decide-plan.result in Decided a.g a.held.now a.volume.now a.user (name_of a.fcb.now) a.n r.slot r.block r.fresh c.decide-plan.new.1.1.1.1.1.1.0)
-unfolding name_at part
-decided c = c.decide-plan.ensures.decided (none_met c)
-
 -- the bytes that are written
 abbrev bytes : (s : tie.Start) → List ℕ
 bytes s = let a = s.args in bytes_of a.g a.volume.now a.user (name_of a.fcb.now) a.n a.buffer.now a.again a.low a.high
@@ -36,10 +27,12 @@ returns-then-not-is_none c =
 pub write_decided-requires : goal.write_decided-requires
 unfolding name_at part
 write_decided-requires c =
+    let none_met : is_none c.decide-plan.result.why ≡ true = sym c.is_none.ensures ∙ not-false c.is_none.result c.if-not-is_none.false in
+    let decided : (let a = c.args in let r = c.decide-plan.result in Decided a.g a.held.now a.volume.now a.user (name_of a.fcb.now) a.n r.slot r.block r.fresh c.decide-plan.new.1.1.1.1.1.1.0) = c.decide-plan.ensures.decided none_met in
     let a = c.args in
     let w = c.decide-plan.ensures.why_value in
-    let none = none_met c@Else1 in
-    let d = decided c@Else1 in (
+    let none = none_met in
+    let d = decided in (
       c.requires.volume,
       (
         c.requires.fcb,

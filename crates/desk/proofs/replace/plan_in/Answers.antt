@@ -33,4 +33,4 @@ returns c = λ (held : List ℕ).
     let g = sym c.are_good.ensures ∙ not-false c.are_good.result c.if-not-are_good.false in
     let s = c.sift in
     planned_go _ _ _ _ _ _ _ c.requires.0 g c.listed-listed.ensures.0 c.if-listed-ge-FILE_RECORDS.false c.place_of-place.ensures.0 c.if-place-ge-PLACES.false (s.ensures held)
-    (not-false s.result c.if-not-sift.false) c.first_at.ensures.0 c.count_at.ensures.0
+    c.if-not-sift.false c.first_at.ensures.0 c.count_at.ensures.0

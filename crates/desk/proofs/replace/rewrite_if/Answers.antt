@@ -9,10 +9,16 @@ pub returns-then-hit : goal.returns-then-hit
 returns-then-hit c =
     let h = c.if-hit.true in
     let r = c.rewrite_most.ensures in
-    ((rw h, search rules), rw h r)
+    record {
+      value = (rw h, search rules);
+      stored = rw h r;
+    }
 
 pub returns : goal.returns
 returns c =
     let h = c.if-hit.false in
     let a = c.args in
-    ((rw h, search rules), rw h (record { volume_is = sym (cut_none a.front.geometry a.volume.now a.left.now); left_is = omega arith }))
+    record {
+      value = (rw h, search rules);
+      stored = rw h (record { volume_is = sym (cut_none a.front.geometry a.volume.now a.left.now); left_is = omega arith });
+    }

@@ -10,21 +10,22 @@ use Rattle.disk_geometry.specs.Geometry.{slots}
 use Rattle.disk_volume.proofs.EntryLaws.{lent_slot}
 use Rattle.disk_volume.proofs.directory.empty_by_slots.Goals as goal
 
--- what `has` answered is the test of slot i
-seen : (c : tie.After-has invariant-loop decreases-loop) → (let a = c.before.before.before.before.before.before.before.before.args in c.has.result ≡ slot_fits a.g a.volume.now a.user (strip a.name.now) Empty c.before.before.before.before.loop.i)
-seen c =
-    let a = c.before.before.before.before.before.before.before.before.args in
-    let at = c.before.before.slot-start in
-    rw (← lent_slot a.g a.volume.now c.before.before.before.before.loop.i at.result at.ensures.0) c.has.ensures
-
 pub loop-i-init : goal.loop-i-init
 loop-i-init c = (search rules, searched_start)
 
 pub returns-then-has : goal.returns-then-has
-returns-then-has c = (sym (searched_hit c.loop-i.invariant.1 (search rules) (sym (seen c@After-has) ∙ c.if-has.true)), search rules)
+returns-then-has c =
+    let seen : (let a = c.args in c.has.result ≡ slot_fits a.g a.volume.now a.user (strip a.name.now) Empty c.loop-i.i) = (let a = c.args in
+    let at = c.slot_start-at in
+    rw (← lent_slot a.g a.volume.now c.loop-i.i at.result at.ensures.0) c.has.ensures) in
+    (sym (searched_hit c.loop-i.invariant.1 (search rules) (sym seen ∙ c.if-has.true)), search rules)
 
 pub loop-i-preserved : goal.loop-i-preserved
-loop-i-preserved c = (search rules, searched_next c.loop-i.invariant.1 (search rules) (sym (seen c@After-has) ∙ c.if-has.false))
+loop-i-preserved c =
+    let seen : (let a = c.args in c.has.result ≡ slot_fits a.g a.volume.now a.user (strip a.name.now) Empty c.loop-i.i) = (let a = c.args in
+    let at = c.slot_start-at in
+    rw (← lent_slot a.g a.volume.now c.loop-i.i at.result at.ensures.0) c.has.ensures) in
+    (search rules, searched_next c.loop-i.invariant.1 (search rules) (sym seen ∙ c.if-has.false))
 
 pub returns : goal.returns
 returns c = (sym (searched_none c.loop-i.invariant.1 (search rules)), search rules)

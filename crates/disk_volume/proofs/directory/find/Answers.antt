@@ -14,7 +14,10 @@ use Rattle.disk_volume.proofs.directory.find.Goals as goal
 pub find_by_record-requires : goal.find_by_record-requires
 find_by_record-requires c =
     let e = the_floppy c.args.g c.requires.0 c.if-g-ne-STRAIGHT.true in
-    (of_floppy c.args.g e c.requires.0 c.args.volume.now c.requires.1.0, (omega arith, c.requires.1.1))
+    record {
+      volume = of_floppy c.args.g e c.requires.0 c.args.volume.now c.requires.1.0;
+      from_bound = (omega arith, c.requires.1.1);
+    }
 
 pub returns-then-g-ne-STRAIGHT : goal.returns-then-g-ne-STRAIGHT
 unfolding find_slot
@@ -34,7 +37,10 @@ slice_bounds-find_in-end c =
 pub find_in-requires : goal.find_in-requires
 find_in-requires c =
     let a = c.args in
-    ((c.requires.0, run_whole a.g c.requires.0 a.volume.now c.requires.1.0 a.user (strip a.name.now) a.wanted c.if-g-ne-STRAIGHT.false _ c.slots-end.ensures.0), (search rules, search rules))
+    record {
+      g_value = (c.requires.0, run_whole a.g c.requires.0 a.volume.now c.requires.1.0 a.user (strip a.name.now) a.wanted c.if-g-ne-STRAIGHT.false _ c.slots-end.ensures.0);
+      from_bound = (search rules, search rules);
+    }
 
 pub returns : goal.returns
 unfolding find_slot

@@ -13,7 +13,10 @@ use Rattle.disk_volume.proofs.directory.find_from.Goals as goal
 pub find_by_record-requires : goal.find_by_record-requires
 find_by_record-requires c =
     let e = the_floppy c.args.g c.requires.volume.0 c.if-g-ne-STRAIGHT.true in
-    (of_floppy c.args.g e c.requires.volume.0 c.args.volume.now c.requires.volume.1, (subst (λ (x : Geometry). c.args.from ≤ slots x) e c.requires.from_bound.0, c.requires.from_bound.1))
+    record {
+      volume = of_floppy c.args.g e c.requires.volume.0 c.args.volume.now c.requires.volume.1;
+      from_bound = (subst (λ (x : Geometry). c.args.from ≤ slots x) e c.requires.from_bound.0, c.requires.from_bound.1);
+    }
 
 pub returns-then-g-ne-STRAIGHT : goal.returns-then-g-ne-STRAIGHT
 returns-then-g-ne-STRAIGHT c =
@@ -31,7 +34,10 @@ slice_bounds-find_in-end c =
 pub find_in-requires : goal.find_in-requires
 find_in-requires c =
     let a = c.args in
-    ((c.requires.volume.0, run_whole a.g c.requires.volume.0 a.volume.now c.requires.volume.1 a.user (strip a.name.now) a.wanted c.if-g-ne-STRAIGHT.false _ c.slots-end.ensures.0), (search rules, search rules))
+    record {
+      g_value = (c.requires.volume.0, run_whole a.g c.requires.volume.0 a.volume.now c.requires.volume.1 a.user (strip a.name.now) a.wanted c.if-g-ne-STRAIGHT.false _ c.slots-end.ensures.0);
+      from_bound = (search rules, search rules);
+    }
 
 pub returns : goal.returns
 returns c =

@@ -13,20 +13,6 @@ use Rattle.disk_volume.proofs.EntryLaws.{lent_part}
 use Rattle.disk_volume.proofs.RunLaws.{one_more}
 use Rattle.disk_volume.proofs.directory.find_in.Goals as goal
 
--- there is a whole entry more
-more : (c : tie.In-loop invariant-loop decreases-loop) → c.before.loop.at + 32 ≤ length c.before.before.before.before.args.entries.now
-more c =
-    let s = c.before.before.before.before in
-    one_more c.before.loop.at (length s.args.entries.now) c.before.loop.invariant.0.0 c.before.loop.invariant.0.1 s.requires.0.1 c.loop-test.true
-
--- what `has` answered is the test of that entry
-seen : (c : tie.After-has invariant-loop decreases-loop) → (let a = c.before.before.before.before.before.before.args in c.has.result ≡ run_fits a.g a.entries.now a.user (strip a.name.now) a.wanted (c.before.before.before.loop.at / 32))
-seen c =
-    let a = c.before.before.before.before.before.before.args in
-    let at = c.before.before.before.loop.at in
-    let z : at ≡ at / 32 * 32 = omega (arith, c.before.before.before.loop.invariant.0.1) in
-    c.has.ensures ∙ ap (fits a.g a.user (strip a.name.now) a.wanted) (lent_part a.entries.now at 32 ∙ ap (λ (x : ℕ). part a.entries.now x 32) z)
-
 pub loop-at-init : goal.loop-at-init
 loop-at-init c =
     let from = c.args.from in
@@ -34,28 +20,46 @@ loop-at-init c =
     ((omega arith, omega arith), rw z searched_start)
 
 pub overflow_add-at : goal.overflow_add-at
-overflow_add-at c = omega (arith, more c)
+overflow_add-at c =
+    let more : c.loop-at.at + 32 ≤ length c.args.entries.now = one_more c.loop-at.at (length c.args.entries.now) c.loop-at.invariant.0.0 c.loop-at.invariant.0.1 c.requires.g_value.1 c.loop-at-test.true in
+    omega (arith, more)
 
 pub slice_bounds-has-end : goal.slice_bounds-has-end
-slice_bounds-has-end c = omega (arith, more c)
+slice_bounds-has-end c =
+    let more : c.loop-at.at + 32 ≤ length c.args.entries.now = one_more c.loop-at.at (length c.args.entries.now) c.loop-at.invariant.0.0 c.loop-at.invariant.0.1 c.requires.g_value.1 c.loop-at-test.true in
+    omega (arith, more)
 
 pub returns-then-has : goal.returns-then-has
 returns-then-has c =
-    let m = more c@In-loop in
-    (sym (searched_hit c.loop-at.invariant.1 (omega arith) (sym (seen c@After-has) ∙ c.if-has.true)), omega arith)
+    let more : c.loop-at.at + 32 ≤ length c.args.entries.now = one_more c.loop-at.at (length c.args.entries.now) c.loop-at.invariant.0.0 c.loop-at.invariant.0.1 c.requires.g_value.1 c.loop-at-test.true in
+    let seen : (let a = c.args in c.has.result ≡ run_fits a.g a.entries.now a.user (strip a.name.now) a.wanted (c.loop-at.at / 32)) = (let a = c.args in
+    let at = c.loop-at.at in
+    let z : at ≡ at / 32 * 32 = omega (arith, c.loop-at.invariant.0.1) in
+    c.has.ensures ∙ ap (fits a.g a.user (strip a.name.now) a.wanted) (lent_part a.entries.now at 32 ∙ ap (λ (x : ℕ). part a.entries.now x 32) z)) in
+    let m = more in
+    (sym (searched_hit c.loop-at.invariant.1 (omega arith) (sym seen ∙ c.if-has.true)), omega arith)
 
 pub overflow_add-at-in-loop-at : goal.overflow_add-at-in-loop-at
-overflow_add-at-in-loop-at c = omega (arith, more c@In-loop)
+overflow_add-at-in-loop-at c =
+    let more : c.loop-at.at + 32 ≤ length c.args.entries.now = one_more c.loop-at.at (length c.args.entries.now) c.loop-at.invariant.0.0 c.loop-at.invariant.0.1 c.requires.g_value.1 c.loop-at-test.true in
+    omega (arith, more)
 
 pub loop-at-smaller : goal.loop-at-smaller
-loop-at-smaller c = omega (arith, more c@In-loop)
+loop-at-smaller c =
+    let more : c.loop-at.at + 32 ≤ length c.args.entries.now = one_more c.loop-at.at (length c.args.entries.now) c.loop-at.invariant.0.0 c.loop-at.invariant.0.1 c.requires.g_value.1 c.loop-at-test.true in
+    omega (arith, more)
 
 pub loop-at-preserved : goal.loop-at-preserved
 loop-at-preserved c =
+    let more : c.loop-at.at + 32 ≤ length c.args.entries.now = one_more c.loop-at.at (length c.args.entries.now) c.loop-at.invariant.0.0 c.loop-at.invariant.0.1 c.requires.g_value.1 c.loop-at-test.true in
+    let seen : (let a = c.args in c.has.result ≡ run_fits a.g a.entries.now a.user (strip a.name.now) a.wanted (c.loop-at.at / 32)) = (let a = c.args in
     let at = c.loop-at.at in
-    let m = more c@In-loop in
+    let z : at ≡ at / 32 * 32 = omega (arith, c.loop-at.invariant.0.1) in
+    c.has.ensures ∙ ap (fits a.g a.user (strip a.name.now) a.wanted) (lent_part a.entries.now at 32 ∙ ap (λ (x : ℕ). part a.entries.now x 32) z)) in
+    let at = c.loop-at.at in
+    let m = more in
     let z : (at + 32) / 32 ≡ at / 32 + 1 = omega arith in
-    ((omega arith, omega (arith, c.loop-at.invariant.0.1)), rw z (searched_next c.loop-at.invariant.1 (omega arith) (sym (seen c@After-has) ∙ c.if-has.false)))
+    ((omega arith, omega (arith, c.loop-at.invariant.0.1)), rw z (searched_next c.loop-at.invariant.1 (omega arith) (sym seen ∙ c.if-has.false)))
 
 pub returns : goal.returns
 returns c = (sym (searched_none c.loop-at.invariant.1 (omega (arith, c.loop-at-test.false))), omega arith)

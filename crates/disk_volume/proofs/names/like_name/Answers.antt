@@ -10,14 +10,14 @@ use Rattle.disk_volume.proofs.names.like_name.Goals as goal
 pub loop-k-init : goal.loop-k-init
 loop-k-init c = (search rules, passed_start)
 
-pub returns-then-not-p-name : goal.returns-then-not-p-name
-returns-then-not-p-name c =
-    sym (like_places 11 c.args.name.now c.args.pattern.now (search rules) (search rules)
-    ∙ passed_fails c.loop-k.invariant.1 (search rules) (not-true _ c.if-not-p-name.true))
-
-pub loop-k-preserved : goal.loop-k-preserved
-loop-k-preserved c = (search rules, passed_next c.loop-k.invariant.1 (search rules) (not-false _ c.if-not-p-name.false))
-
 pub returns : goal.returns
 returns c =
     sym (like_places 11 c.args.name.now c.args.pattern.now (search rules) (search rules) ∙ passed_all c.loop-k.invariant.1 (search rules))
+
+pub returns-then-not-p-name : goal.returns-then-not-p-name
+returns-then-not-p-name c =
+    sym (like_places 11 c.args.name.now c.args.pattern.now (search rules) (search rules)
+    ∙ passed_fails c.loop-k.invariant.1 (search rules) c.if-not-p-name.true)
+
+pub loop-k-preserved : goal.loop-k-preserved
+loop-k-preserved c = (search rules, passed_next c.loop-k.invariant.1 (search rules) c.if-not-p-name.false)

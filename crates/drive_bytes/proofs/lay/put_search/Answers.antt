@@ -5,12 +5,12 @@ use Rattle.drive_bytes.proofs.lay.put_search.Goals as goal
 
 pub returns-in-Nothing : goal.returns-in-Nothing
 unfolding search_bytes
-returns-in-Nothing c = rw (c.enum_told-1.given.1, c.fill.ensures, c.requires)
+returns-in-Nothing c = rw (c.in-Nothing.is, c.fill.ensures, c.requires)
 
 pub returns-in-Pattern : goal.returns-in-Pattern
 unfolding search_bytes
-returns-in-Pattern c = rw c.enum_told-in-Pattern-1.given.1 c.put_kept.ensures
+returns-in-Pattern c = rw c.in-Pattern.is c.put_kept.ensures
 
 pub returns-in-Everything : goal.returns-in-Everything
 unfolding search_bytes
-returns-in-Everything c = rw c.enum_told-in-Everything-1.given.1 c.put_kept-in-Everything.ensures
+returns-in-Everything c = rw c.in-Everything.is c.put_kept-in-Everything.ensures

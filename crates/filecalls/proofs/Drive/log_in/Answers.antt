@@ -12,44 +12,50 @@ use mathlib.Core.Path.{refl, ◌≡◌, sym, ◌∙◌}
 use borrow.Author.Rules.{rules}
 use Rattle.filecalls.proofs.Drive.log_in.Goals as goal
 
--- TODO place Else-not-is_lawful 
-law : (c : goal.Else-not-is_lawful) → lawful c.args.g ≡ true
-law c = sym c.is_lawful.ensures ∙ not-false c.is_lawful.result c.if-not-is_lawful.false
-
--- TODO place Else-not-whole 
-whole : (c : goal.Else-not-whole) → length c.args.volume.now ≡ bytes c.args.g
-whole c = eqb-true _ _ (not-false _ c.if-not-whole.false) ∙ c.bytes.ensures
-
 pub returns-then-not-is_lawful : goal.returns-then-not-is_lawful
 unfolding log_in log_in_tests first_met refused_log_in
 returns-then-not-is_lawful c = c.closed_reply.ensures ∙ rw (← c.is_lawful.ensures, c.if-not-is_lawful.true)
 
 pub bytes-requires : goal.bytes-requires
-bytes-requires c = law c
+bytes-requires c =
+    let law : lawful c.args.g ≡ true = sym c.is_lawful.ensures ∙ not-false c.is_lawful.result c.if-not-is_lawful.false in
+    law
 
 pub returns-then-not-whole : goal.returns-then-not-whole
 unfolding log_in log_in_tests first_met refused_log_in
-returns-then-not-whole c = c.closed_reply-then-not-whole.ensures ∙ rw (law c@Else1, ← c.bytes.ensures, c.if-not-whole.true)
+returns-then-not-whole c =
+    let law : lawful c.args.g ≡ true = sym c.is_lawful.ensures ∙ not-false c.is_lawful.result c.if-not-is_lawful.false in
+    c.closed_reply-then-not-whole.ensures ∙ rw (law, ← c.bytes.ensures, c.if-not-whole.true)
 
 pub inspect-found-requires : goal.inspect-found-requires
-inspect-found-requires c = ((law c@Else1, whole c@Else2), refl)
+inspect-found-requires c =
+    let law : lawful c.args.g ≡ true = sym c.is_lawful.ensures ∙ not-false c.is_lawful.result c.if-not-is_lawful.false in
+    let whole : length c.args.volume.now ≡ bytes c.args.g = eqb-true _ _ c.if-not-whole.false ∙ c.bytes.ensures in
+    record {
+      volume = (law, whole);
+      held_value = refl;
+    }
 
 pub slots-requires : goal.slots-requires
-slots-requires c = law c@Else1
+slots-requires c =
+    let law : lawful c.args.g ≡ true = sym c.is_lawful.ensures ∙ not-false c.is_lawful.result c.if-not-is_lawful.false in
+    law
 
 pub returns-then-found-slots : goal.returns-then-found-slots
 unfolding log_in log_in_tests first_met refused_log_in
 returns-then-found-slots c =
+    let law : lawful c.args.g ≡ true = sym c.is_lawful.ensures ∙ not-false c.is_lawful.result c.if-not-is_lawful.false in
     let a = c.args in
     let s = c.inspect-found.ensures.slot_value.0 in
     let h : lowest_bad a.g a.volume.now < slots a.g = omega (arith, c.if-found-slots.true, s, c.slots.ensures.0) in
-    c.closed_reply-then-found-slots.ensures ∙ rw (law c@Else1, ← c.bytes.ensures, c.if-not-whole.false, lt-ltb _ _ h, s)
+    c.closed_reply-then-found-slots.ensures ∙ rw (law, ← c.bytes.ensures, c.if-not-whole.false, lt-ltb _ _ h, s)
 
 pub returns : goal.returns
 unfolding log_in log_in_tests first_met refused_log_in
 returns c =
+    let law : lawful c.args.g ≡ true = sym c.is_lawful.ensures ∙ not-false c.is_lawful.result c.if-not-is_lawful.false in
     let a = c.args in
     let n = c.slots.ensures.0 in
     let h : slots a.g ≤ lowest_bad a.g a.volume.now = omega (arith, c.if-found-slots.false, c.inspect-found.ensures.slot_value.0, n) in
     let found = c.inspect-found.ensures.held_after (omega (arith, c.if-found-slots.false, c.inspect-found.ensures.slot_value.1, n)) in
-    rw (law c@Else1, ← c.bytes.ensures, c.if-not-whole.false, le-ltb _ _ h, c.logged_in-drive.ensures, found.0, found.1)
+    rw (law, ← c.bytes.ensures, c.if-not-whole.false, le-ltb _ _ h, c.logged_in-drive.ensures, found.0, found.1)

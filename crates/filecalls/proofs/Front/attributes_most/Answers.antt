@@ -39,10 +39,10 @@ returns-then-not-is_none c = λ (held : List ℕ).
     cut_named_no (joined a.self held) a.volume.now a.fcb.now a.left.now false _ _ (c.named_why-why.ensures held) c.is_none.ensures c.if-not-is_none.true (c.refused.ensures held)
 
 pub slice_bounds-attribute_file-end : goal.slice_bounds-attribute_file-end
-slice_bounds-attribute_file-end c = omega (arith, (clear [] c@Else1).lent.fcb)
+slice_bounds-attribute_file-end c = omega (arith, (clear [] c).lent.fcb)
 
 pub attribute_file-why-requires : goal.attribute_file-why-requires
-attribute_file-why-requires c = let l = (clear [] c@Else1).lent in (l.state.law, (l.volume, search rules))
+attribute_file-why-requires c = let l = (clear [] c).lent in (l.state.law, (l.volume, search rules))
 
 pub returns : goal.returns
 unfolding attributes_act attributes_ladder changed_state name_at part
@@ -53,6 +53,6 @@ returns c = λ (held : List ℕ).
     let f = a.fcb.now in
     let m = c.attribute_file-why in
     let t = is_none m.result in
-    cut_named_decided d v f a.left.now (clear held c@Else1) 0 keeps (sweep_stores d.geometry (of_file d.user (name_of f)) (λ e. attributed e (part f 1 11)) v 0 (directory_records d.geometry)) f _
+    cut_named_decided d v f a.left.now (clear held c) 0 keeps (sweep_stores d.geometry (of_file d.user (name_of f)) (λ e. attributed e (part f 1 11)) v 0 (directory_records d.geometry)) f _
     (after (protected_drive d ∷ []) (test NoMatch (leb (slots d.geometry) (find_slot d.geometry v d.user (name_of f) File)) ∷ []) (c.refuse-before.ensures ∙ ladder_one Protected d.protected refl) m.ensures.0)
     (either t d) m.ensures.1.0 (either t f) m.ensures.1.1 (c.answered.ensures held)

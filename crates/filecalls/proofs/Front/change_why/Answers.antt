@@ -36,19 +36,19 @@ returns-then-not-is_none c = λ (held : List ℕ).
     e ∙ sym (ladder_stop xs _ (refuses xs e c.is_none.ensures c.if-not-is_none.true))
 
 pub slots-slots-requires : goal.slots-slots-requires
-slots-slots-requires c = (clear [] c@Else1).lent.state.law
+slots-slots-requires c = (clear [] c).lent.state.law
 
 pub slice_bounds-find-end : goal.slice_bounds-find-end
-slice_bounds-find-end c = omega (arith, (clear [] c@Else1).lent.fcb)
+slice_bounds-find-end c = omega (arith, (clear [] c).lent.fcb)
 
 pub find-lowest-requires : goal.find-lowest-requires
-find-lowest-requires c = let l = (clear [] c@Else1).lent in (l.state.law, (l.volume, search rules))
+find-lowest-requires c = let l = (clear [] c).lent in (l.state.law, (l.volume, search rules))
 
 pub slice_bounds-find-end-2 : goal.slice_bounds-find-end-2
-slice_bounds-find-end-2 c = omega (arith, (clear [] c@Else1).lent.fcb)
+slice_bounds-find-end-2 c = omega (arith, (clear [] c).lent.fcb)
 
 pub find-read_only-requires : goal.find-read_only-requires
-find-read_only-requires c = let l = (clear [] c@Else1).lent in (l.state.law, (l.volume, search rules))
+find-read_only-requires c = let l = (clear [] c).lent in (l.state.law, (l.volume, search rules))
 
 pub returns : goal.returns
 unfolding change_tests name_at part
@@ -62,4 +62,4 @@ returns c = λ (held : List ℕ).
     c.first_of-2.ensures
     ∙ rw (c.first_of.ensures, c.refuse-a.ensures, c.refuse-b.ensures, c.refuse-c.ensures, c.find-lowest.ensures.0, c.find-read_only.ensures.0, c.slots-slots.ensures.0)
     (ladder_three Protected NoFile ReadOnly d.protected missing read_only refl)
-    ∙ sym (ladder_pass (plain_tests d v f false) (protected_drive d ∷ test NoFile missing ∷ test ReadOnly read_only ∷ []) (clear held c@Else1).none)
+    ∙ sym (ladder_pass (plain_tests d v f false) (protected_drive d ∷ test NoFile missing ∷ test ReadOnly read_only ∷ []) (clear held c).none)

@@ -27,7 +27,7 @@ returns-then-not-is_none c = λ (held : List ℕ).
     named_no (joined a.self held) a.volume.now a.fcb.now false _ _ (c.named_why-why.ensures held) c.is_none.ensures c.if-not-is_none.true (c.refused.ensures held)
 
 pub close_file-found-requires : goal.close_file-found-requires
-close_file-found-requires c = let l = (clear [] c@Else1).lent in (l.state.law, (l.volume, l.fcb))
+close_file-found-requires c = let l = (clear [] c).lent in (l.state.law, (l.volume, l.fcb))
 
 pub returns : goal.returns
 unfolding close_act close_tests changed_state laid
@@ -40,5 +40,5 @@ returns c = λ (held : List ℕ).
     let t = is_none m.result.why in
     let slot = close_slot d.geometry v d.user f in
     let e : m.result.slot ≡ slot = m.ensures.1 in
-    named_decided d v f (clear held c@Else1) (slot % 4) keeps [] f _
+    named_decided d v f (clear held c) (slot % 4) keeps [] f _
     m.ensures.0 (either t d) (either t v) (either t f) (c.answered.ensures held ∙ rw e)

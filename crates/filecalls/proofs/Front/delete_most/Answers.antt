@@ -36,10 +36,10 @@ returns-then-not-is_none c =
     cut_named_no (joined a.self a.held.now) a.volume.now a.fcb.now a.left.now true _ _ (c.named_why-why.ensures a.held.now) c.is_none.ensures c.if-not-is_none.true (c.refused.ensures a.held.now)
 
 pub slice_bounds-delete_matches-end : goal.slice_bounds-delete_matches-end
-slice_bounds-delete_matches-end c = omega (arith, (clear [] c@Else1).lent.fcb)
+slice_bounds-delete_matches-end c = omega (arith, (clear [] c).lent.fcb)
 
 pub delete_matches-why-requires : goal.delete_matches-why-requires
-delete_matches-why-requires c = let l = (clear [] c@Else1).lent in ((l.state.law, (l.volume, search rules)), search rules)
+delete_matches-why-requires c = let l = (clear [] c).lent in ((l.state.law, (l.volume, search rules)), search rules)
 
 pub returns : goal.returns
 unfolding delete_act delete_ladder changed_state name_at part
@@ -51,6 +51,6 @@ returns c =
     let name = name_of f in
     let m = c.delete_matches-why in
     let t = is_none m.result in
-    cut_named_decided d v f a.left.now (clear d.held c@Else1) 0 (frees d.user name) (sweep_stores d.geometry (matches d.user name) erased v 0 (directory_records d.geometry)) f _
+    cut_named_decided d v f a.left.now (clear d.held c) 0 (frees d.user name) (sweep_stores d.geometry (matches d.user name) erased v 0 (directory_records d.geometry)) f _
     (after (protected_drive d ∷ []) (delete_tests d.geometry v d.user name) (c.refuse-before.ensures ∙ ladder_one Protected d.protected refl) m.ensures.0)
     (held_or d t (free_matches d.geometry v d.user name d.held) m.ensures.1.0) m.ensures.1.1.0 (either t f) m.ensures.1.1.1 (c.answered.ensures _)

@@ -28,7 +28,7 @@ returns-then-not-is_none c = λ (held : List ℕ).
     named_no (joined a.self held) a.volume.now a.fcb.now false _ _ (c.named_why-why.ensures held) c.is_none.ensures c.if-not-is_none.true (c.refused.ensures held)
 
 pub measure-why-requires : goal.measure-why-requires
-measure-why-requires c = let l = (clear [] c@Else1).lent in (l.state.law, (l.volume, l.fcb))
+measure-why-requires c = let l = (clear [] c).lent in (l.state.law, (l.volume, l.fcb))
 
 pub returns : goal.returns
 unfolding size_act size_tests changed_state laid
@@ -39,5 +39,5 @@ returns c = λ (held : List ℕ).
     let f = a.fcb.now in
     let m = c.measure in
     let t = is_none m.result in
-    named_decided d v f (clear held c@Else1) 0 keeps [] (with_random f (size_of d.geometry v d.user (name_of f))) _
+    named_decided d v f (clear held c) 0 keeps [] (with_random f (size_of d.geometry v d.user (name_of f))) _
     m.ensures.0 (either t d) (either t v) m.ensures.1 (c.answered.ensures held)

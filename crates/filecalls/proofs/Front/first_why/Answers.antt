@@ -31,19 +31,19 @@ returns-then-not-is_none c = λ (held : List ℕ).
     c.lent_why-why.ensures held ∙ sym (ladder_stop xs _ (refuses xs (c.lent_why-why.ensures held) c.is_none.ensures c.if-not-is_none.true))
 
 pub bounds-fcb-0 : goal.bounds-fcb-0
-bounds-fcb-0 c = omega (arith, (passed [] c@Else1).lent.fcb)
+bounds-fcb-0 c = omega (arith, (passed [] c).lent.fcb)
 
 pub slice_bounds-good_name-end : goal.slice_bounds-good_name-end
-slice_bounds-good_name-end c = omega (arith, (passed [] c@Else1).lent.fcb)
+slice_bounds-good_name-end c = omega (arith, (passed [] c).lent.fcb)
 
 pub bounds-fcb-0-2 : goal.bounds-fcb-0-2
-bounds-fcb-0-2 c = omega (arith, (passed [] c@Else1).lent.fcb)
+bounds-fcb-0-2 c = omega (arith, (passed [] c).lent.fcb)
 
 pub bounds-fcb-12 : goal.bounds-fcb-12
-bounds-fcb-12 c = omega (arith, (passed [] c@Else1).lent.fcb)
+bounds-fcb-12 c = omega (arith, (passed [] c).lent.fcb)
 
 pub bounds-fcb-12-2 : goal.bounds-fcb-12-2
-bounds-fcb-12-2 c = omega (arith, (passed [] c@Else1).lent.fcb)
+bounds-fcb-12-2 c = omega (arith, (passed [] c).lent.fcb)
 
 pub returns : goal.returns
 unfolding first_lent name_at part
@@ -56,4 +56,4 @@ returns c = λ (held : List ℕ).
     let o = examined f && ltb 31 (byte f 12) && not (eqb (byte f 12) 63) in
     c.first_of-2.ensures
     ∙ rw (c.first_of.ensures, c.refuse-a.ensures, c.refuse-b.ensures, c.refuse-c.ensures, c.good_name-good.ensures) (ladder_three DriveCode Name Position m n o refl)
-    ∙ sym (ladder_pass xs (test DriveCode m ∷ test Name n ∷ test Position o ∷ []) (passed held c@Else1).none)
+    ∙ sym (ladder_pass xs (test DriveCode m ∷ test Name n ∷ test Position o ∷ []) (passed held c).none)

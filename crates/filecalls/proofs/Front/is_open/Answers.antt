@@ -10,19 +10,19 @@ use Rattle.filecalls.proofs.SearchLaws.{outside_closed, search_left, not_kept}
 use Rattle.filecalls.proofs.Front.is_open.Goals as goal
 
 pub returns-then-not-is_lawful-self : goal.returns-then-not-is_lawful-self
-returns-then-not-is_lawful-self c = λ (held : List ℕ). sym (outside_closed _ c.is_lawful.ensures (not-true _ c.if-not-is_lawful-self.true))
+returns-then-not-is_lawful-self c = λ (held : List ℕ). sym (outside_closed _ c.is_lawful.ensures c.if-not-is_lawful-self.true)
 
 pub returns-then-not-is_open_search : goal.returns-then-not-is_open_search
 returns-then-not-is_open_search c =
     λ (held : List ℕ). sym
     (search_left _ c.is_lawful.ensures c.if-not-is_lawful-self.false
-    ∙ (let q = c.args.self.search in not_kept q.kind q.user q.last q.pattern) _ (sym c.is_open_search.ensures ∙ not-true _ c.if-not-is_open_search.true))
+    ∙ (let q = c.args.self.search in not_kept q.kind q.user q.last q.pattern) _ (sym c.is_open_search.ensures ∙ c.if-not-is_open_search.true))
 
 pub slots-n-requires : goal.slots-n-requires
-slots-n-requires c = sym c.is_lawful.ensures ∙ (and_parts c.is_lawful.result _ (not-false _ c.if-not-is_lawful-self.false)).0
+slots-n-requires c = sym c.is_lawful.ensures ∙ (and_parts c.is_lawful.result _ c.if-not-is_lawful-self.false).0
 
 pub is_kept-requires : goal.is_kept-requires
-is_kept-requires c = (sym c.is_open_search.ensures ∙ not-false _ c.if-not-is_open_search.false, search rules)
+is_kept-requires c = (sym c.is_open_search.ensures ∙ c.if-not-is_open_search.false, search rules)
 
 pub returns : goal.returns
 returns c =

@@ -38,10 +38,10 @@ returns-then-not-is_none c = λ (held : List ℕ).
     cut_named_no (joined a.self held) a.volume.now a.fcb.now a.left.now false _ _ (c.named_why-why.ensures held) c.is_none.ensures c.if-not-is_none.true (c.refused.ensures held)
 
 pub new_file_why-file-requires : goal.new_file_why-file-requires
-new_file_why-file-requires c = (clear [] c@After-is_none).lent.fcb
+new_file_why-file-requires c = (clear [] c).lent.fcb
 
 pub make_file-made-requires : goal.make_file-made-requires
-make_file-made-requires c = let l = (clear [] c@After-is_none).lent in (l.state.law, (l.volume, l.fcb))
+make_file-made-requires c = let l = (clear [] c).lent in (l.state.law, (l.volume, l.fcb))
 
 pub returns : goal.returns
 unfolding make_act make_ladder changed_state entry_stores name_at part
@@ -54,7 +54,7 @@ returns c = λ (held : List ℕ).
     let t = is_none m.result.why in
     let slot = find_slot d.geometry v d.user (name_of f) Empty in
     let e : m.result.slot ≡ slot = m.ensures.1.0 in
-    cut_named_decided d v f a.left.now (clear held c@After-is_none) (slot % 4) keeps (entry_stores d.geometry v slot (fresh_entry d.user (name_of f))) (made f (name_of f)) _
+    cut_named_decided d v f a.left.now (clear held c) (slot % 4) keeps (entry_stores d.geometry v slot (fresh_entry d.user (name_of f))) (made f (name_of f)) _
     (after (untypeable f 1 ∷ too_large (eqb (byte f 12) 0) ∷ protected_drive d ∷ []) (make_tests d.geometry v d.user (name_of f))
     (after (untypeable f 1 ∷ too_large (eqb (byte f 12) 0) ∷ []) (protected_drive d ∷ []) c.new_file_why-file.ensures
     (c.first_of-before.ensures ∙ ap (first c.new_file_why-file.result) (c.refuse-protected.ensures ∙ ladder_one Protected d.protected refl)))

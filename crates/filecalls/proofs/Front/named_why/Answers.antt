@@ -34,10 +34,10 @@ returns-then-not-is_none c = λ (held : List ℕ).
     c.lent_why-why.ensures held ∙ sym (ladder_stop xs (drive_code a.fcb.now ∷ bad_name a.pattern a.fcb.now 1 ∷ []) (refuses xs (c.lent_why-why.ensures held) c.is_none.ensures c.if-not-is_none.true))
 
 pub bounds-fcb-0 : goal.bounds-fcb-0
-bounds-fcb-0 c = omega (arith, (clear [] c@Else1).fcb)
+bounds-fcb-0 c = omega (arith, (clear [] c).fcb)
 
 pub slice_bounds-good_name-end : goal.slice_bounds-good_name-end
-slice_bounds-good_name-end c = omega (arith, (clear [] c@Else1).fcb)
+slice_bounds-good_name-end c = omega (arith, (clear [] c).fcb)
 
 pub returns : goal.returns
 unfolding named_tests lent_tests name_at part

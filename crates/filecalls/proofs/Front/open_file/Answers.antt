@@ -29,7 +29,7 @@ returns-then-not-is_none c = λ (held : List ℕ).
     named_no (joined a.self held) a.volume.now a.fcb.now true _ _ (c.named_why-why.ensures held) c.is_none.ensures c.if-not-is_none.true (c.refused.ensures held)
 
 pub open_file-found-requires : goal.open_file-found-requires
-open_file-found-requires c = let l = (clear [] c@Else1).lent in (l.state.law, (l.volume, l.fcb))
+open_file-found-requires c = let l = (clear [] c).lent in (l.state.law, (l.volume, l.fcb))
 
 pub returns : goal.returns
 unfolding open_act open_tests changed_state laid
@@ -42,5 +42,5 @@ returns c = λ (held : List ℕ).
     let t = is_none m.result.why in
     let slot = open_slot d.geometry v d.user f in
     let e : m.result.slot ≡ slot = m.ensures.1.0 in
-    named_decided d v f (clear held c@Else1) (slot % 4) keeps [] (opened f (slot_at d.geometry v slot)) _
+    named_decided d v f (clear held c) (slot % 4) keeps [] (opened f (slot_at d.geometry v slot)) _
     m.ensures.0 (either t d) (either t v) (rw (← e) m.ensures.1.1) (c.answered.ensures held ∙ rw e)

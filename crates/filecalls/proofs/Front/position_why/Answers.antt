@@ -18,10 +18,6 @@ use borrow.Author.Rules.{rules}
 use Rattle.filecalls.specs.CodeFront.{joined}
 use Rattle.filecalls.proofs.Front.position_why.Goals as goal
 
--- TODO place Else-not-whole 
-whole : (c : goal.Else-not-whole) → length c.args.fcb.now ≡ 36
-whole c = eqb-true _ _ (not-false (eqb (length c.args.fcb.now) 36) c.if-not-whole.false)
-
 pub returns-then-not-is_open : goal.returns-then-not-is_open
 unfolding set_random_tests first_met
 returns-then-not-is_open c = λ (held : List ℕ). rw (← c.is_open.ensures held, c.if-not-is_open.true)
@@ -31,16 +27,24 @@ unfolding set_random_tests first_met
 returns-then-not-whole c = λ (held : List ℕ). rw (← c.is_open.ensures held, c.if-not-is_open.false, c.if-not-whole.true)
 
 pub bounds-fcb-12 : goal.bounds-fcb-12
-bounds-fcb-12 c = omega (arith, whole c@Else2)
+bounds-fcb-12 c =
+    let whole : length c.args.fcb.now ≡ 36 = eqb-true _ _ (not-false (eqb (length c.args.fcb.now) 36) c.if-not-whole.false) in
+    omega (arith, whole)
 
 pub bounds-fcb-14 : goal.bounds-fcb-14
-bounds-fcb-14 c = omega (arith, whole c@Else2)
+bounds-fcb-14 c =
+    let whole : length c.args.fcb.now ≡ 36 = eqb-true _ _ (not-false (eqb (length c.args.fcb.now) 36) c.if-not-whole.false) in
+    omega (arith, whole)
 
 pub bounds-fcb-32 : goal.bounds-fcb-32
-bounds-fcb-32 c = omega (arith, whole c@Else2)
+bounds-fcb-32 c =
+    let whole : length c.args.fcb.now ≡ 36 = eqb-true _ _ (not-false (eqb (length c.args.fcb.now) 36) c.if-not-whole.false) in
+    omega (arith, whole)
 
 pub bounds-fcb-0 : goal.bounds-fcb-0
-bounds-fcb-0 c = omega (arith, whole c@Else2)
+bounds-fcb-0 c =
+    let whole : length c.args.fcb.now ≡ 36 = eqb-true _ _ (not-false (eqb (length c.args.fcb.now) 36) c.if-not-whole.false) in
+    omega (arith, whole)
 
 pub returns : goal.returns
 unfolding set_random_tests first_met

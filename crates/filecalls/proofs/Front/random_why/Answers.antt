@@ -30,7 +30,7 @@ returns-then-not-is_none c = λ (held : List ℕ).
     ∙ sym (ladder_stop xs (beyond (not (eqb (byte a.fcb.now 35) 0)) ∷ []) (refuses xs (c.named_why-why.ensures held) c.is_none.ensures c.if-not-is_none.true))
 
 pub bounds-fcb-35 : goal.bounds-fcb-35
-bounds-fcb-35 c = omega (arith, (passed [] c@Else1).lent.fcb)
+bounds-fcb-35 c = omega (arith, (passed [] c).lent.fcb)
 
 pub returns : goal.returns
 unfolding random_lent
@@ -38,4 +38,4 @@ returns c = λ (held : List ℕ).
     let a = c.args in
     let m = not (eqb (byte a.fcb.now 35) 0) in
     c.refuse.ensures ∙ ladder_one Beyond m refl
-    ∙ sym (ladder_pass (named_tests (joined a.self held) a.volume.now a.fcb.now a.buffer false) (test Beyond m ∷ []) (passed held c@Else1).none)
+    ∙ sym (ladder_pass (named_tests (joined a.self held) a.volume.now a.fcb.now a.buffer false) (test Beyond m ∷ []) (passed held c).none)

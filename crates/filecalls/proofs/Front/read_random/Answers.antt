@@ -31,10 +31,10 @@ returns-then-not-is_none c = λ (held : List ℕ).
     (c.random_why-why.ensures held) c.is_none.ensures c.if-not-is_none.true (c.refused.ensures held)
 
 pub random_of-n-requires : goal.random_of-n-requires
-random_of-n-requires c = (passed [] c@After-is_none).lent.fcb
+random_of-n-requires c = (passed [] c).lent.fcb
 
 pub read_at-requires : goal.read_at-requires
-read_at-requires c = let p = passed [] c@After-is_none in (p.lent, (c.random_of-n.ensures.1, refl))
+read_at-requires c = let p = passed [] c in (p.lent, (c.random_of-n.ensures.1, refl))
 
 pub returns : goal.returns
 unfolding read_random_act random_tests random_lent named_tests
@@ -44,5 +44,5 @@ returns c = λ (held : List ℕ).
     let v = a.volume.now in
     let f = a.fcb.now in
     let b = a.buffer.now in
-    rw (passes (random_lent d v f (length b)) (read_tests d.geometry v d.user (name_of f) (random f) NoGroup) (read_done d v f (random f) (random f % 128)) (passed held c@After-is_none).none, ← c.random_of-n.ensures.0)
+    rw (passes (random_lent d v f (length b)) (read_tests d.geometry v d.user (name_of f) (random f) NoGroup) (read_done d v f (random f) (random f % 128)) (passed held c).none, ← c.random_of-n.ensures.0)
     (c.read_at.ensures held)

@@ -32,10 +32,10 @@ returns-then-not-is_none c = λ (held : List ℕ).
     (c.sequential_why-why.ensures held) c.is_none.ensures c.if-not-is_none.true (c.refused.ensures held)
 
 pub position_of-n-requires : goal.position_of-n-requires
-position_of-n-requires c = (passed [] c@After-is_none).lent.fcb
+position_of-n-requires c = (passed [] c).lent.fcb
 
 pub read_at-requires : goal.read_at-requires
-read_at-requires c = let p = passed [] c@After-is_none in (p.lent, (omega (arith, p.low, c.position_of-n.ensures.0), refl))
+read_at-requires c = let p = passed [] c in (p.lent, (omega (arith, p.low, c.position_of-n.ensures.0), refl))
 
 pub returns : goal.returns
 unfolding read_sequential_act sequential_tests sequential_lent named_tests
@@ -45,5 +45,5 @@ returns c = λ (held : List ℕ).
     let v = a.volume.now in
     let f = a.fcb.now in
     let b = a.buffer.now in
-    rw (passes (sequential_lent d v f (length b)) (read_tests d.geometry v d.user (name_of f) (position f) Absent) (read_done d v f (position f) (position f % 128 + 1)) (passed held c@After-is_none).none, ← c.position_of-n.ensures.0)
+    rw (passes (sequential_lent d v f (length b)) (read_tests d.geometry v d.user (name_of f) (position f) Absent) (read_done d v f (position f) (position f % 128 + 1)) (passed held c).none, ← c.position_of-n.ensures.0)
     (c.read_at.ensures held)

@@ -40,13 +40,13 @@ pub new_name_why-name-requires : goal.new_name_why-name-requires
 new_name_why-name-requires c = (clear [] c).lent.fcb
 
 pub slice_bounds-rename_file-end : goal.slice_bounds-rename_file-end
-slice_bounds-rename_file-end c = omega (arith, (clear [] c@Else1).lent.fcb)
+slice_bounds-rename_file-end c = omega (arith, (clear [] c).lent.fcb)
 
 pub slice_bounds-rename_file-end-2 : goal.slice_bounds-rename_file-end-2
-slice_bounds-rename_file-end-2 c = omega (arith, (clear [] c@Else1).lent.fcb)
+slice_bounds-rename_file-end-2 c = omega (arith, (clear [] c).lent.fcb)
 
 pub rename_file-why-requires : goal.rename_file-why-requires
-rename_file-why-requires c = let l = (clear [] c@Else1).lent in ((l.state.law, l.volume), (search rules, search rules))
+rename_file-why-requires c = let l = (clear [] c).lent in ((l.state.law, l.volume), (search rules, search rules))
 
 pub returns : goal.returns
 unfolding rename_act rename_ladder changed_state name_at part
@@ -57,7 +57,7 @@ returns c = λ (held : List ℕ).
     let f = a.fcb.now in
     let m = c.rename_file-why in
     let t = is_none m.result in
-    cut_named_decided d v f a.left.now (clear held c@Else1) 0 keeps (sweep_stores d.geometry (of_file d.user (name_of f)) (λ e. renamed e (part f 17 11)) v 0 (directory_records d.geometry)) f _
+    cut_named_decided d v f a.left.now (clear held c) 0 keeps (sweep_stores d.geometry (of_file d.user (name_of f)) (λ e. renamed e (part f 17 11)) v 0 (directory_records d.geometry)) f _
     (after (bad_name false f 17 ∷ untypeable f 17 ∷ protected_drive d ∷ []) (rename_tests d.geometry v d.user (name_of f) (new_name f))
     (after (bad_name false f 17 ∷ untypeable f 17 ∷ []) (protected_drive d ∷ []) c.new_name_why-name.ensures
     (c.first_of-before.ensures ∙ ap (first c.new_name_why-name.result) (c.refuse-protected.ensures ∙ ladder_one Protected d.protected refl)))

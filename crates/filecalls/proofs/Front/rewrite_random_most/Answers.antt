@@ -19,14 +19,18 @@ returns-then-not-is_none c =
     (c.random_why-why.ensures held) c.is_none.ensures c.if-not-is_none.true (c.refused.ensures held)
 
 pub random_of-n-requires : goal.random_of-n-requires
-random_of-n-requires c = (clear [] c@After-is_none).lent.fcb
+random_of-n-requires c = (clear [] c).lent.fcb
 
 pub write_at-requires : goal.write_at-requires
-write_at-requires c = ((clear [] c@After-is_none).lent, c.random_of-n.ensures.1)
+write_at-requires c =
+    record {
+      lent = (clear [] c).lent;
+      n_lt_file_records = c.random_of-n.ensures.1;
+    }
 
 pub returns : goal.returns
 returns c =
     let a = c.args in
     let held = a.held.now in
     rewrite_done (joined a.self held) a.volume.now a.fcb.now a.low a.high a.left.now
-    (clear held c@After-is_none).none c.random_of-n.ensures.0 c.write_at.ensures
+    (clear held c).none c.random_of-n.ensures.0 c.write_at.ensures

@@ -29,18 +29,18 @@ returns-then-not-is_none c = λ (held : List ℕ).
     refused_at d v f b (first_lent d v f b) _ _ (c.first_why-why.ensures held) c.is_none.ensures c.if-not-is_none.true (c.refused.ensures held)
 
 pub bounds-fcb-0 : goal.bounds-fcb-0
-bounds-fcb-0 c = omega (arith, (passed [] c@Else1).lent.fcb)
+bounds-fcb-0 c = omega (arith, (passed [] c).lent.fcb)
 
 pub pattern_of-pattern-requires : goal.pattern_of-pattern-requires
-pattern_of-pattern-requires c = (passed [] c@Else1).lent.fcb
+pattern_of-pattern-requires c = (passed [] c).lent.fcb
 
 pub hit-slot-requires : goal.hit-slot-requires
 hit-slot-requires c =
-    let l = (passed [] c@Else1).lent in
+    let l = (passed [] c).lent in
     (l.state.law, (l.volume, (l.buffer, search rules)))
 
 pub hit_reply-requires : goal.hit_reply-requires
-hit_reply-requires c = (passed [] c@Else1).lent.state.law
+hit_reply-requires c = (passed [] c).lent.state.law
 
 pub returns : goal.returns
 unfolding search_first_act first_tests first_lent lent_tests new_search
@@ -52,5 +52,5 @@ returns c = λ (held : List ℕ).
     let b = a.buffer.now in
     let q = new_search d f in
     let i = hit d.geometry v q 0 in
-    rw (passes (first_lent d v f b) (test NoMatch (leb (slots d.geometry) i) ∷ []) (hit_act d v f q i) (passed held c@Else1).none)
+    rw (passes (first_lent d v f b) (test NoMatch (leb (slots d.geometry) i) ∷ []) (hit_act d v f q i) (passed held c).none)
     (rw (c.kind_asked-kind.ensures, c.pattern_of-pattern.ensures) at (c.hit_reply.ensures held v f b _ 0 c.hit-slot.ensures.value c.hit-slot.ensures.buffer_after))

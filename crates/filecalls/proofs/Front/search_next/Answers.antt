@@ -21,12 +21,6 @@ use Rattle.filecalls.proofs.Front.search_next.Goals as goal
 passed : (held : List ℕ) (c : goal.Else-not-is_none) → Next (joined c.args.self held) c.args.volume.now c.args.buffer.now
 passed held c = next_passed _ _ _ (c.lent_why-why.ensures held) c.is_none.ensures c.if-not-is_none.false
 
--- TODO place Else-not-is_open_search 
-below : (c : goal.Else-not-is_open_search) → c.args.self.search.last < slots c.args.self.geometry
-below c =
-    let q = c.args.self.search in
-    kept_below q.kind q.user q.last q.pattern _ (sym c.is_open_search.ensures ∙ not-false c.is_open_search.result c.if-not-is_open_search.false) (passed [] c@Else1).lent.state.kept
-
 pub returns-then-not-is_none : goal.returns-then-not-is_none
 unfolding search_next_act next_tests
 returns-then-not-is_none c = λ (held : List ℕ).
@@ -46,18 +40,23 @@ returns-then-not-is_open_search c = λ (held : List ℕ).
     let m = not (is_kept d.search.kind) || leb (slots d.geometry) (hit d.geometry v d.search (d.search.last + 1)) in
     let e : not (is_kept d.search.kind) ≡ true = ap not (sym c.is_open_search.ensures) ∙ c.if-not-is_open_search.true in
     let t : m ≡ true = rw e in
-    says_no d v [] b (stops_then (next_lent d v b) NoMatch m [] _ (passed held c@Else1).none t refl) (c.refused-then-not-is_open_search.ensures held)
+    says_no d v [] b (stops_then (next_lent d v b) NoMatch m [] _ (passed held c).none t refl) (c.refused-then-not-is_open_search.ensures held)
 
 pub overflow_add-search : goal.overflow_add-search
-overflow_add-search c = omega (arith, below c@Else2, (bounds _ (passed [] c@Else1).lent.state.law).slots_high)
+overflow_add-search c =
+    let below : c.args.self.search.last < slots c.args.self.geometry = (let q = c.args.self.search in
+      kept_below q.kind q.user q.last q.pattern _ (sym c.is_open_search.ensures ∙ not-false c.is_open_search.result c.if-not-is_open_search.false) (passed [] c).lent.state.kept) in
+    omega (arith, below, (bounds _ (passed [] c).lent.state.law).slots_high)
 
 pub hit-slot-requires : goal.hit-slot-requires
 hit-slot-requires c =
-    let l = (passed [] c@Else1).lent in
-    (l.state.law, (l.volume, (l.buffer, omega (arith, below c@Else2))))
+    let below : c.args.self.search.last < slots c.args.self.geometry = (let q = c.args.self.search in
+      kept_below q.kind q.user q.last q.pattern _ (sym c.is_open_search.ensures ∙ not-false c.is_open_search.result c.if-not-is_open_search.false) (passed [] c).lent.state.kept) in
+    let l = (passed [] c).lent in
+    (l.state.law, (l.volume, (l.buffer, omega (arith, below))))
 
 pub hit_reply-requires : goal.hit_reply-requires
-hit_reply-requires c = (passed [] c@Else1).lent.state.law
+hit_reply-requires c = (passed [] c).lent.state.law
 
 pub returns : goal.returns
 unfolding search_next_act next_tests
@@ -68,5 +67,5 @@ returns c = λ (held : List ℕ).
     let b = a.buffer.now in
     let i = hit d.geometry v d.search (d.search.last + 1) in
     let e : not (is_kept d.search.kind) ≡ false = ap not (sym c.is_open_search.ensures) ∙ c.if-not-is_open_search.false in
-    rw (passes (next_lent d v b) (test NoMatch (not (is_kept d.search.kind) || leb (slots d.geometry) i) ∷ []) (hit_act d v [] d.search i) (passed held c@Else1).none, e)
+    rw (passes (next_lent d v b) (test NoMatch (not (is_kept d.search.kind) || leb (slots d.geometry) i) ∷ []) (hit_act d v [] d.search i) (passed held c).none, e)
     (c.hit_reply.ensures held v [] b _ (d.search.last + 1) c.hit-slot.ensures.value c.hit-slot.ensures.buffer_after)

@@ -30,16 +30,16 @@ returns-then-not-is_none c = λ (held : List ℕ).
     ∙ sym (ladder_stop xs (too_large (position_fits a.fcb.now) ∷ beyond (eqb (position a.fcb.now) 65536) ∷ []) (refuses xs (c.named_why-why.ensures held) c.is_none.ensures c.if-not-is_none.true))
 
 pub bounds-fcb-12 : goal.bounds-fcb-12
-bounds-fcb-12 c = omega (arith, (passed [] c@Else1).lent.fcb)
+bounds-fcb-12 c = omega (arith, (passed [] c).lent.fcb)
 
 pub bounds-fcb-14 : goal.bounds-fcb-14
-bounds-fcb-14 c = omega (arith, (passed [] c@Else1).lent.fcb)
+bounds-fcb-14 c = omega (arith, (passed [] c).lent.fcb)
 
 pub bounds-fcb-32 : goal.bounds-fcb-32
-bounds-fcb-32 c = omega (arith, (passed [] c@Else1).lent.fcb)
+bounds-fcb-32 c = omega (arith, (passed [] c).lent.fcb)
 
 pub position_of-n-requires : goal.position_of-n-requires
-position_of-n-requires c = (passed [] c@Else1).lent.fcb
+position_of-n-requires c = (passed [] c).lent.fcb
 
 pub returns : goal.returns
 unfolding sequential_lent
@@ -49,4 +49,4 @@ returns c = λ (held : List ℕ).
     let n = eqb (position a.fcb.now) 65536 in
     c.first_of.ensures
     ∙ rw (c.refuse-a.ensures, c.refuse-b.ensures, c.position_of-n.ensures.0) (ladder_two Position Beyond m n refl)
-    ∙ sym (ladder_pass (named_tests (joined a.self held) a.volume.now a.fcb.now a.buffer false) (test Position m ∷ test Beyond n ∷ []) (passed held c@Else1).none)
+    ∙ sym (ladder_pass (named_tests (joined a.self held) a.volume.now a.fcb.now a.buffer false) (test Position m ∷ test Beyond n ∷ []) (passed held c).none)

@@ -23,14 +23,6 @@ use Rattle.filecalls.proofs.Front.set_random.Goals as goal
 none : (held : List ℕ) (c : goal.Else-not-is_none) → is_none (first_met (set_random_tests (joined c.args.self held) c.args.fcb.now)) ≡ true
 none held c = clears (set_random_tests (joined c.args.self held) c.args.fcb.now) (c.position_why-why.ensures held) c.is_none.ensures c.if-not-is_none.false
 
--- TODO place Else-not-is_none 
-whole : (c : goal.Else-not-is_none) → length c.args.fcb.now ≡ 36
-unfolding set_random_tests
-whole c =
-    let x = unmet Closed _ _ refl (none [] c) in
-    let y = unmet FcbLength _ _ refl x.1 in
-    eqb-true _ _ (not-false (eqb (length c.args.fcb.now) 36) y.0)
-
 pub returns-then-not-is_none : goal.returns-then-not-is_none
 unfolding set_random_act set_random_tests
 returns-then-not-is_none c = λ (held : List ℕ).
@@ -38,11 +30,21 @@ returns-then-not-is_none c = λ (held : List ℕ).
     refused_at (joined a.self held) [] a.fcb.now [] (set_random_tests (joined a.self held) a.fcb.now) [] _ (c.position_why-why.ensures held) c.is_none.ensures c.if-not-is_none.true (c.refused.ensures held)
 
 pub position_of-n-requires : goal.position_of-n-requires
-position_of-n-requires c = whole c@After-is_none
+unfolding set_random_tests
+position_of-n-requires c =
+    let whole : length c.args.fcb.now ≡ 36 = (let x = unmet Closed _ _ refl (none [] c) in
+      let y = unmet FcbLength _ _ refl x.1 in
+      eqb-true _ _ (not-false (eqb (length c.args.fcb.now) 36) y.0)) in
+    whole
 
 pub set_random-requires : goal.set_random-requires
-set_random-requires c = (whole c@After-is_none, omega (arith, c.position_of-n.ensures.1))
+unfolding set_random_tests
+set_random-requires c =
+    let whole : length c.args.fcb.now ≡ 36 = (let x = unmet Closed _ _ refl (none [] c) in
+      let y = unmet FcbLength _ _ refl x.1 in
+      eqb-true _ _ (not-false (eqb (length c.args.fcb.now) 36) y.0)) in
+    (whole, omega (arith, c.position_of-n.ensures.1))
 
 pub returns : goal.returns
 unfolding set_random_act set_random_tests unless outcome changed_state laid
-returns c = λ (held : List ℕ). reply_left (c.done.ensures held) (rw (none held c@After-is_none, c.set_random.ensures, c.position_of-n.ensures.0))
+returns c = λ (held : List ℕ). reply_left (c.done.ensures held) (rw (none held c, c.set_random.ensures, c.position_of-n.ensures.0))

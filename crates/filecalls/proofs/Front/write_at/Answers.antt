@@ -24,7 +24,10 @@ returns-then-self c =
 pub write_record-why-requires : goal.write_record-why-requires
 write_record-why-requires c =
     let l = c.requires.lent in
-    (((l.state.law, l.volume), search rules), (l.fcb, (l.buffer, c.requires.n_lt_file_records)))
+    record {
+      volume = ((l.state.law, l.volume), search rules);
+      fcb = (l.fcb, (l.buffer, c.requires.n_lt_file_records));
+    }
 
 pub returns : goal.returns
 returns c =

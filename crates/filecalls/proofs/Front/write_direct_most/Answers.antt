@@ -25,15 +25,19 @@ returns-then-not-is_none c =
     (c.random_why-why.ensures d.held ∙ ap first_met (sym (random_lent_lem d a.volume.now a.fcb.now a.buffer.now))) c.is_none.ensures c.if-not-is_none.true (c.refused.ensures d.held)
 
 pub random_of-n-requires : goal.random_of-n-requires
-random_of-n-requires c = (clear [] c@After-is_none).lent.fcb
+random_of-n-requires c = (clear [] c).lent.fcb
 
 pub write_at-requires : goal.write_at-requires
-write_at-requires c = ((clear [] c@After-is_none).lent, c.random_of-n.ensures.1)
+write_at-requires c =
+    record {
+      lent = (clear [] c).lent;
+      n_lt_file_records = c.random_of-n.ensures.1;
+    }
 
 pub returns : goal.returns
 returns c =
     let a = c.args in
     let d = joined a.self a.held.now in
-    let s = clear d.held c@After-is_none in
+    let s = clear d.held c in
     let n : is_none (first_met (random_tests d a.volume.now a.fcb.now a.buffer.now)) ≡ true = rw (random_lent_lem d a.volume.now a.fcb.now a.buffer.now) s.none in
     rw (passes (random_tests d a.volume.now a.fcb.now a.buffer.now) _ _ n, ← c.random_of-n.ensures.0) c.write_at.ensures

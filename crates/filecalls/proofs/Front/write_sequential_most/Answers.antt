@@ -28,16 +28,16 @@ returns-then-not-is_none c =
     (c.sequential_why-why.ensures d.held ∙ ap first_met (sym (sequential_lent_lem d a.volume.now a.fcb.now a.buffer.now))) c.is_none.ensures c.if-not-is_none.true (c.refused.ensures d.held)
 
 pub position_of-n-requires : goal.position_of-n-requires
-position_of-n-requires c = (clear [] c@After-is_none).lent.fcb
+position_of-n-requires c = (clear [] c).lent.fcb
 
 pub write_at-requires : goal.write_at-requires
-write_at-requires c = let s = clear [] c@After-is_none in (s.lent, omega (arith, s.low, c.position_of-n.ensures.0))
+write_at-requires c = let s = clear [] c in (s.lent, omega (arith, s.low, c.position_of-n.ensures.0))
 
 pub returns : goal.returns
 unfolding write_sequential_act
 returns c =
     let a = c.args in
     let d = joined a.self a.held.now in
-    let s = clear d.held c@After-is_none in
+    let s = clear d.held c in
     let n : is_none (first_met (sequential_tests d a.volume.now a.fcb.now a.buffer.now)) ≡ true = rw (sequential_lent_lem d a.volume.now a.fcb.now a.buffer.now) s.none in
     rw (passes (sequential_tests d a.volume.now a.fcb.now a.buffer.now) _ _ n, ← c.position_of-n.ensures.0) c.write_at.ensures

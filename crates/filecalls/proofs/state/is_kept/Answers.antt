@@ -7,12 +7,12 @@ use Rattle.filecalls.proofs.state.is_kept.Goals as goal
 
 pub returns-then-not-user-last : goal.returns-then-not-user-last
 returns-then-not-user-last c =
-    let a = c.args in sym (kept_outside a.kind a.user a.last a.pattern.now a.n c.requires.0 (not-true _ c.if-not-user-last.true))
+    let a = c.args in sym (kept_outside a.kind a.user a.last a.pattern.now a.n c.requires.0 c.if-not-user-last.true)
 
 pub returns-in-Pattern : goal.returns-in-Pattern
 returns-in-Pattern c =
-    let a = c.args in c.is_pattern.ensures ∙ sym (pattern_within a.kind a.user a.last a.pattern.now a.n c.enum_told-in-Pattern-1.given.1 (not-false _ c.if-not-user-last.false))
+    let a = c.args in c.is_pattern.ensures ∙ sym (pattern_within a.kind a.user a.last a.pattern.now a.n c.in-Pattern.is c.if-not-user-last.false)
 
 pub returns-in-Everything : goal.returns-in-Everything
 returns-in-Everything c =
-    let a = c.args in sym (all_within a.kind a.user a.last a.pattern.now a.n c.enum_told-in-Everything-1.given.1 (not-false _ c.if-not-user-last.false))
+    let a = c.args in sym (all_within a.kind a.user a.last a.pattern.now a.n c.in-Everything.is c.if-not-user-last.false)

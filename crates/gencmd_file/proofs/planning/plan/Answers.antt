@@ -5,12 +5,19 @@ use borrow.Author.Rules.{rules}
 use Rattle.gencmd_file.proofs.planning.plan.Goals as goal
 
 pub plan_for-requires : goal.plan_for-requires
-plan_for-requires c = reach_within c.args.text.now _ (sym c.reach-1.given.1 ∙ c.measure.ensures)
+plan_for-requires c = reach_within c.args.text.now _ (sym c.in-Reached.is ∙ c.measure.ensures)
 
 pub returns-in-Refused : goal.returns-in-Refused
-returns-in-Refused c = (refused_plan c.args.text.now c.args.room _ (sym c.why-1.given.1 ∙ c.measure.ensures), tt)
+returns-in-Refused c =
+    record {
+      value = refused_plan c.args.text.now c.args.room _ (sym c.in-Refused.is ∙ c.measure.ensures);
+      safe = tt;
+    }
 
 pub returns-in-Reached : goal.returns-in-Reached
 returns-in-Reached c =
     let a = c.args in
-    (c.plan_for.ensures.value ∙ reached_plan a.text.now a.room _ (sym c.reach-1.given.1 ∙ c.measure.ensures), c.plan_for.ensures.safe)
+    record {
+      value = c.plan_for.ensures.value ∙ reached_plan a.text.now a.room _ (sym c.in-Reached.is ∙ c.measure.ensures);
+      safe = c.plan_for.ensures.safe;
+    }

@@ -3,4 +3,4 @@ use borrow.Author.Rules.{rules}
 use Rattle.loading.proofs.answers.load_refusal_number.Goals as goal
 
 pub returns-in-File : goal.returns-in-File
-returns-in-File c = rw c.why-1.given.1 c.refusal_number.ensures
+returns-in-File c = rw c.in-File.is c.refusal_number.ensures

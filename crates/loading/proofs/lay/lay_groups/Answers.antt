@@ -21,7 +21,10 @@ lay_group-requires c =
     let a = c.args in
     let s = start_in a.h.now l.i a.n (omega arith) in
     let f = c.requires.held.0.inside l.i (omega arith) in
-    ((search rules, search rules), (rw c.span_at-s.ensures (omega (arith, f)), omega (arith, s)))
+    record {
+      fcb_len = (search rules, search rules);
+      i_in_bounds = (rw c.span_at-s.ensures (omega (arith, f)), omega (arith, s));
+    }
 
 pub loop-i-preserved : goal.loop-i-preserved
 unfolding group_laid

@@ -7,8 +7,8 @@ use Rattle.replay_transcript.proofs.lines.put_shown.Goals as goal
 
 pub returns-then-not-lent : goal.returns-then-not-lent
 unfolding shown
-returns-then-not-lent c = rw (not-true c.args.lent c.if-not-lent.true) (wrote_byte 45 c.put_byte.ensures).is
+returns-then-not-lent c = rw c.if-not-lent.true (wrote_byte 45 c.put_byte.ensures).is
 
 pub returns : goal.returns
 unfolding shown
-returns c = rw (not-false c.args.lent c.if-not-lent.false) (then (wrote_byte 61 c.put_byte-a.ensures) (wrote _ c.put_hex.ensures)).is
+returns c = rw c.if-not-lent.false (then (wrote_byte 61 c.put_byte-a.ensures) (wrote _ c.put_hex.ensures)).is

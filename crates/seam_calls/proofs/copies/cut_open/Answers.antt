@@ -7,7 +7,12 @@ use borrow.Author.Rules.{rules}
 use Rattle.seam_calls.proofs.copies.cut_open.Goals as goal
 
 pub cut_with-refusal-requires : goal.cut_with-refusal-requires
-cut_with-refusal-requires c = (c.requires, (search rules, search rules))
+cut_with-refusal-requires c =
+    record {
+      drive_value = c.requires;
+      fcb_copy_len = search rules;
+      buffer_copy_len = search rules;
+    }
 
 pub overflow_cast-made : goal.overflow_cast-made
 overflow_cast-made c = omega (arith, made_most c.cut_with-refusal.ensures.cut_open)
@@ -27,4 +32,7 @@ returns c =
     let y : m.result - 0 ≡ m.result = omega arith in
     let lent = rw (x, y, n.ensures.0, m.ensures.0) at c.cut_with-refusal.ensures.cut_open in
     let cuts = lent_open a.function a.parameter a.fcb.now a.buffer.now lent in
-    (cuts.volume_is, cut_told cuts)
+    record {
+      volume_after = cuts.volume_is;
+      value = cut_told cuts;
+    }

@@ -6,4 +6,7 @@ pub returns : goal.returns
 returns c =
     let told = c.refusal_told.ensures in
     let cuts = rw (c.copy.ensures, c.copy-2.ensures) at (c.call_most-told.ensures.cut_open_lem c.requires.drive_value) in
-    (rw told.0 cuts, told.1)
+    record {
+      cut_open = rw told.0 cuts;
+      upper_bound = told.1;
+    }

@@ -20,7 +20,7 @@ other c =
     rw c.first_broken-f.ensures (omega (arith, other_below a.g a.volume.now a.i c.requires.1.1, c.requires.1.1))
 
 pub put_other-requires : goal.put_other-requires
-put_other-requires c = (search rules, (search rules, other c@After-first_broken))
+put_other-requires c = (search rules, (search rules, other c))
 
 pub returns : goal.returns
 unfolding fault_bytes put bytes_of
@@ -30,4 +30,4 @@ returns c =
     let f = c.first_broken-f.result in
     rw (c.put_rule.ensures, c.put_slots.ensures, c.put_owner.ensures, c.put_other.ensures, ← c.first_broken-f.ensures)
     (four_laid a.out.now (rule_bytes f) (slot_bytes a.i f) (owner_bytes a.g v a.i) (other_bytes a.g v f) 4 4 12 12 c.requires.1.0
-    refl refl (owner_length_lem a.g v c.requires.0 a.i c.requires.1.1) (other_length a.g v c.requires.0 f (other c@After-first_broken)))
+    refl refl (owner_length_lem a.g v c.requires.0 a.i c.requires.1.1) (other_length a.g v c.requires.0 f (other c)))

@@ -7,20 +7,20 @@ use Rattle.seam_looks.proofs.bad_slot.put_fault_for.Goals as goal
 pub put_fault-requires : goal.put_fault-requires
 put_fault-requires c =
     let a = c.args in
-    let known = bad_slot_lem a.g a.volume.now _ (sym c.requires.1 ∙ c.answer-1.given.1) in
+    let known = bad_slot_lem a.g a.volume.now _ (sym c.requires.1 ∙ c.in-BadSlot.is) in
     (known.volume, (search rules, known.inside))
 
 pub returns-in-BadSlot : goal.returns-in-BadSlot
-returns-in-BadSlot c = rw c.answer-1.given.1 c.put_fault.ensures
+returns-in-BadSlot c = rw c.in-BadSlot.is c.put_fault.ensures
 
 pub returns-in-Done : goal.returns-in-Done
-returns-in-Done c = rw (c.enum_told-1.given.1, c.fill.ensures, c.requires.0)
+returns-in-Done c = rw (c.in-Done.is, c.fill.ensures, c.requires.0)
 
 pub returns-in-Ready : goal.returns-in-Ready
-returns-in-Ready c = rw (c.enum_told-in-Ready-1.given.1, c.fill-in-Ready.ensures, c.requires.0)
+returns-in-Ready c = rw (c.in-Ready.is, c.fill-in-Ready.ensures, c.requires.0)
 
 pub returns-in-Refused : goal.returns-in-Refused
-returns-in-Refused c = rw (c.enum_told-in-Refused-1.given.1, c.fill-in-Refused.ensures, c.requires.0)
+returns-in-Refused c = rw (c.in-Refused.is, c.fill-in-Refused.ensures, c.requires.0)
 
 pub returns-in-Several : goal.returns-in-Several
-returns-in-Several c = rw (c.enum_told-in-Several-1.given.1, c.fill-in-Several.ensures, c.requires.0)
+returns-in-Several c = rw (c.in-Several.is, c.fill-in-Several.ensures, c.requires.0)
