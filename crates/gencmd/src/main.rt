@@ -9,7 +9,7 @@ ghost use Rattle.gencmd.specs.Said.{line_bytes, refused, too_long};
 
 use gencmd_file::{Answer, LONGEST};
 use gencmd_lines::Refusal;
-use libc::{STDERR_FILENO, STDIN_FILENO, STDOUT_FILENO};
+use std::io::Write;
 
 // A text may have so many bytes: a line for each byte of four full groups, and blanks. One more is room to notice a longer one.
 const TEXT_BYTES: usize = 4194304;
@@ -41,62 +41,59 @@ fn lay_too_long(line: &mut [u8]) -> usize
 }
 
 // The first n bytes of a line, on standard error.
-fn complain(line: &[u8], n: usize)
+fn complain<E: Write>(errors: &mut E, line: &[u8], n: usize)
     requires { n ≤ length line.now }
 {
-    io::write_all(STDERR_FILENO, &line[0..n]);
+    let _ = errors.write_all(&line[0..n]);
 }
 
-fn refuse(why: Refusal) {
+fn refuse<E: Write>(errors: &mut E, why: Refusal) {
     let mut line = [0u8; LINE_BYTES];
     let n = lay_refusal(&mut line, why);
-    complain(&line, n);
+    complain(errors, &line, n);
 }
 
-fn refuse_length() {
+fn refuse_length<E: Write>(errors: &mut E) {
     let mut line = [0u8; LINE_BYTES];
     let n = lay_too_long(&mut line);
-    complain(&line, n);
+    complain(errors, &line, n);
 }
 
 // The file, on standard output, or a line that tells that not all of it was taken.
-fn deliver(file: &[u8]) {
-    if !io::write_all(STDOUT_FILENO, file) {
-        io::write_all(
-            STDERR_FILENO,
-            b"NOT WRITTEN: standard output did not take the whole file\n",
-        );
+fn deliver<W: Write, E: Write>(to: &mut W, errors: &mut E, file: &[u8]) {
+    if to.write_all(file).is_err() {
+        let _ = errors.write_all(b"NOT WRITTEN: standard output did not take the whole file\n");
     }
 }
 
 // The file of a text, or why there is none. There is room for every file.
-fn convert(text: &[u8], out: &mut [u8])
+fn convert<W: Write, E: Write>(text: &[u8], out: &mut [u8], to: &mut W, errors: &mut E)
     requires { longest ≤ length out.old }
 {
     match gencmd_file::gencmd(text, out) {
-        Answer::Written(n) => deliver(&out[0..n]),
-        Answer::Refused(why) => refuse(why),
+        Answer::Written(n) => deliver(to, errors, &out[0..n]),
+        Answer::Refused(why) => refuse(errors, why),
     }
 }
 
-fn run(input: &mut [u8], out: &mut [u8])
+fn run(rt: &HostRuntime, input: &mut [u8], out: &mut [u8])
     requires { longest ≤ length out.old }
 {
-    let n = io::read_full(STDIN_FILENO, input);
+    let n = streams::read_full(&mut rt.stdin(), input);
     if TEXT_BYTES < n {
-        refuse_length();
+        refuse_length(&mut rt.stderr());
         return;
     }
-    convert(&input[..n], out);
+    convert(&input[..n], out, &mut rt.stdout(), &mut rt.stderr());
 }
 
 // The arrays as slices: a reference to an array tells its length, and nobody has to count a million zeros.
-fn with_arrays(input: &mut [u8; INPUT_BYTES], out: &mut [u8; LONGEST]) {
-    run(input, out);
+fn with_arrays(rt: &HostRuntime, input: &mut [u8; INPUT_BYTES], out: &mut [u8; LONGEST]) {
+    run(rt, input, out);
 }
 
-fn main() {
+fn main(rt: HostRuntime) {
     let mut input = [0u8; INPUT_BYTES];
     let mut out = [0u8; LONGEST];
-    with_arrays(&mut input, &mut out);
+    with_arrays(&rt, &mut input, &mut out);
 }

@@ -1,11 +1,13 @@
 // Prints the listing of the volume that it reads from standard input.
 #![tactic(auto)]
 
-ghost use Rattle.std.specs.Prelude.{◌≡◌, ◌≤◌, length, take};
+ghost use Rattle.std.specs.Prelude.{◌≡◌, ◌≤◌, length, take, OnOk};
+ghost use Rattle.std.specs.Io.KnownBytes.{Appends};
 ghost use Rattle.listing.specs.Listing.{listing};
 ghost use Rattle.listing.specs.Room.{room};
 
-use libc::{STDIN_FILENO, STDOUT_FILENO};
+use std::io;
+use std::io::Write;
 
 // The listing, whole, in the first bytes of `out`, and how many they are.
 fn lay(volume: &[u8], out: &mut [u8]) -> usize
@@ -16,19 +18,21 @@ fn lay(volume: &[u8], out: &mut [u8]) -> usize
     listing::list(volume, out)
 }
 
-fn print(volume: &[u8], out: &mut [u8])
+// What was written is the listing; where the writer fails, it may be cut off.
+fn print<W: Write>(volume: &[u8], out: &mut [u8], to: &mut W) -> io::Result<()>
     requires { room ≤ length out.old }
+    ensures { OnOk result (Appends (W.contents to.old) (W.contents to.new) (listing volume.now)) }
 {
     let n = lay(volume, out);
-    io::write_all(STDOUT_FILENO, &out[0..n]);
+    to.write_all(&out[0..n])
 }
 
 // One byte more than a volume has is room enough to notice a longer input.
 const INPUT_BYTES: usize = listing::VOLUME_BYTES + 1;
 
-fn main() {
+fn main(rt: HostRuntime) {
     let mut volume = [0u8; INPUT_BYTES];
-    let n = io::read_full(STDIN_FILENO, &mut volume);
+    let n = streams::read_full(&mut rt.stdin(), &mut volume);
     let mut out = [0u8; listing::ROOM];
-    print(&volume[..n], &mut out);
+    let _ = print(&volume[..n], &mut out, &mut rt.stdout());
 }

@@ -8,10 +8,10 @@ ghost use Rattle.replay_script.specs.Layout.{longest_volume};
 
 use disk_geometry::Geometry;
 use filecalls::Drive;
-use libc::{STDIN_FILENO, STDOUT_FILENO};
 use replay_script::layout::{HEADER_BYTES, LONGEST_CALL, LONGEST_VOLUME};
 use replay_script::{Header, Next, window};
 use replay_transcript::{lines, records};
+use std::io::{Read, Write};
 
 // The window on the script has room for three of the longest calls.
 const WINDOW_BYTES: usize = 262144;
@@ -53,23 +53,23 @@ struct Stop {
 }
 
 // Writes the first `at` bytes of out.
-fn flush(out: &[u8], at: usize) {
+fn flush<W: Write>(to: &mut W, out: &[u8], at: usize) {
     if at <= out.len() {
-        io::write_all(STDOUT_FILENO, &out[0..at]);
+        let _ = to.write_all(&out[0..at]);
     }
 }
 
 // Makes room in out, and says where to go on.
-fn make_room(out: &[u8], at: usize) -> usize {
+fn make_room<W: Write>(to: &mut W, out: &[u8], at: usize) -> usize {
     if at < FULL {
         return at;
     }
-    flush(out, at);
+    flush(to, out, at);
     0
 }
 
 // Reads on behind the bytes that are not read yet; they stay what they were.
-fn fill(window: &mut [u8], from: usize, to: usize) -> Unread
+fn fill<R: Read>(input: &mut R, window: &mut [u8], from: usize, to: usize) -> Unread
     requires { (from ≤ to) × (to ≤ length window.old) }
     ensures from_le_to { (result.from ≤ result.to) × (result.to ≤ length window.new) }
     ensures from_after { part window.new result.from (to - from)
@@ -77,7 +77,7 @@ fn fill(window: &mut [u8], from: usize, to: usize) -> Unread
 {
     let kept = to - from;
     window::shift(window, from, kept);
-    let got = io::read_full(STDIN_FILENO, &mut window[kept..]);
+    let got = streams::read_full(input, &mut window[kept..]);
     Unread {
         from: 0,
         to: kept + got,
@@ -86,7 +86,7 @@ fn fill(window: &mut [u8], from: usize, to: usize) -> Unread
 }
 
 // A whole call stands in the window, or all that is left; what was not read yet stays what it was.
-fn refill(window: &mut [u8], run: Run) -> Unread
+fn refill<R: Read>(input: &mut R, window: &mut [u8], run: Run) -> Unread
     requires { (run.from ≤ run.to) × (run.to ≤ length window.old) }
     ensures from_le_to { (result.from ≤ result.to) × (result.to ≤ length window.new) }
     ensures from_after { part window.new result.from (run.to - run.from)
@@ -100,18 +100,25 @@ fn refill(window: &mut [u8], run: Run) -> Unread
             ended: run.ended,
         };
     }
-    fill(window, run.from, run.to)
+    fill(input, window, run.from, run.to)
 }
 
 // Does the call that stands next, or finds that there is none.
-fn turn(g: Geometry, run: Run, window: &mut [u8], volume: &mut [u8], out: &mut [u8]) -> Run
+fn turn(
+    rt: &HostRuntime,
+    g: Geometry,
+    run: Run,
+    window: &mut [u8],
+    volume: &mut [u8],
+    out: &mut [u8],
+) -> Run
     requires { (run.from ≤ run.to) × (run.to ≤ length window.old) }
     ensures { (result.from ≤ result.to) × (result.to ≤ length window.new) }
 {
-    let u = refill(window, run);
+    let u = refill(&mut rt.stdin(), window, run);
     let from = u.from;
     let to = u.to;
-    let at = make_room(out, run.at);
+    let at = make_room(&mut rt.stdout(), out, run.at);
     let before = run.drive;
     let t = replay_turn::take_turn(g, before, &mut window[from..to], volume, out, at);
     let next = t.next;
@@ -160,11 +167,17 @@ fn start() -> Run
 }
 
 // All calls, one after the other.
-fn run_all(g: Geometry, window: &mut [u8], volume: &mut [u8], out: &mut [u8]) -> Stop {
+fn run_all(
+    rt: &HostRuntime,
+    g: Geometry,
+    window: &mut [u8],
+    volume: &mut [u8],
+    out: &mut [u8],
+) -> Stop {
     let mut run = start();
     let mut calls = 0;
     while calls < usize::MAX {
-        let next = turn(g, run, window, volume, out);
+        let next = turn(rt, g, run, window, volume, out);
         run = next;
         if !run.more {
             break;
@@ -186,15 +199,21 @@ fn least(a: usize, b: usize) -> usize
 }
 
 // The records that have changed, STRETCH at a time.
-fn put_changes(given: &[u8], volume: &[u8], out: &mut [u8], at: usize) -> usize {
+fn put_changes<W: Write>(
+    to: &mut W,
+    given: &[u8],
+    volume: &[u8],
+    out: &mut [u8],
+    at: usize,
+) -> usize {
     let n = records::records_of(volume.len());
     let mut p = at;
     let mut q = 0;
     while q < n {
-        let room = make_room(out, p);
-        let to = q + least(STRETCH, n - q);
-        p = records::put_records(out, room, given, volume, q, to);
-        q = to;
+        let room = make_room(to, out, p);
+        let next = q + least(STRETCH, n - q);
+        p = records::put_records(out, room, given, volume, q, next);
+        q = next;
     }
     p
 }
@@ -208,31 +227,39 @@ fn put_bad(out: &mut [u8], stop: Stop) -> usize {
 }
 
 // The lines behind those of the calls.
-fn finish(given: &[u8], volume: &[u8], out: &mut [u8], stop: Stop) {
+fn finish<W: Write>(to: &mut W, given: &[u8], volume: &[u8], out: &mut [u8], stop: Stop) {
     let a = put_bad(out, stop);
-    let b = put_changes(given, volume, out, a);
+    let b = put_changes(to, given, volume, out, a);
     let c = lines::put_end(out, b, stop.calls);
-    flush(out, c);
+    flush(to, out, c);
 }
 
 // The run over a volume that was read whole.
-fn replay(g: Geometry, window: &mut [u8], given: &[u8], volume: &mut [u8], out: &mut [u8])
+fn replay(
+    rt: &HostRuntime,
+    g: Geometry,
+    window: &mut [u8],
+    given: &[u8],
+    volume: &mut [u8],
+    out: &mut [u8],
+)
     requires { length volume.old ≡ length given.now }
 {
     lists::copy(volume, given);
-    let stop = run_all(g, window, volume, out);
-    finish(given, volume, out, stop);
+    let stop = run_all(rt, g, window, volume, out);
+    finish(&mut rt.stdout(), given, volume, out, stop);
 }
 
 // No header or no volume: no call is done, and there is no record to show.
-fn refuse(out: &mut [u8]) {
+fn refuse<W: Write>(to: &mut W, out: &mut [u8]) {
     let a = lines::put_bad(out, 0, 0);
     let b = lines::put_end(out, a, 0);
-    flush(out, b);
+    flush(to, out, b);
 }
 
 // Reads the volume.
 fn with_header(
+    rt: &HostRuntime,
     g: Geometry,
     n: usize,
     window: &mut [u8],
@@ -242,40 +269,47 @@ fn with_header(
 )
     requires { (n ≤ length given.old) × (length volume.old ≡ length given.old) }
 {
-    let got = io::read_full(STDIN_FILENO, &mut given[0..n]);
+    let got = streams::read_full(&mut rt.stdin(), &mut given[0..n]);
     if got < n {
-        refuse(out);
+        refuse(&mut rt.stdout(), out);
         return;
     }
-    replay(g, window, &given[0..n], &mut volume[0..n], out);
+    replay(rt, g, window, &given[0..n], &mut volume[0..n], out);
 }
 
 // Reads the header.
-fn with_script(window: &mut [u8], given: &mut [u8], volume: &mut [u8], out: &mut [u8])
+fn with_script(
+    rt: &HostRuntime,
+    window: &mut [u8],
+    given: &mut [u8],
+    volume: &mut [u8],
+    out: &mut [u8],
+)
     requires { (longest_volume ≤ length given.old) × (length volume.old ≡ length given.old) }
 {
     let mut head = [0u8; HEADER_BYTES];
-    let got = io::read_full(STDIN_FILENO, &mut head);
+    let got = streams::read_full(&mut rt.stdin(), &mut head);
     match replay_script::header_of(&head[..got]) {
-        Header::Bad => refuse(out),
-        Header::Good(g, n) => with_header(g, n, window, given, volume, out),
+        Header::Bad => refuse(&mut rt.stdout(), out),
+        Header::Good(g, n) => with_header(rt, g, n, window, given, volume, out),
     }
 }
 
 // The arrays as slices: a reference to an array tells its length, and nobody has to count millions of zeros.
 fn with_arrays(
+    rt: &HostRuntime,
     window: &mut [u8; WINDOW_BYTES],
     given: &mut [u8; LONGEST_VOLUME],
     volume: &mut [u8; LONGEST_VOLUME],
     out: &mut [u8; OUT_BYTES],
 ) {
-    with_script(window, given, volume, out);
+    with_script(rt, window, given, volume, out);
 }
 
-fn main() {
+fn main(rt: HostRuntime) {
     let mut window = [0u8; WINDOW_BYTES];
     let mut given = [0u8; LONGEST_VOLUME];
     let mut volume = [0u8; LONGEST_VOLUME];
     let mut out = [0u8; OUT_BYTES];
-    with_arrays(&mut window, &mut given, &mut volume, &mut out);
+    with_arrays(&rt, &mut window, &mut given, &mut volume, &mut out);
 }

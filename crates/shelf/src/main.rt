@@ -1,14 +1,16 @@
 // Reads volumes of V's geometry from standard input, one after another, and prints what they hold together, one figure a line.
 #![tactic(auto)]
 
-ghost use Rattle.std.specs.Prelude.{◌≡◌, ◌≤◌, length, take};
-ghost use Rattle.io.specs.Counts.{IsPrefixLen};
+ghost use Rattle.std.specs.Prelude.{◌≡◌, ◌≤◌, length, take, OnOk};
+ghost use Rattle.std.specs.Io.KnownBytes.{Appends};
+ghost use Rattle.streams.specs.Counts.{IsPrefixLen};
 ghost use Rattle.shelf_report.specs.Report.{report};
 ghost use Rattle.shelf_report.specs.Room.{room, OfVolumes};
 ghost use Rattle.shelf.specs.Reading.{volume_bytes, after_read};
 
-use libc::{STDIN_FILENO, STDOUT_FILENO};
 use shelf_figures::Shelf;
+use std::io;
+use std::io::{Read, Write};
 
 // The report, whole, in the first bytes of `out`, and how many they are.
 fn lay(shelf: Shelf, out: &mut [u8]) -> usize
@@ -18,11 +20,13 @@ fn lay(shelf: Shelf, out: &mut [u8]) -> usize
     shelf_report::put_report(shelf, out)
 }
 
-fn print(shelf: Shelf, out: &mut [u8])
+// What was written is the report; where the writer fails, it may be cut off.
+fn print<W: Write>(shelf: Shelf, out: &mut [u8], to: &mut W) -> io::Result<()>
     requires { (room ≤ length out.old) × OfVolumes shelf }
+    ensures { OnOk result (Appends (W.contents to.old) (W.contents to.new) (report shelf)) }
 {
     let n = lay(shelf, out);
-    io::write_all(STDOUT_FILENO, &out[0..n]);
+    to.write_all(&out[0..n])
 }
 
 // The shelf after a reading, and whether another follows.
@@ -50,14 +54,14 @@ fn after_read(shelf: Shelf, buffer: &[u8], n: usize) -> Reading
 }
 
 // One volume after another. `volume` has room for one.
-fn read_volumes(volume: &mut [u8]) -> Shelf
+fn read_volumes<R: Read>(from: &mut R, volume: &mut [u8]) -> Shelf
     requires { length volume.old ≡ volume_bytes }
     ensures { OfVolumes result }
 {
     let mut shelf = Shelf::bare();
     let mut more = true;
     while more {
-        let n = io::read_full(STDIN_FILENO, volume);
+        let n = streams::read_full(from, volume);
         let reading = after_read(shelf, volume, n);
         shelf = reading.shelf;
         more = reading.more;
@@ -65,9 +69,9 @@ fn read_volumes(volume: &mut [u8]) -> Shelf
     shelf
 }
 
-fn main() {
+fn main(rt: HostRuntime) {
     let mut volume = [0u8; listing::VOLUME_BYTES];
     let mut out = [0u8; shelf_report::ROOM];
-    let shelf = read_volumes(&mut volume);
-    print(shelf, &mut out);
+    let shelf = read_volumes(&mut rt.stdin(), &mut volume);
+    let _ = print(shelf, &mut out, &mut rt.stdout());
 }

@@ -10,11 +10,8 @@ use Rattle.shelf_figures.proofs.OrderLaws.{bare_within}
 use Rattle.shelf_report.specs.Room.{OfVolumes}
 use Rattle.shelf.proofs.ReadingLaws.{left, Next, next_read}
 use borrow.Author.Rules.{rules}
+use Rattle.shelf.proofs.read_volumes.Invariants.{SoFar}
 use Rattle.shelf.proofs.read_volumes.Goals as goal
-
-record SoFar (volume₀ volume : List ℕ) (shelf : Shelf) : Type 0 where
-  long : length volume ≡ length volume₀
-  of_volumes : OfVolumes shelf
 
 -- a bare shelf has seen none
 none_seen : (s : Shelf) → s ≡ bare → OfVolumes s

@@ -12,6 +12,10 @@ use Rattle.shelf.proofs.ReadingLaws.{left, Next, next_read}
 use borrow.Author.Rules.{rules}
 use Rattle.shelf.proofs.read_volumes.Given as goal
 
+pub record SoFar (volume₀ volume : List ℕ) (shelf : Shelf) : Type 0 where
+  pub long : length volume ≡ length volume₀
+  pub of_volumes : OfVolumes shelf
+
 abbrev pub invariant-loop-more : goal.invariant-loop-more
 invariant-loop-more l = SoFar l.initial.volume l.volume l.shelf
 

@@ -19,7 +19,7 @@ loop-i-init c = (refl, folded_start)
 pub loop-i-preserved : goal.loop-i-preserved
 loop-i-preserved c =
     let l = c.loop-i in
-    (c.lay_byte.auto.0 ∙ l.invariant.0, folded_next l.invariant.1 (search rules) (c.lay_byte.ensures ∙ rw (c.address_of-address.ensures.0, c.data_of.ensures)))
+    (c.lay_byte.auto.part ∙ l.invariant.0, folded_next l.invariant.1 (search rules) (c.lay_byte.ensures ∙ rw (c.address_of-address.ensures.0, c.data_of.ensures)))
 
 pub returns : goal.returns
 unfolding laid

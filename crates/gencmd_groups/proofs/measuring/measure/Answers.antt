@@ -15,11 +15,11 @@ loop-at-init c = measuring_start c.next_colon-at.ensures
 
 pub returns-then-not-is_none : goal.returns-then-not-is_none
 returns-then-not-is_none c =
-    measuring_refused c.loop-at.invariant (search rules) c.line_why-why.ensures (sym c.is_none.ensures ∙ not-true c.is_none.result c.if-not-is_none.true)
+    measuring_refused c.loop-at.invariant (search rules) c.line_why-why.ensures (sym c.is_none.ensures ∙ c.if-not-is_none.true)
 
 pub returns-then-is_end : goal.returns-then-is_end
 returns-then-is_end c =
-    let e = ap is_none (sym c.line_why-why.ensures) ∙ sym c.is_none.ensures ∙ not-false c.is_none.result c.if-not-is_none.false in
+    let e = ap is_none (sym c.line_why-why.ensures) ∙ sym c.is_none.ensures ∙ c.if-not-is_none.false in
     measuring_end c.loop-at.invariant (search rules) e (sym c.is_end.ensures ∙ c.if-is_end.true)
 
 pub loop-at-smaller : goal.loop-at-smaller
@@ -30,7 +30,7 @@ loop-at-smaller c =
 
 pub loop-at-preserved : goal.loop-at-preserved
 loop-at-preserved c =
-    let e = ap is_none (sym c.line_why-why.ensures) ∙ sym c.is_none.ensures ∙ not-false c.is_none.result c.if-not-is_none.false in
+    let e = ap is_none (sym c.line_why-why.ensures) ∙ sym c.is_none.ensures ∙ c.if-not-is_none.false in
     measuring_next c.loop-at.invariant (search rules) e (sym c.is_end.ensures ∙ c.if-is_end.false) c.reach_over-reach.ensures c.next_line-at.ensures
 
 pub returns : goal.returns

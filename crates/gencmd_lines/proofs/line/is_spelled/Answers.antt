@@ -15,13 +15,13 @@ loop-i-init c = (search rules, (c.digits_in-n.ensures.0, passed_start))
 pub returns-then-not-is_digit : goal.returns-then-not-is_digit
 returns-then-not-is_digit c =
     let l = c.loop-i in
-    let e = sym c.is_digit.ensures ∙ not-true c.is_digit.result c.if-not-is_digit.true in
+    let e = sym c.is_digit.ensures ∙ c.if-not-is_digit.true in
     sym (spelled_by c.args.line.now false l.invariant.0 (passed_fails l.invariant.1.1 (search rules) e))
 
 pub loop-i-preserved : goal.loop-i-preserved
 loop-i-preserved c =
     let l = c.loop-i in
-    let e = sym c.is_digit.ensures ∙ not-false c.is_digit.result c.if-not-is_digit.false in
+    let e = sym c.is_digit.ensures ∙ c.if-not-is_digit.false in
     (l.invariant.0, (l.invariant.1.0, passed_next l.invariant.1.1 (search rules) e))
 
 pub returns : goal.returns

@@ -21,6 +21,7 @@ loop-i-preserved c =
     let n = 5 + c.count_of-n.result in
     let h : l.i < n = search rules in
     let k = sum_next (line_byte line) n l.i h in
+    let e = c.wrapping_add_u8-sum.ensures.value in
     let p = c.line_byte.ensures in
     (l.invariant.0, (l.invariant.1.0, (omega (arith, e), mod_next c.wrapping_add_u8-sum.result l.sum (line_byte line l.i) (sum_from (line_byte line) (l.i + 1) (n - (l.i + 1))) (sum_of line) (e ∙ rw p) (rw (← k) l.invariant.1.1.1))))
 

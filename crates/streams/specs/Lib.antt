@@ -1,0 +1,2 @@
+-- How many bytes of a buffer were read into.
+pub mod Counts
