@@ -4,7 +4,7 @@ use mathlib.Core.Bool.{true}
 use Prim.Native.Nat.{ℕ}
 use lib.ListN.{length}
 use lib.Dec.{eqb}
-use borrow.Author.Tests.{not-true, not-false, eqb-true}
+use borrow.Author.Tests.{eq-eqb, ne_eqb}
 use borrow.Author.Rules.{rules}
 use Rattle.disk_geometry.specs.Geometry.{bytes}
 use Rattle.call_answers.specs.Answer.{succeeded}
@@ -32,7 +32,7 @@ returns-then-not-whole c =
     let passed : succeeded c.log_in-reply.result.answer ≡ true = sym c.succeeded.ensures ∙ c.if-not-succeeded.false in
     let a = c.args in
     second_refused a.g a.first.now a.second.now said passed
-    (ap (λ (n : ℕ). eqb (length a.second.now) n) (sym c.bytes.ensures) ∙ c.if-not-whole.true)
+    (ap (λ (n : ℕ). eqb (length a.second.now) n) (sym c.bytes.ensures) ∙ ne_eqb _ _ c.if-not-whole.true)
 
 pub lay_out-requires : goal.lay_out-requires
 lay_out-requires c =
@@ -42,7 +42,7 @@ lay_out-requires c =
     let r = ready in
     record {
       accepted = (r.law, (r.size, r.good));
-      second_len = eqb-true _ _ c.if-not-whole.false ∙ c.bytes.ensures;
+      second_len = c.if-not-whole.false ∙ c.bytes.ensures;
     }
 
 pub returns : goal.returns
@@ -51,4 +51,4 @@ returns c =
     let passed : succeeded c.log_in-reply.result.answer ≡ true = sym c.succeeded.ensures ∙ c.if-not-succeeded.false in
     let a = c.args in
     copy_done a.g a.first.now a.second.now said passed
-    (ap (λ (n : ℕ). eqb (length a.second.now) n) (sym c.bytes.ensures) ∙ c.if-not-whole.false) c.lay_out.ensures
+    (ap (λ (n : ℕ). eqb (length a.second.now) n) (sym c.bytes.ensures) ∙ eq-eqb _ _ c.if-not-whole.false) c.lay_out.ensures

@@ -1,6 +1,6 @@
 -- An empty slot adds nothing; another one an entry, its records, and a file if it is the first of that.
-use mathlib.Core.Path.{◌≡◌, sym, ap, ◌∙◌}
-use mathlib.Core.Bool.{Bool, true, false, cond}
+use mathlib.Core.Path.{◌≡◌, ap, ◌∙◌}
+use mathlib.Core.Bool.{Bool, false, cond}
 use Prim.Native.Nat.{ℕ, ◌+◌}
 use native.Mathlib.Omega.{arith}
 use Rattle.disk_geometry.proofs.GeometryLaws.{bounds}
@@ -31,8 +31,8 @@ returns-then-volume-at c =
 pub is_first-first-requires : goal.is_first-first-requires
 is_first-first-requires c =
     let used : (let a = c.args in is_empty (slot_at a.g a.volume.now a.i) ≡ false) = (let a = c.args in
-      let at = c.slot_start-at in
-      slot_used a.g a.volume.now a.i at.result at.ensures.0 c.if-volume-at.false) in
+    let at = c.slot_start-at in
+    slot_used a.g a.volume.now a.i at.result at.ensures.0 c.if-volume-at.false) in
     let a = c.args in
     let at = c.slot_start-at in
     let e = lent_slot a.g a.volume.now a.i at.result at.ensures.0 in
@@ -54,8 +54,8 @@ overflow_add-records c = omega (arith, (bounds _ c.requires.volume.0).slots_high
 pub returns : goal.returns
 returns c =
     let used : (let a = c.args in is_empty (slot_at a.g a.volume.now a.i) ≡ false) = (let a = c.args in
-      let at = c.slot_start-at in
-      slot_used a.g a.volume.now a.i at.result at.ensures.0 c.if-volume-at.false) in
+    let at = c.slot_start-at in
+    slot_used a.g a.volume.now a.i at.result at.ensures.0 c.if-volume-at.false) in
     let a = c.args in
     let at = c.slot_start-at in
     let e = lent_slot a.g a.volume.now a.i at.result at.ensures.0 in

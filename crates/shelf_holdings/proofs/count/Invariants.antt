@@ -1,17 +1,13 @@
 -- Files, entries and records of the slots passed so far are added up, and their files are in the tree.
-use mathlib.Core.Path.{◌≡◌, refl, sym, ◌∙◌}
 use mathlib.Core.Bool.{cond}
 use mathlib.Core.List.{List}
-use Prim.Native.Nat.{ℕ, zero, suc, ◌+◌, ◌-◌, ◌*◌, ◌≤◌}
-use lib.ListN.{replicate}
-use Rattle.lists.specs.Bytes.{byte}
-use Rattle.sums.proofs.SumLaws.{Summed, summed_start, summed_next, summed_end, count_sum}
+use Prim.Native.Nat.{ℕ, ◌-◌, ◌*◌, ◌≤◌}
+use Rattle.sums.proofs.SumLaws.{Summed}
 use Rattle.disk_geometry.specs.declared.Geometry.{Geometry}
 use Rattle.disk_geometry.specs.Geometry.{slots}
 use Rattle.shelf_files.specs.CodeTree.{Heads, Nodes}
-use Rattle.shelf_files.proofs.TreeLaws.{no_heads, no_nodes}
-use Rattle.shelf_holdings.specs.Holdings.{is_entry, entries, is_file, files}
-use Rattle.shelf_holdings.specs.CodeEntries.{slot_records, records_by_entries}
+use Rattle.shelf_holdings.specs.Holdings.{is_entry, is_file}
+use Rattle.shelf_holdings.specs.CodeEntries.{slot_records}
 use Rattle.shelf_holdings.proofs.count.Given as goal
 
 -- the slots passed so far

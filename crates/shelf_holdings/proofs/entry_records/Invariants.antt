@@ -1,11 +1,11 @@
 -- Of the places passed so far the records are added up; what is left of the run begins at the next place.
-use mathlib.Core.Path.{◌≡◌, ap}
+use mathlib.Core.Path.{◌≡◌}
 use mathlib.Core.List.{List}
-use Prim.Native.Nat.{ℕ, ◌+◌, ◌-◌, ◌*◌, ◌≤◌}
+use Prim.Native.Nat.{ℕ, ◌-◌, ◌*◌, ◌≤◌}
 use Rattle.sums.proofs.SumLaws.{Summed}
 use Rattle.disk_geometry.specs.declared.Geometry.{Geometry}
 use Rattle.disk_geometry.specs.Geometry.{records, places}
-use Rattle.shelf_holdings.specs.CodeEntries.{run, place_records, entry_records}
+use Rattle.shelf_holdings.specs.CodeEntries.{run, place_records}
 use Rattle.shelf_holdings.proofs.entry_records.Given as goal
 
 -- the places passed so far

@@ -1,11 +1,10 @@
 -- A place that names no block has none; another one has what is left of the run, at most a block's.
-use mathlib.Core.Path.{◌≡◌, sym, ◌∙◌}
+use mathlib.Core.Path.{sym, ◌∙◌}
 use mathlib.Core.Logic.{◌≢◌}
 use native.Mathlib.Omega.{arith}
 use Rattle.disk_geometry.proofs.GeometryLaws.{bounds}
 use Rattle.disk_volume.specs.Entry.{block_in}
 use Rattle.shelf_holdings.proofs.PlaceLaws.{place_unused, place_used}
-use borrow.Author.Rules.{rules}
 use Rattle.shelf_holdings.proofs.place_records.Goals as goal
 
 pub returns-then-block_in-eq0 : goal.returns-then-block_in-eq0

@@ -6,7 +6,6 @@ use native.Mathlib.Omega.{arith}
 use Rattle.lists.specs.Bytes.{byte}
 use Rattle.disk_geometry.proofs.GeometryLaws.{bounds}
 use Rattle.disk_volume.proofs.EntryLaws.{count_own}
-use borrow.Author.Rules.{rules}
 use Rattle.shelf_holdings.proofs.run_of.Goals as goal
 
 pub nonzero_rem-result : goal.nonzero_rem-result
@@ -15,25 +14,25 @@ nonzero_rem-result c = omega (arith, c.extents.ensures, (bounds _ c.requires.0).
 pub overflow_mul-result : goal.overflow_mul-result
 overflow_mul-result c =
     let few_below : c.extent_of-x.result % c.extents.result < 4 = (let b = bounds _ c.requires.0 in
-      let some : 0 < c.extents.result = omega (arith, c.extents.ensures, b.some_extents) in
-      let four : c.extents.result ≤ 4 = omega (arith, c.extents.ensures, b.block_high) in
-      omega (arith, mod-lt c.extent_of-x.result some)) in
+    let some : 0 < c.extents.result = omega (arith, c.extents.ensures, b.some_extents) in
+    let four : c.extents.result ≤ 4 = omega (arith, c.extents.ensures, b.block_high) in
+    omega (arith, mod-lt c.extent_of-x.result some)) in
     omega (arith, few_below)
 
 pub overflow_add-result : goal.overflow_add-result
 overflow_add-result c =
     let few_below : c.extent_of-x.result % c.extents.result < 4 = (let b = bounds _ c.requires.0 in
-      let some : 0 < c.extents.result = omega (arith, c.extents.ensures, b.some_extents) in
-      let four : c.extents.result ≤ 4 = omega (arith, c.extents.ensures, b.block_high) in
-      omega (arith, mod-lt c.extent_of-x.result some)) in
+    let some : 0 < c.extents.result = omega (arith, c.extents.ensures, b.some_extents) in
+    let four : c.extents.result ≤ 4 = omega (arith, c.extents.ensures, b.block_high) in
+    omega (arith, mod-lt c.extent_of-x.result some)) in
     omega (arith, few_below, c.wide.ensures.0, c.count_of.ensures.1)
 
 pub returns : goal.returns
 returns c =
     let few_below : c.extent_of-x.result % c.extents.result < 4 = (let b = bounds _ c.requires.0 in
-      let some : 0 < c.extents.result = omega (arith, c.extents.ensures, b.some_extents) in
-      let four : c.extents.result ≤ 4 = omega (arith, c.extents.ensures, b.block_high) in
-      omega (arith, mod-lt c.extent_of-x.result some)) in
+    let some : 0 < c.extents.result = omega (arith, c.extents.ensures, b.some_extents) in
+    let four : c.extents.result ≤ 4 = omega (arith, c.extents.ensures, b.block_high) in
+    omega (arith, mod-lt c.extent_of-x.result some)) in
     let a = c.args in
     let own : c.wide.result ≡ min (byte a.e.now 15) 128 = c.wide.ensures.0 ∙ c.count_of.ensures.0 ∙ count_own a.e.now c.extent_of-x.result c.extent_of-x.ensures.0 in
     (rw (own, c.extent_of-x.ensures.0, c.extents.ensures), omega (arith, few_below, c.wide.ensures.0, c.count_of.ensures.1))

@@ -1,13 +1,12 @@
 -- The blocks that are not free are held, and the records of the entries are those of the files.
 use mathlib.Core.Path.{◌≡◌, sym, ◌∙◌}
-use Prim.Native.Nat.{ℕ, ◌-◌}
+use Prim.Native.Nat.{◌-◌}
 use native.Mathlib.Omega.{arith}
 use Rattle.disk_geometry.proofs.GeometryLaws.{bounds}
 use Rattle.shelf_holdings.specs.Holdings.{records_present, blocks_held, blocks_free, waste, holdings}
 use Rattle.shelf_holdings.specs.Sums.{Sums}
 use Rattle.shelf_holdings.proofs.RecordLaws.{by_entries}
 use Rattle.shelf_holdings.proofs.WasteLaws.{sums_hold, free_is}
-use borrow.Author.Rules.{rules}
 use Rattle.shelf_holdings.proofs.take_stock.Goals as goal
 
 pub overflow_sub-held : goal.overflow_sub-held
