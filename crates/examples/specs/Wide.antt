@@ -18,7 +18,6 @@ use Rattle.disk_stores.specs.Stores.{Store, store, laid, directory_records, swee
 use Rattle.disk_held.specs.Held.{free_count}
 use Rattle.disk_rules.specs.GoodSlot.{lowest_bad}
 use Rattle.disk_rules.specs.Named.{held_of}
-use Rattle.call_answers.specs.declared.Answer.{Answer}
 use Rattle.call_answers.specs.declared.Answer.TheVariants as answer
 use Rattle.call_answers.specs.declared.Refusal.{Refusal}
 use Rattle.call_answers.specs.declared.Refusal.TheVariants.{Closed, VolumeLength, BadSlot, NoGroup, Outside}
@@ -223,8 +222,8 @@ unfolding perform read_random_act random_tests read_done read_as random_as
 reads d v fcb b found act e f h =
     ap (outcome d v fcb b)
     ((λ i.
-        unless (random_as (e i) d fcb b ++ read_tests d.geometry v d.user (name_of fcb) (random fcb) NoGroup)
-        (acts 0 keeps [] (set_to fcb (slot_at d.geometry v (record_slot d.geometry v d.user (name_of fcb) (random fcb))) (random fcb) (random fcb % 128)) (f i)))
+    unless (random_as (e i) d fcb b ++ read_tests d.geometry v d.user (name_of fcb) (random fcb) NoGroup)
+    (acts 0 keeps [] (set_to fcb (slot_at d.geometry v (record_slot d.geometry v d.user (name_of fcb) (random fcb))) (random fcb) (random fcb % 128)) (f i)))
     ∙ h)
 
 write_as : Drive → List ℕ → List ℕ → List ℕ → Act
@@ -280,10 +279,10 @@ deletes d v fcb e =
       is =
           ap (outcome d v fcb [])
           (λ i.
-              unless
-              (closed_state d ∷ test VolumeLength (not (e i)) ∷ fcb_length fcb ∷ drive_code fcb ∷ bad_name true fcb NAME ∷ protected_drive d
-              ∷ delete_tests d.geometry v d.user (name_of fcb))
-              (acts 0 (frees d.user (name_of fcb)) (sweep_stores d.geometry (matches d.user (name_of fcb)) erased v 0 (directory_records d.geometry)) fcb []));
+          unless
+          (closed_state d ∷ test VolumeLength (not (e i)) ∷ fcb_length fcb ∷ drive_code fcb ∷ bad_name true fcb NAME ∷ protected_drive d
+          ∷ delete_tests d.geometry v d.user (name_of fcb))
+          (acts 0 (frees d.user (name_of fcb)) (sweep_stores d.geometry (matches d.user (name_of fcb)) erased v 0 (directory_records d.geometry)) fcb []));
     }
 
 -- ---- the volume's length
@@ -354,7 +353,7 @@ module _ (t : List ℕ) where
 
   write_127 : write_as (on held_1) (dir_1 ++ t) (record_of sigla 127) (filled 8)
       ≡ acts 0 (takes true 1) (store 31 (filled 8) ∷ store 0 (take 128 dir_2) ∷ [])
-          (control sigla 0 0 128 (two (255 ∷ 256 ∷ 0 ∷ 0 ∷ 0 ∷ 0 ∷ 0 ∷ 1 ∷ [])) 127 127) (filled 8)
+      (control sigla 0 0 128 (two (255 ∷ 256 ∷ 0 ∷ 0 ∷ 0 ∷ 0 ∷ 0 ∷ 1 ∷ [])) 127 127) (filled 8)
   unfolding seen two write_as random_as
   write_127 = refl
 
@@ -486,18 +485,18 @@ second_is = append_assoc (entry 0 sigla 0 0 16 (two (513 ∷ []))) (empty 63) (r
 -- after the first write
 after_16 : (far : List ℕ) → length far ≡ 522240
     → Holds (leaves (on held_1) (dir_1 ++ (far ++ last_block)) (control sigla 0 0 17 (255 ∷ 0 ∷ 0 ∷ 1 ∷ []) 16 16) (filled 7))
-        (call (read (record_of sigla 16) (filled 0)) (done 0)
-        ∷ buffer_is (filled 7)
-        ∷ call (write (record_of sigla 127) (filled 8)) (done 0)
-        ∷ call (write (record_of sigla 128) (filled 9)) (done 0)
-        ∷ volume_at 0 (entry 0 sigla 0 0 128 (two (255 ∷ 256 ∷ 0 ∷ 0 ∷ 0 ∷ 0 ∷ 0 ∷ 1 ∷ [])) ++ entry 0 sigla 1 0 1 (two (2 ∷ [])) ++ empty 62)
-        ∷ held_are (6 ∷ 0 ∷ 0 ∷ 2 ^ 63 ∷ 1 ∷ [])
-        ∷ call (delete (fresh sigla)) (done 0)
-        ∷ held_are []
-        ∷ altered second_as_written
-        ∷ call (read (record_of sigla 0) (filled 0)) (refused 41)
-        ∷ call (log_in hard) (bad_slot 0)
-        ∷ [])
+    (call (read (record_of sigla 16) (filled 0)) (done 0)
+    ∷ buffer_is (filled 7)
+    ∷ call (write (record_of sigla 127) (filled 8)) (done 0)
+    ∷ call (write (record_of sigla 128) (filled 9)) (done 0)
+    ∷ volume_at 0 (entry 0 sigla 0 0 128 (two (255 ∷ 256 ∷ 0 ∷ 0 ∷ 0 ∷ 0 ∷ 0 ∷ 1 ∷ [])) ++ entry 0 sigla 1 0 1 (two (2 ∷ [])) ++ empty 62)
+    ∷ held_are (6 ∷ 0 ∷ 0 ∷ 2 ^ 63 ∷ 1 ∷ [])
+    ∷ call (delete (fresh sigla)) (done 0)
+    ∷ held_are []
+    ∷ altered second_as_written
+    ∷ call (read (record_of sigla 0) (filled 0)) (refused 41)
+    ∷ call (log_in hard) (bad_slot 0)
+    ∷ [])
 after_16 far h =
     let t1 : List ℕ = far ++ last_block in
     let k1 : length t1 ≡ 524288 = length-append far last_block ∙ omega arith in
