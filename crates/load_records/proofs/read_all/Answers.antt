@@ -1,8 +1,6 @@
 -- The length of the control block, record 0, and the rest.
 use Rattle.load_records.proofs.ReadLaws.{all_short, all_first, all_rest}
-use borrow.Author.Tests.{not-true, not-false}
 use mathlib.Core.Path.{sym, ◌∙◌}
-use borrow.Author.Rules.{rules}
 use Rattle.load_records.proofs.read_all.Goals as goal
 
 pub returns-then-fcb-ne-FCB_BYTES : goal.returns-then-fcb-ne-FCB_BYTES

@@ -1,7 +1,6 @@
 -- A place in use, or none.
 use Rattle.memory_regions.proofs.PlaceLaws.{used_at, used_past}
 use mathlib.Core.Path.{sym}
-use borrow.Author.Rules.{rules}
 use Rattle.memory_bytes.proofs.used_at.Goals as goal
 
 pub returns-then-i-n : goal.returns-then-i-n

@@ -1,11 +1,8 @@
 -- Data byte by data byte.
-use Rattle.gencmd_groups.specs.CodeLaying.{lay_byte, laid}
-use Rattle.gencmd_lines.specs.Line.{count_of}
-use Rattle.lists.proofs.FoldLaws.{Folded, folded_start, folded_next, folded_end}
+use Rattle.gencmd_groups.specs.CodeLaying.{laid}
+use Rattle.lists.proofs.FoldLaws.{folded_start, folded_next, folded_end}
 use borrow.Author.Tests.{eq-eqb, ne_eqb}
-use lib.ListN.{length}
-use Prim.Native.Nat.{◌-◌}
-use mathlib.Core.Path.{◌≡◌, refl, sym, ◌∙◌}
+use mathlib.Core.Path.{refl, sym, ◌∙◌}
 use borrow.Author.Rules.{rules}
 use Rattle.gencmd_groups.proofs.laying.lay_line.Goals as goal
 

@@ -1,5 +1,5 @@
 -- Each arm of the match is one of the definition's cases, and `_` is none of them.
-use Rattle.std.proofs.Common.{◌≡◌, ne_eqb}
+use Rattle.std.proofs.Common.{ne_eqb}
 use Rattle.gencmd_lines.specs.Line.{group_of_type}
 use Rattle.gencmd_lines.proofs.line.group_of_type.Goals as goal
 

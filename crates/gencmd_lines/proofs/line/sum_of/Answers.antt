@@ -2,7 +2,7 @@
 use Rattle.gencmd_lines.proofs.LineLaws.{sum_next, sum_end, mod_next}
 use Rattle.gencmd_lines.specs.Line.{sum_from, sum_of, bytes_in}
 use Rattle.gencmd_lines.specs.Digits.{line_byte}
-use Rattle.std.proofs.Common.{◌≡◌, ℕ, ◌+◌, ◌-◌, ◌%◌, ◌<◌, ◌≤◌, ap, ◌∙◌, arith, rules}
+use Rattle.std.proofs.Common.{◌≡◌, ℕ, ◌+◌, ◌-◌, ◌<◌, ◌≤◌, ap, ◌∙◌, arith, rules}
 use Rattle.gencmd_lines.proofs.line.sum_of.Goals as goal
 
 pub loop-i-init : goal.loop-i-init
