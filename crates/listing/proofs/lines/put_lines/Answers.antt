@@ -17,7 +17,7 @@ pub loop-i-preserved : goal.loop-i-preserved
 loop-i-preserved c =
     let l = c.loop-i in
     let a = c.args in
-    (search rules, (c.put_slot_line-p.auto.1.1.1.0 ∙ l.invariant.1.0, lines_next a.g a.volume.now (slots a.g) l.i (text l.out l.p) _ (search rules) c.put_slot_line-p.ensures ∙ l.invariant.1.1))
+    (search rules, (c.put_slot_line-p.auto.out ∙ l.invariant.1.0, lines_next a.g a.volume.now (slots a.g) l.i (text l.out l.p) _ (search rules) c.put_slot_line-p.ensures ∙ l.invariant.1.1))
 
 pub returns : goal.returns
 returns c =
