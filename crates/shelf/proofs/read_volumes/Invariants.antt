@@ -12,8 +12,12 @@ use Rattle.shelf.proofs.ReadingLaws.{left, Next, next_read}
 use borrow.Author.Rules.{rules}
 use Rattle.shelf.proofs.read_volumes.Given as goal
 
+pub record SoFar (volume₀ volume : List ℕ) (shelf : Shelf) : Type 0 where
+  pub long : length volume ≡ length volume₀
+  pub of_volumes : OfVolumes shelf
+
 abbrev pub invariant-loop-more : goal.invariant-loop-more
-invariant-loop-more l = SoFar l.initial.volume l.volume l.shelf
+invariant-loop-more g l = SoFar l.initial.volume l.volume l.shelf
 
 abbrev pub decreases-loop-more : goal.decreases-loop-more
-decreases-loop-more l = left l.shelf l.more
+decreases-loop-more g l = left l.shelf l.more
