@@ -119,6 +119,9 @@ small_keeps touches d v w f b (done code protects stores f' b') c guards =
     record { consistent = record { law = c.law; size = c.size; sound = c.sound; held = c.held }; geometry = refl; others = λ u name l h. leaves_all }
 small_keeps touches d v w f b (done code (becomes u) stores f' b') c changes =
     record { consistent = record { law = c.law; size = c.size; sound = c.sound; held = c.held }; geometry = refl; others = λ u name l h. leaves_all }
+small_keeps touches d v w f b (done code (Rattle.filecalls.specs.Outcome.takes _ _) stores f' b') c x6 = elim x6 [ ]
+small_keeps touches d v w f b (done code (Rattle.filecalls.specs.Outcome.frees _ _) stores f' b') c x7 = elim x7 [ ]
+small_keeps touches d v w f b (done code (Rattle.filecalls.specs.Outcome.searches _) stores f' b') c x7 = elim x7 [ ]
 
 protect_small : (d : Drive) → Small (protect_act d)
 unfolding protect_act

@@ -136,6 +136,12 @@ module _ (d : Drive) (good : lawful d.geometry ≡ true) (v : List ℕ) (size : 
   small f (done code keeps [] f' b) (stays code' f'' b'') = record { answer_is = refl; drive_is = refl; fcb_is_lem = refl; kept = refl }
   small f (done code protects [] f' b) (protecting code' f'' b'') = record { answer_is = refl; drive_is = refl; fcb_is_lem = refl; kept = refl }
   small f (done code (becomes u) [] f' b) (becoming code' u' f'' b'') = record { answer_is = refl; drive_is = refl; fcb_is_lem = refl; kept = refl }
+  small f (done code keeps (_ ∷ _) f' b) x8 = elim x8 [ ]
+  small f (done code (takes _ _) _ f' b) x8 = elim x8 [ ]
+  small f (done code (frees _ _) _ f' b) x9 = elim x9 [ ]
+  small f (done code protects (_ ∷ _) f' b) x11 = elim x11 [ ]
+  small f (done code (becomes u) (_ ∷ _) f' b) x12 = elim x12 [ ]
+  small f (done code (searches _) _ f' b) x11 = elim x11 [ ]
 
   plain_unless : (ts : List Test) (act : Act) → Plain act → Plain (unless ts act)
   unfolding unless

@@ -52,7 +52,7 @@ module _ {d : Drive} {v first second third : List ℕ} (given : Drafts d v first
   from_first : {f new : List ℕ} → Asks f first new → good_name false new ≡ true → typeable new ≡ true → exists d v new ≡ false → Granted d v f first new
   from_first asks permitted typed free = record {
     asks = asks;
-    state_open = given.is_open;
+    state_open = given.is_open_lem;
     volume_length_lem = given.volume_length_lem;
     not_protected = given.not_protected;
     old_permitted = given.first_permitted;

@@ -10,6 +10,7 @@ use Rattle.demands.proofs.Demand3Holds.{demand3}
 pub tie : Tie
 unfolding answers final
 tie g [] d v ss w ended = record { answers_are = refl; volume_is = refl }
+tie g (c ∷ cs) d v [] w x = elim x [ ]
 tie g (c ∷ cs) d v (x ∷ ss) w (called r v' f' b' e rest) =
     let i = tie g cs r.drive v' ss w rest in
     let s : r.drive ≡ (step g c d v).drive = ap (λ (o : Outcome). o.drive) e in

@@ -10,7 +10,7 @@ use borrow.Author.Tests.{eqb-true, not-true}
 use Rattle.lists.specs.Bounded.{every, every_from}
 use Rattle.lists.proofs.BoolLaws.{and_parts}
 use Rattle.lists.proofs.BoundedLaws.{low_hit, every_true}
-use Rattle.desk_contents.specs.Contents.{contents_places, chapter_at, first_at, count_at, zero_at, clear, others, total, used_place, place_fits, good_contents, has_chapter, chapter_place}
+use Rattle.desk_contents.specs.Contents.{chapter_at, first_at, count_at, zero_at, clear, others, total, used_place, place_fits, good_contents, has_chapter, chapter_place}
 
 pub every_zero : (p : ℕ → Bool) (n : ℕ) → every_from p 0 (n - 0) ≡ every n p
 every_zero p n = let z : n - 0 ≡ n = omega arith in rw z

@@ -1,28 +1,25 @@
 -- The plan: it is safe, and carried out it is what the call leaves.
-use mathlib.Core.Path.{◌≡◌, refl, sym, ap, ◌∙◌}
+use mathlib.Core.Path.{◌≡◌, refl}
 use mathlib.Core.Bool.{Bool, true, false, cond}
 use mathlib.Core.List.{List, ◌++◌}
-use Prim.Native.Nat.{ℕ, ◌≤◌, ◌<◌}
+use Prim.Native.Nat.{ℕ}
 use native.Mathlib.Omega.{arith}
 use lib.Dec.{eqb, ltb}
-use lib.ListN.{length, drop, length-append, length-drop}
-use borrow.Author.Tests.{ltb-true, ltb-false, le-ltb}
+use lib.ListN.{length, drop}
 use Rattle.load_header.specs.Header.{CODE}
 use Rattle.gencmd_lines.specs.declared.Refusal.{Refusal}
-use Rattle.gencmd_lines.specs.declared.Refusal.TheVariants.{None, NoCode, Room}
+use Rattle.gencmd_lines.specs.declared.Refusal.TheVariants.{NoCode, Room}
 use Rattle.gencmd_lines.specs.Refusal.{is_none, first, refusing}
-use Rattle.gencmd_lines.specs.Line.{Line}
 use Rattle.gencmd_lines.specs.Lines.{lines_of, lines_refusal, lines_in}
-use Rattle.gencmd_lines.proofs.RefusalLaws.{first_parts}
 use Rattle.gencmd_groups.specs.declared.Groups.{Groups}
 use Rattle.gencmd_groups.specs.declared.Measured.TheVariants as measured
 use Rattle.gencmd_groups.specs.Groups.{reach_of, reaches, sizes_of}
-use Rattle.gencmd_groups.specs.CodeMeasure.{measured, ReachWithin, SizeWithin}
-use Rattle.gencmd_groups.proofs.ReachLaws.{reaches_within, sizes_within}
+use Rattle.gencmd_groups.specs.CodeMeasure.{measured, ReachWithin}
+use Rattle.gencmd_groups.proofs.ReachLaws.{reaches_within}
 use Rattle.gencmd_file.specs.declared.Plan.TheVariants.{No, Go}
 use Rattle.gencmd_file.specs.declared.Answer.TheVariants.{Written, Refused}
-use Rattle.gencmd_file.specs.File.{file_length, file_with, file_of}
-use Rattle.gencmd_file.specs.Gencmd.{After, after, written, refusal_of, gencmd}
+use Rattle.gencmd_file.specs.File.{file_length, file_with}
+use Rattle.gencmd_file.specs.Gencmd.{After, after, refusal_of, gencmd}
 use Rattle.gencmd_file.specs.CodePlan.{plan_for, plan_of, carried}
 use Rattle.gencmd_file.proofs.FileLaws.{length_file}
 

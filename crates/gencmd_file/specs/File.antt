@@ -1,6 +1,6 @@
 -- The CMD file: "128 bytes of header, with up to eight descriptors of nine bytes (form, length, base, least, most), then the
 -- image". "Most and least equal to its length; groups stand by rising type, and zeros fill the last record".
-use Rattle.std.specs.Prelude.{cond, List, [], ◌∷◌, ◌++◌, ℕ, ◌+◌, ◌*◌, ◌-◌, ◌/◌, eqb, length, replicate}
+use Rattle.std.specs.Prelude.{cond, List, [], ◌++◌, ℕ, ◌+◌, ◌*◌, ◌-◌, ◌/◌, eqb, length, replicate}
 use Rattle.numbers.specs.Numbers.{bytes_of}
 use Rattle.disk_geometry.specs.Geometry.{record_bytes}
 use Rattle.memory_spans.specs.Span.{paragraph_bytes}

@@ -6,7 +6,6 @@ use Prim.Native.Nat.{ℕ, ◌+◌, ◌*◌, ◌<◌}
 use native.Mathlib.Omega.{arith}
 use lib.Dec.{leb, ltb, eqb}
 use borrow.Author.Tests.{ne_eqb, eqb-true}
-use Rattle.lists.proofs.BoolLaws.{and_left}
 use Rattle.memory_spans.specs.Span.{paragraph_bytes}
 use Rattle.load_header.specs.Header.{CODE, DATA, EXTRA, STACK, page_paragraphs}
 use Rattle.gencmd_lines.specs.declared.Refusal.TheVariants.{None}

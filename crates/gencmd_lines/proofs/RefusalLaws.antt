@@ -5,7 +5,7 @@ use mathlib.Core.Bool.{false≢true}
 use borrow.Author.Tests.{eqb-false}
 use Rattle.load_header.specs.Header.{CODE, DATA, EXTRA, STACK}
 use Rattle.gencmd_lines.specs.declared.Refusal.{Refusal}
-use Rattle.gencmd_lines.specs.declared.Refusal.TheVariants.{None, Digits, Sum, OtherType, Beyond}
+use Rattle.gencmd_lines.specs.declared.Refusal.TheVariants.{Digits, Sum, OtherType, Beyond}
 use Rattle.gencmd_lines.specs.Refusal.{is_none, first, refusing}
 use Rattle.gencmd_lines.specs.Line.{Line, addresses, count_of, address_of, is_spelled, sum_of, group_of_type, group_of, is_end, data_refusal, line_refusal}
 

@@ -1,6 +1,6 @@
 -- Laws of the tree: keys that begin alike have one way; one slot more; where a new file is put.
 use mathlib.Core.Path.{◌≡◌, refl, sym, ap, ◌∙◌}
-use mathlib.Core.Bool.{Bool, true, false, not, cond, ◌&&◌, true≢false}
+use mathlib.Core.Bool.{Bool, true, false, cond, ◌&&◌, true≢false}
 use mathlib.Core.Logic.{◌≢◌}
 use mathlib.Core.List.{List}
 use Prim.Native.Nat.{ℕ, zero, suc, ◌+◌, ◌-◌, ◌*◌, ◌/◌, ◌%◌, ◌≤◌, ◌<◌}
@@ -16,7 +16,7 @@ use Rattle.lists.proofs.BoolLaws.{and_parts}
 use Rattle.disk_geometry.specs.declared.Geometry.{Geometry}
 use Rattle.disk_volume.specs.Directory.{slot_at}
 use Rattle.files.specs.Files.{is_listed}
-use Rattle.shelf_files.specs.CodeTree.{entry_key, rest_of, bit_of, alike, is_like, low_between, way, key_word, next_in, with_next, linked_heads, linked_nodes, Heads, Nodes, Ended}
+use Rattle.shelf_files.specs.CodeTree.{entry_key, bit_of, alike, is_like, low_between, way, key_word, next_in, with_next, linked_heads, linked_nodes, Heads, Nodes, Ended}
 
 -- ---- keys that begin alike
 pub alike_own : (d k : ℕ) → alike d k k ≡ true

@@ -11,7 +11,6 @@ use lib.Dec.{eqb, leb}
 use borrow.Author.Tests.{eq-eqb, ne_eqb, leb-true, leb-false}
 use Rattle.lists.specs.Bounded.{any}
 use Rattle.lists.specs.Bytes.{byte}
-use Rattle.lists.proofs.BoolLaws.{and_parts}
 use Rattle.lists.proofs.BoundedLaws.{any_true, any_false, any_intro, any_none}
 use Rattle.disk_geometry.specs.declared.Geometry.{Geometry}
 use Rattle.disk_geometry.specs.Geometry.{slots}
@@ -22,7 +21,7 @@ use Rattle.disk_volume.specs.Directory.{slot_at, find_slot}
 use Rattle.disk_volume.proofs.FindLaws.{find_is, find_low, found_fits}
 use Rattle.files.specs.Files.{is_listed}
 use Rattle.files.proofs.FileLaws.{of_file_lem, own_file}
-use Rattle.shelf_files.specs.CodeTree.{key_of, rest_of, bit_of, alike, is_like, low_between, way, next_in, Nodes, Ended}
+use Rattle.shelf_files.specs.CodeTree.{key_of, rest_of, bit_of, is_like, low_between, way, next_in, Nodes, Ended}
 use Rattle.shelf_files.proofs.TreeLaws.{alike_own, low_clear, low_is, listed, key_at, way_on, on_way}
 
 -- how far a walk at s may still go up

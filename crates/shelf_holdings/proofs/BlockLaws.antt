@@ -1,15 +1,15 @@
 -- The held blocks place by place: on a volume that passes inspection every held block stands in one place of one entry,
 -- so there are as many as used places.
-use mathlib.Core.Path.{◌≡◌, refl, sym, ap, ◌∙◌}
-use mathlib.Core.Bool.{Bool, true, false, not, cond, true≢false}
+use mathlib.Core.Path.{◌≡◌, refl, sym, ◌∙◌}
+use mathlib.Core.Bool.{Bool, true, false, cond, true≢false}
 use mathlib.Core.Logic.{◌≢◌, ◌⊎◌, inl, inr}
 use mathlib.Core.List.{List}
-use Prim.Native.Nat.{ℕ, ◌+◌, ◌-◌, ◌≤◌, ◌<◌}
+use Prim.Native.Nat.{ℕ, ◌-◌, ◌≤◌, ◌<◌}
 use native.Mathlib.Omega.{arith}
-use borrow.Author.Tests.{leb-true, le-leb, ltb-true, lt-ltb, eqb-true, eq-eqb, ne_eqb, not-false}
+use borrow.Author.Tests.{leb-true, le-leb, ltb-true, lt-ltb, eqb-true, eq-eqb, ne_eqb}
 use lib.Dec.{leb, ltb, eqb}
 use Rattle.lists.specs.Bounded.{count_from}
-use Rattle.lists.proofs.BoolLaws.{and_parts, and_right}
+use Rattle.lists.proofs.BoolLaws.{and_parts}
 use Rattle.disk_geometry.specs.declared.Geometry.{Geometry}
 use Rattle.disk_geometry.specs.Geometry.{lawful, slots, inside, places}
 use Rattle.disk_geometry.proofs.GeometryLaws.{bounds}
@@ -17,7 +17,7 @@ use Rattle.disk_volume.specs.Entry.{is_empty, block_in}
 use Rattle.disk_volume.specs.Directory.{slot_at}
 use Rattle.disk_rules.specs.GoodSlot.{lowest_bad, named_below}
 use Rattle.disk_rules.specs.Named.{named}
-use Rattle.disk_rules.proofs.NamedLaws.{NamedAt, named_at, at_named, unnamed_nowhere}
+use Rattle.disk_rules.proofs.NamedLaws.{NamedAt, named_at, at_named}
 use Rattle.disk_rules.proofs.AcceptedLaws.{good_entry_lem, one_place}
 use Rattle.files.specs.Files.{is_used, used_places}
 use Rattle.shelf_holdings.specs.Holdings.{is_entry, blocks_held}

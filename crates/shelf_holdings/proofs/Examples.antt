@@ -1,6 +1,6 @@
 -- The figures evaluated: on V when it is empty, after 01's writes, with a read-only extent, with an extent above 31, and with a file of
 -- another user; on a hard disk, on a floppy, and with four extents to an entry.
-use mathlib.Core.Path.{◌≡◌, refl, ap, ◌∙◌}
+use mathlib.Core.Path.{◌≡◌, refl, ◌∙◌}
 use mathlib.Core.Bool.{true}
 use mathlib.Core.List.{List, [], ◌∷◌, ◌++◌}
 use Prim.Native.Nat.{ℕ, ◌-◌, ◌*◌}

@@ -11,7 +11,7 @@ use borrow.Author.Tests.{lt-ltb, le-ltb, ltb-true, ltb-false, eq-eqb, ne_eqb}
 use lib.Dec.{ltb}
 use Rattle.lists.specs.Bounded.{count_from}
 use Rattle.lists.specs.Bytes.{byte}
-use Rattle.sums.specs.Sum.{sum_from, sum}
+use Rattle.sums.specs.Sum.{sum_from}
 use Rattle.lists.proofs.BoundedLaws.{count_ext}
 use Rattle.sums.proofs.SumLaws.{sum_ext, sum_le, sum_times, sum_pieces, count_sum, count_below}
 use Rattle.disk_geometry.specs.declared.Geometry.{Geometry}

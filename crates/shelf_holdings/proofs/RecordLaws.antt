@@ -1,21 +1,19 @@
 -- The records present entry by entry: on a volume that passes inspection every file has one entry of each group and every
 -- entry is of one file, so the records of all files are those of all entries.
 use mathlib.Core.Path.{◌≡◌, refl, sym, ap, ◌∙◌}
-use mathlib.Core.Bool.{Bool, true, false, not, cond, ◌&&◌, and-false, true≢false}
+use mathlib.Core.Bool.{Bool, true, false, cond, ◌&&◌, true≢false}
 use mathlib.Core.Logic.{◌≢◌, ◌⊎◌, inl, inr}
 use mathlib.Core.List.{List}
-use Prim.Native.Nat.{ℕ, ◌+◌, ◌-◌, ◌*◌, ◌/◌, ◌%◌, ◌≤◌, ◌<◌}
-use native.Mathlib.Decide.{ℕ_discrete}
+use Prim.Native.Nat.{ℕ, ◌+◌, ◌-◌, ◌*◌, ◌/◌, ◌≤◌, ◌<◌}
 use native.Mathlib.Nat.{div-div-eq-div-mul}
 use native.Mathlib.Omega.{arith}
 use lib.Arith.{digits_div}
-use borrow.Author.Tests.{ltb-true, ltb-false, lt-ltb, le-ltb, eqb-true, eq-eqb, ne_eqb, not-true, not-false}
+use borrow.Author.Tests.{ltb-true, ltb-false, eqb-true, eq-eqb, ne_eqb, not-true}
 use lib.Dec.{leb, ltb, eqb}
 use Rattle.lists.proofs.BoolLaws.{and_parts, and_left, and_right}
-use Rattle.lists.specs.Bounded.{count_from}
 use Rattle.lists.specs.Bytes.{byte}
 use Rattle.disk_geometry.specs.declared.Geometry.{Geometry}
-use Rattle.disk_geometry.specs.Geometry.{lawful, records, extents, slots, group_of, places}
+use Rattle.disk_geometry.specs.Geometry.{lawful, extents, slots, group_of}
 use Rattle.disk_geometry.proofs.GeometryLaws.{bounds}
 use Rattle.disk_volume.specs.declared.Wanted.TheVariants.{File, Group}
 use Rattle.disk_volume.specs.Name.{name_of}
@@ -23,10 +21,10 @@ use Rattle.files.proofs.FileLaws.{of_file_lem, own_file}
 use Rattle.disk_volume.specs.Entry.{Entry, is_empty, extent, of_file, of_group}
 use Rattle.disk_volume.specs.Directory.{slot_at, find_slot}
 use Rattle.disk_volume.specs.Record.{record_slot, counted, present}
-use Rattle.disk_volume.proofs.FindLaws.{find_le, found_fits, not_found, find_low}
+use Rattle.disk_volume.proofs.FindLaws.{found_fits, not_found, find_low}
 use Rattle.disk_rules.specs.GoodSlot.{lowest_bad}
 use Rattle.disk_rules.proofs.GoodLaws.{Fields, fields_good}
-use Rattle.disk_rules.proofs.TwinLaws.{twin, twins}
+use Rattle.disk_rules.proofs.TwinLaws.{twins}
 use Rattle.disk_rules.proofs.AcceptedLaws.{good_entry_lem, one_entry}
 use Rattle.files.specs.Files.{is_listed}
 use Rattle.shelf_holdings.specs.Holdings.{is_entry, is_file, most_records, file_records, records_present}

@@ -1,19 +1,18 @@
 -- The figures of a volume that passes inspection add up.
-use mathlib.Core.Path.{◌≡◌, refl, sym, ap, ◌∙◌}
-use mathlib.Core.Bool.{Bool, true, false, not, cond}
+use mathlib.Core.Path.{◌≡◌, refl, ap}
+use mathlib.Core.Bool.{Bool, true, false, not}
 use mathlib.Core.List.{List}
-use Prim.Native.Nat.{ℕ, ◌+◌, ◌-◌, ◌*◌, ◌≤◌, ◌<◌}
+use Prim.Native.Nat.{ℕ, ◌+◌, ◌-◌, ◌*◌, ◌≤◌}
 use native.Mathlib.Nat.{mul-le-mul_right}
 use native.Mathlib.Omega.{arith}
 use borrow.Author.Tests.{ne_eqb}
-use Rattle.lists.specs.Bounded.{count_from}
 use Rattle.lists.proofs.BoundedLaws.{count_ext}
 use Rattle.disk_geometry.specs.declared.Geometry.{Geometry}
 use Rattle.disk_geometry.specs.Geometry.{lawful, records, slots}
 use Rattle.disk_geometry.proofs.GeometryLaws.{bounds}
 use Rattle.disk_volume.specs.Entry.{is_empty}
 use Rattle.disk_volume.specs.Directory.{slot_at}
-use Rattle.disk_held.specs.Held.{holds, is_free, free_count}
+use Rattle.disk_held.specs.Held.{is_free, free_count}
 use Rattle.disk_held.proofs.CountLaws.{count_not}
 use Rattle.disk_rules.specs.GoodSlot.{lowest_bad}
 use Rattle.disk_rules.specs.Named.{named, held_of}

@@ -68,6 +68,7 @@ module _ (g : Geometry) (good : lawful g ≡ true) where
   part_logical : (v : List ℕ) → length v ≡ bytes g → (k q j : ℕ) → q + k ≤ g.blocks * records g → j < k
       → part (logical_from g v q k) (j * 128) 128 ≡ part v (start g (q + j)) 128
   unfolding logical_from
+  part_logical v size zero q j h j< = absurd (omega arith)
   part_logical v size (suc k) q zero h j< =
       let z : q + 0 ≡ q = omega arith in
       rw z (first_part (part v (start g q) 128) (logical_from g v (suc q) k) (length_part v (start g q) 128 (in_image v size q (omega arith))))

@@ -15,17 +15,11 @@ unfolding block_for
 returns-then-own-ne0 c =
     let a = c.args in
     let b = c.block_in-own.ensures.0 ∙ ap (block_in a.g a.e.now) c.place-place.ensures.0 in
-    let q : eqb (record_block a.g a.e.now a.n) 0 ≡ false = rw (← b) (ne_eqb c.block_in-own.result 0 c.if-own-ne0.true) in (
-      (rw (c.first_of-why.ensures, c.refuse-outside.ensures, c.is_inside.ensures, c.refuse-no_slot.ensures, c.slots.ensures.0, b) (sym (own_block a.g a.held.now a.e.now a.slot a.n q))),
-      (refl, (rw q b, sym q)),
-    )
+    let q : eqb (record_block a.g a.e.now a.n) 0 ≡ false = rw (← b) (ne_eqb c.block_in-own.result 0 c.if-own-ne0.true) in record { why_value = (rw (c.first_of-why.ensures, c.refuse-outside.ensures, c.is_inside.ensures, c.refuse-no_slot.ensures, c.slots.ensures.0, b) (sym (own_block a.g a.held.now a.e.now a.slot a.n q))); slot_value = refl; block_value = rw q b; fresh_value = sym q }
 
 pub returns : goal.returns
 unfolding block_for
 returns c =
     let a = c.args in
     let b = c.block_in-own.ensures.0 ∙ ap (block_in a.g a.e.now) c.place-place.ensures.0 in
-    let q : eqb (record_block a.g a.e.now a.n) 0 ≡ true = rw (← b) (eq-eqb c.block_in-own.result 0 c.if-own-ne0.false) in (
-      (rw (c.first_of-why-2.ensures, c.refuse-no_block.ensures, c.alloc-block.ensures.0, c.refuse-no_slot.ensures, c.slots.ensures.0, c.place-place.ensures.0) (sym (new_block a.g a.held.now a.e.now a.slot a.n q))),
-      (refl, (rw (q, ← c.place-place.ensures.0) c.alloc-block.ensures.0, sym q)),
-    )
+    let q : eqb (record_block a.g a.e.now a.n) 0 ≡ true = rw (← b) (eq-eqb c.block_in-own.result 0 c.if-own-ne0.false) in record { why_value = (rw (c.first_of-why-2.ensures, c.refuse-no_block.ensures, c.alloc-block.ensures.0, c.refuse-no_slot.ensures, c.slots.ensures.0, c.place-place.ensures.0) (sym (new_block a.g a.held.now a.e.now a.slot a.n q))); slot_value = refl; block_value = rw (q, ← c.place-place.ensures.0) c.alloc-block.ensures.0; fresh_value = sym q }

@@ -16,7 +16,7 @@ returns-then-not-is_none c =
     }
 
 pub change_most-requires : goal.change_most-requires
-change_most-requires c = let p = c.requires.volume_and in ((p.0, p.1.0), ((p.1.1, p.1.1), c.find-first.ensures.0))
+change_most-requires c = let p = c.requires.volume_and in record { volume = (p.0, p.1.0); name = (p.1.1, p.1.1); first_value = c.find-first.ensures.0 }
 
 pub returns : goal.returns
 returns c =
@@ -25,6 +25,6 @@ returns c =
     record {
       value = c.first_of-why.ensures ∙ ap (first c.args.before) c.delete_why.ensures;
       held_after = rw n c.free_matches.ensures;
-      volume_after = rw n o.ensures.0;
-      left_after = rw n o.ensures.1;
+      volume_after = rw n o.ensures.volume_after;
+      left_after = rw n o.ensures.left_after;
     }

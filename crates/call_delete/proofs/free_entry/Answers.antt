@@ -15,7 +15,7 @@ pub loop-p-preserved : goal.loop-p-preserved
 loop-p-preserved c =
     let l = c.loop-p in
     let r = c.free_place in
-    (search rules, (r.auto.1.1.0 ∙ l.invariant.1.0, folded_next l.invariant.1.1 (search rules) r.ensures))
+    (search rules, (r.auto.held ∙ l.invariant.1.0, folded_next l.invariant.1.1 (search rules) r.ensures))
 
 pub returns : goal.returns
 unfolding free_entry

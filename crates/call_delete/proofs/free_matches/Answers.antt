@@ -34,7 +34,7 @@ loop-i-preserved c =
     let r = c.free_slot in
     let f = folded_next l.invariant.1.1 (search rules) r.ensures in (
       c.match_from-i.ensures.1,
-      (r.auto.1.1.1.1.0 ∙ l.invariant.1.0, rw c.match_from-i.ensures.0 (folded_to_next a.g a.volume.now a.user (strip a.pattern.now) Match f (search rules) (λ i h. rw h))),
+      (r.auto.held ∙ l.invariant.1.0, rw c.match_from-i.ensures.0 (folded_to_next a.g a.volume.now a.user (strip a.pattern.now) Match f (search rules) (λ i h. rw h))),
     )
 
 pub returns : goal.returns

@@ -1,4 +1,6 @@
 -- The slot's blocks are freed where its entry matches.
+use mathlib.Core.Bool.{not}
+use mathlib.Core.Path.{ap}
 use borrow.Author.Tests.{not-true, not-false}
 use borrow.Author.Rules.{rules}
 use Rattle.disk_volume.proofs.EntryLaws.{lent_slot}
@@ -10,11 +12,11 @@ unfolding free_slot
 returns-then-not-has c =
     let a = c.args in
     let at = c.slot_start-at in
-    rw (← lent_slot a.g a.volume.now a.i at.result at.ensures.0, ← c.has.ensures, not-true c.has.result c.if-not-has.true)
+    rw (← lent_slot a.g a.volume.now a.i at.result at.ensures.0, ← c.has.ensures, not-true c.has.result (ap not c.if-not-has.true))
 
 pub returns : goal.returns
 unfolding free_slot
 returns c =
     let a = c.args in
     let at = c.slot_start-at in
-    rw (← lent_slot a.g a.volume.now a.i at.result at.ensures.0, ← c.has.ensures, not-false c.has.result c.if-not-has.false) c.free_entry.ensures
+    rw (← lent_slot a.g a.volume.now a.i at.result at.ensures.0, ← c.has.ensures, not-false c.has.result (ap not c.if-not-has.false)) c.free_entry.ensures

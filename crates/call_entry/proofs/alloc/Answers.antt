@@ -11,6 +11,7 @@ use Rattle.call_entry.proofs.AllocLaws.{lowest}
 use Rattle.call_entry.proofs.TogetherLaws.{given_above, none_above, outside_above}
 use Rattle.disk_geometry.proofs.InsideLaws.{inside_is}
 use Rattle.call_entry.proofs.alloc.Goals as goal
+use Rattle.call_entry.proofs.alloc.Goals.{then-is_inside+else-above-g, else-is_inside}
 
 pub overflow_add-near : goal.overflow_add-near
 overflow_add-near c =
@@ -36,10 +37,11 @@ lowest_free-requires c = omega (arith, bounds _ c.requires.g_value.0)
 pub returns : goal.returns
 returns c =
     let else_lowest : (let a = c.args in alloc a.g a.held.now a.e.now a.p ≡ lowest a.g a.held.now) = (let a = c.args in
-      let b = c.nearest_below-near in
-      let r = c.is_inside.ensures in
-      ⊎_elim
-      (λ w. none_above a.g a.held.now a.e.now a.p b.result b.ensures (sym r ∙ w.0.taken) w.1.result w.1.ensures.0 w.3.left)
-      (λ w. outside_above a.g a.held.now a.e.now a.p b.result b.ensures (sym r ∙ w.left))
-      c.if-is_inside.branch) in
+    let b = c.nearest_below-near in
+    let r = c.is_inside.ensures in
+    elim c.if-is_inside.branch [
+      | then-is_inside+else-above-g w ↦
+          none_above a.g a.held.now a.e.now a.p b.result b.ensures (sym r ∙ w.if-is_inside.true) w.lowest_free-above.result w.lowest_free-above.ensures.0 w.if-above-g.false
+      | else-is_inside w ↦ outside_above a.g a.held.now a.e.now a.p b.result b.ensures (sym r ∙ w.if-is_inside.false)
+    ]) in
     (c.lowest_free.ensures.0 ∙ sym else_lowest, c.lowest_free.ensures.1)

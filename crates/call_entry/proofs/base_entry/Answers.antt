@@ -18,7 +18,7 @@ returns-then-slots-own c =
     let a = c.args in
     let at = c.slot_start-at in
     let h = c.copy.ensures ∙ lent_slot a.g a.volume.now a.from at.result at.ensures.0 in
-    like_laid c.copy.new.0 (slot_at a.g a.volume.now a.from) c.fill.new.0 (slot_length a.g c.requires.volume.0 a.volume.now c.requires.volume.1 a.from c.requires.from_bound.0) h c.fill.ensures ∙ rw (le-ltb a.own (slots a.g) (omega (arith, c.slots.ensures.0)))
+    like_laid c.copy.new.dst (slot_at a.g a.volume.now a.from) c.fill.new.dst (slot_length a.g c.requires.volume.0 a.volume.now c.requires.volume.1 a.from c.requires.from_bound.0) h c.fill.ensures ∙ rw (le-ltb a.own (slots a.g) (omega (arith, c.slots.ensures.0)))
 
 pub returns-else-slots-own : goal.returns-else-slots-own
 unfolding base_of

@@ -16,30 +16,24 @@ put_slot-requires c =
 pub returns-then-is_none : goal.returns-then-is_none
 unfolding name_at part
 returns-then-is_none c =
-    let named : c.lay_name.new.0 ≡ name_of c.args.fcb.now = c.lay_name.ensures in
-    let once : strip c.lay_name.new.0 ≡ name_of c.args.fcb.now = ap strip named ∙ (unfold name_at in strip_strip (part c.args.fcb.now 1 11)) in
+    let named : c.lay_name.new.dst ≡ name_of c.args.fcb.now = c.lay_name.ensures in
+    let once : strip c.lay_name.new.dst ≡ name_of c.args.fcb.now = ap strip named ∙ (unfold name_at in strip_strip (part c.args.fcb.now 1 11)) in
     let w = c.make_why-plan in
     let t = sym c.is_none.ensures ∙ c.if-is_none.true in
     let n = once in
-    let o = c.put_slot in (
-      rw n at w.ensures.0,
-      (
-        rw n at w.ensures.1.0,
-        (rw (t, ← n, ← c.fresh_entry-e.ensures) o.ensures.0, (rw (t, ← named) c.set_made.ensures, rw t o.ensures.1)),
-      ),
-    )
+    let o = c.put_slot in record { why_value = rw n at w.ensures.why_value; slot_value = rw n at w.ensures.slot_value; volume_after = rw (t, ← n, ← c.fresh_entry-e.ensures) o.ensures.volume_after; fcb_after = rw (t, ← named) c.set_made.ensures; left_after = rw t o.ensures.left_after }
 
 pub returns-else-is_none : goal.returns-else-is_none
 unfolding name_at part
 returns-else-is_none c =
-    let named : c.lay_name.new.0 ≡ name_of c.args.fcb.now = c.lay_name.ensures in
-    let once : strip c.lay_name.new.0 ≡ name_of c.args.fcb.now = ap strip named ∙ (unfold name_at in strip_strip (part c.args.fcb.now 1 11)) in
+    let named : c.lay_name.new.dst ≡ name_of c.args.fcb.now = c.lay_name.ensures in
+    let once : strip c.lay_name.new.dst ≡ name_of c.args.fcb.now = ap strip named ∙ (unfold name_at in strip_strip (part c.args.fcb.now 1 11)) in
     let w = c.make_why-plan in
     let t = sym c.is_none.ensures ∙ c.if-is_none.false in
     let n = once in
     record {
-      why_value = rw n at w.ensures.0;
-      slot_value = rw n at w.ensures.1.0;
+      why_value = rw n at w.ensures.why_value;
+      slot_value = rw n at w.ensures.slot_value;
       volume_after = rw t;
       fcb_after = rw t;
       left_after = rw t;

@@ -17,9 +17,9 @@ pub returns : goal.returns
 unfolding make_tests
 returns c =
     let why : (let a = c.args in c.first_of.result ≡ first_met (make_tests a.g a.volume.now a.user (strip a.name.now))) = (let a = c.args in
-      let v = a.volume.now in
-      let n = strip a.name.now in
-      rw (← ladder_two Exists NoRoom (ltb (find_slot a.g v a.user n File) (slots a.g)) (leb (slots a.g) (find_slot a.g v a.user n Empty)) refl, ← c.find-taken.ensures.0, ← c.find_empty-slot.ensures.0, ← c.slots-slots.ensures.0, ← c.refuse-exists.ensures, ← c.refuse-no_room.ensures) c.first_of.ensures) in
+    let v = a.volume.now in
+    let n = strip a.name.now in
+    rw (← ladder_two Exists NoRoom (ltb (find_slot a.g v a.user n File) (slots a.g)) (leb (slots a.g) (find_slot a.g v a.user n Empty)) refl, ← c.find-taken.ensures.0, ← c.find_empty-slot.ensures.0, ← c.slots-slots.ensures.0, ← c.refuse-exists.ensures, ← c.refuse-no_room.ensures) c.first_of.ensures) in
     let a = c.args in
     let e = c.first_of-why.ensures ∙ ap (first a.before) why in
     record {

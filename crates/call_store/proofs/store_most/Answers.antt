@@ -10,7 +10,7 @@ use Rattle.call_store.proofs.store_most.Goals as goal
 pub put_slot-requires : goal.put_slot-requires
 put_slot-requires c =
     record {
-      volume = (c.requires.volume.0, c.put_filled.auto.1.1.0 ∙ c.requires.volume.1);
+      volume = (c.requires.volume.0, c.put_filled.auto.volume ∙ c.requires.volume.1);
       i_bound = (c.requires.slot_bound.0, c.requires.fact.1);
     }
 
@@ -19,7 +19,4 @@ returns c =
     let a = c.args in
     let d = c.put_filled in
     let o = c.put_slot in
-    let records = record_stores a.g a.fills a.block a.n a.buffer.now in (
-      o.ensures.0 ∙ rw (d.ensures.0, d.ensures.1) (then_entry a.g a.volume.now records a.left.now a.slot a.e.now),
-      o.ensures.1 ∙ ap (λ (x : ℕ). x - 1) d.ensures.1 ∙ then_length a.g (laid a.g a.volume.now records) records a.left.now a.slot a.e.now,
-    )
+    let records = record_stores a.g a.fills a.block a.n a.buffer.now in record { volume_after = o.ensures.volume_after ∙ rw (d.ensures.volume_after, d.ensures.left_after) (then_entry a.g a.volume.now records a.left.now a.slot a.e.now); left_after = o.ensures.left_after ∙ ap (λ (x : ℕ). x - 1) d.ensures.left_after ∙ then_length a.g (laid a.g a.volume.now records) records a.left.now a.slot a.e.now }

@@ -65,5 +65,7 @@ loop-i-preserved c =
 pub returns : goal.returns
 returns c =
     let a = c.args in
+    let o =
     swept_end a.g c.requires.volume.0 a.user (strip a.name.now) (meant a.edit) (edited a.edit a.new.now) (edited_length a.edit a.new.now c.requires.name.1)
-    c.loop-i.invariant.1.1 (omega arith) c.loop-i.invariant.0
+    c.loop-i.invariant.1.1 (omega arith) c.loop-i.invariant.0 in
+    record { volume_after = o.0; left_after = o.1 }

@@ -1,11 +1,12 @@
-use Rattle.desk_contents.proofs.ContentsLaws.{every_zero}
-use Rattle.desk_contents.specs.Contents.{differs, others}
-use Rattle.lists.proofs.BoundedLaws.{Passed, passed_start, passed_next, passed_fails, passed_all}
-use borrow.Author.Tests.{not-true, not-false}
+use Rattle.desk_contents.specs.Contents.{differs}
+use Rattle.lists.proofs.BoundedLaws.{Passed}
 use Prim.Native.Nat.{◌≤◌, ◌-◌}
-use mathlib.Core.Path.{sym, ◌∙◌}
-use borrow.Author.Rules.{rules}
 use Rattle.desk_contents.proofs.are_others.Given as goal
+
+-- Each place passed so far is used and for another chapter, so what is still to be asked gives the whole.
+
+abbrev pub invariant-loop-j : goal.invariant-loop-j
+invariant-loop-j l = (l.j ≤ l.i) × Passed (differs l.s l.chapter) 0 l.i l.j
 
 abbrev pub decreases-loop-j : goal.decreases-loop-j
 decreases-loop-j l = l.i - l.j

@@ -1,10 +1,4 @@
-use borrow.Author.Rules.{rules}
 use Rattle.desk_contents.proofs.is_clear.Goals as goal
-
--- The four numbers of the place, one by one.
-
-mul_at : tie.Need-overflow-mul-at
-mul_at c = search rules
 
 pub returns : goal.returns
 returns c = rw (c.two_at-4.ensures.0, c.two_at-3.ensures.0, c.two_at-2.ensures.0, c.two_at.ensures.0)

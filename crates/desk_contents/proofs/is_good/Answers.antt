@@ -2,13 +2,7 @@ use Rattle.desk_contents.specs.Contents.{chapter_at, used_place}
 use Rattle.desk_contents.proofs.ContentsLaws.{good_used, good_clear}
 use borrow.Author.Tests.{eq-eqb, ne_eqb}
 use mathlib.Core.Path.{sym, ◌∙◌}
-use borrow.Author.Rules.{rules}
 use Rattle.desk_contents.proofs.is_good.Goals as goal
-
--- A place without a chapter is clear; another is a used one.
-
-mul_at : tie.Need-overflow-mul-at
-mul_at c = search rules
 
 pub returns-then-chapter-eq0 : goal.returns-then-chapter-eq0
 returns-then-chapter-eq0 c = c.is_clear.ensures ∙ sym (good_clear _ _ (eq-eqb _ _ (sym c.two_at-chapter.ensures.0 ∙ c.if-chapter-eq0.true)))

@@ -1,14 +1,7 @@
 use Rattle.desk_contents.proofs.ContentsLaws.{total_start, total_next}
-use Rattle.desk_contents.specs.Contents.{total}
-use Prim.Native.Nat.{◌≤◌, ◌-◌, ◌*◌}
 use mathlib.Core.Path.{◌≡◌, ◌∙◌}
 use borrow.Author.Rules.{rules}
 use Rattle.desk_contents.proofs.listed.Goals as goal
-
--- The records that the places passed so far list.
-
-abbrev invariant-loop : tie.invariant-loop
-invariant-loop s sum₀ i₀ sum i = (i ≤ 16) × ((sum ≡ total s i) × (sum ≤ 65536 * i))
 
 pub loop-i-init : goal.loop-i-init
 loop-i-init c = (search rules, (total_start _, search rules))

@@ -1,14 +1,8 @@
-use Rattle.desk_contents.specs.Contents.{has_chapter, chapter_place}
-use Rattle.lists.proofs.BoundedLaws.{Searched, searched_start, searched_next, searched_hit, searched_none}
-use Prim.Native.Nat.{◌≤◌, ◌-◌}
+use Rattle.desk_contents.specs.Contents.{chapter_place}
+use Rattle.lists.proofs.BoundedLaws.{searched_start, searched_next, searched_hit, searched_none}
 use mathlib.Core.Path.{sym, ◌∙◌}
 use borrow.Author.Rules.{rules}
 use Rattle.desk_contents.proofs.place_of.Goals as goal
-
--- No place passed so far has the chapter, so what is still to be searched gives the whole.
-
-abbrev invariant-loop : tie.invariant-loop
-invariant-loop s chapter i₀ i = (i ≤ 16) × Searched (has_chapter s chapter) 0 16 i
 
 pub loop-i-init : goal.loop-i-init
 loop-i-init c = (search rules, searched_start)

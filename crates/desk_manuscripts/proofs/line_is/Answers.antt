@@ -1,5 +1,4 @@
 -- The two bytes of siglum as a number.
-use borrow.Author.Rules.{rules}
 use Rattle.desk_manuscripts.proofs.line_is.Goals as goal
 
 pub returns : goal.returns

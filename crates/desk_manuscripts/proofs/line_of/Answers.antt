@@ -1,9 +1,7 @@
 -- No line passed so far has the siglum, so what is still to be searched gives the whole.
-use Rattle.desk_manuscripts.specs.Manuscript.{line_is, line_of}
-use Rattle.lists.proofs.BoundedLaws.{Searched, searched_start, searched_next, searched_hit, searched_none, from_zero}
-use lib.ListN.{length}
-use Prim.Native.Nat.{◌≤◌, ◌-◌, ◌/◌}
-use mathlib.Core.Path.{◌≡◌, refl, sym, ◌∙◌}
+use Rattle.desk_manuscripts.specs.Manuscript.{line_of}
+use Rattle.lists.proofs.BoundedLaws.{searched_start, searched_next, searched_hit, searched_none, from_zero}
+use mathlib.Core.Path.{refl, sym, ◌∙◌}
 use borrow.Author.Rules.{rules}
 use Rattle.desk_manuscripts.proofs.line_of.Goals as goal
 

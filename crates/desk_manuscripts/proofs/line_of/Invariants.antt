@@ -1,10 +1,9 @@
 -- No line passed so far has the siglum, so what is still to be searched gives the whole.
-use Rattle.desk_manuscripts.specs.Manuscript.{line_is, line_of}
-use Rattle.lists.proofs.BoundedLaws.{Searched, searched_start, searched_next, searched_hit, searched_none, from_zero}
+use Rattle.desk_manuscripts.specs.Manuscript.{line_is}
+use Rattle.lists.proofs.BoundedLaws.{Searched}
 use lib.ListN.{length}
 use Prim.Native.Nat.{◌≤◌, ◌-◌, ◌/◌}
-use mathlib.Core.Path.{◌≡◌, refl, sym, ◌∙◌}
-use borrow.Author.Rules.{rules}
+use mathlib.Core.Path.{◌≡◌}
 use Rattle.desk_manuscripts.proofs.line_of.Given as goal
 
 abbrev pub invariant-loop-i : goal.invariant-loop-i

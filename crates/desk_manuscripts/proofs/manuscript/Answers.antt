@@ -1,7 +1,6 @@
 -- The line that was found lies in its list; else the part is empty.
 use Rattle.lists.specs.Bytes.{part}
 use mathlib.Core.Path.{sym, ◌∙◌}
-use borrow.Author.Rules.{rules}
 use Rattle.desk_manuscripts.proofs.manuscript.Goals as goal
 
 pub name_in-requires : goal.name_in-requires

@@ -3,7 +3,6 @@ use Rattle.lists.specs.Bytes.{part}
 use mathlib.Core.Path.{◌≡◌}
 use Prim.Native.Nat.{◌+◌, ◌-◌, ◌*◌}
 use native.Mathlib.Omega.{arith}
-use borrow.Author.Rules.{rules}
 use Rattle.desk_manuscripts.proofs.name_in.Goals as goal
 
 pub returns : goal.returns

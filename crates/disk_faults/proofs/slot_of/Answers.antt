@@ -11,11 +11,8 @@ use mathlib.Core.Bool.{Bool}
 use Rattle.lists.specs.Bounded.{low_from}
 use mathlib.Core.Path.{◌≡◌, sym, ◌∙◌}
 use borrow.Author.Rules.{rules}
+use Rattle.disk_faults.proofs.slot_of.Invariants.{names_at}
 use Rattle.disk_faults.proofs.slot_of.Goals as goal
-
--- the test of slot j
-abbrev names_at : Geometry → List ℕ → ℕ → ℕ → Bool
-names_at g volume b j = names_block g (slot_at g volume j) b
 
 pub loop-j-init : goal.loop-j-init
 loop-j-init c = (search rules, searched_start)
@@ -24,14 +21,14 @@ pub returns-then-names_block : goal.returns-then-names_block
 unfolding slot_of
 returns-then-names_block c =
     let seen : (let a = c.args in c.names_block.result ≡ names_at a.g a.volume.now a.b c.loop-j.j) = (let a = c.args in
-      rw (← lent_slot a.g a.volume.now c.loop-j.j c.slot_start-at.result c.slot_start-at.ensures.0) c.names_block.ensures) in
+    rw (← lent_slot a.g a.volume.now c.loop-j.j c.slot_start-at.result c.slot_start-at.ensures.0) c.names_block.ensures) in
     let whole : (let a = c.args in slot_of a.g a.volume.now a.i a.b ≡ low_from (names_at a.g a.volume.now a.b) 0 (a.i - 0)) = (let a = c.args in sym (from_zero (names_at a.g a.volume.now a.b) a.i)) in
     sym (whole ∙ searched_hit c.loop-j.invariant.1 (search rules) (sym seen ∙ c.if-names_block.true))
 
 pub loop-j-preserved : goal.loop-j-preserved
 loop-j-preserved c =
     let seen : (let a = c.args in c.names_block.result ≡ names_at a.g a.volume.now a.b c.loop-j.j) = (let a = c.args in
-      rw (← lent_slot a.g a.volume.now c.loop-j.j c.slot_start-at.result c.slot_start-at.ensures.0) c.names_block.ensures) in
+    rw (← lent_slot a.g a.volume.now c.loop-j.j c.slot_start-at.result c.slot_start-at.ensures.0) c.names_block.ensures) in
     (search rules, searched_next c.loop-j.invariant.1 (search rules) (sym seen ∙ c.if-names_block.false))
 
 pub returns : goal.returns

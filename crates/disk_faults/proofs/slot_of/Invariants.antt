@@ -13,6 +13,10 @@ use mathlib.Core.Path.{◌≡◌, sym, ◌∙◌}
 use borrow.Author.Rules.{rules}
 use Rattle.disk_faults.proofs.slot_of.Given as goal
 
+-- the test of slot j
+abbrev pub names_at : Geometry → List ℕ → ℕ → ℕ → Bool
+names_at g volume b j = names_block g (slot_at g volume j) b
+
 abbrev pub invariant-loop-j : goal.invariant-loop-j
 invariant-loop-j l = (l.j ≤ l.i) × Searched (names_at l.g l.volume l.b) 0 l.i l.j
 

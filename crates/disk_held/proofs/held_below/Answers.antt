@@ -9,14 +9,8 @@ use lib.ListN.{get_or}
 use Rattle.lists.specs.Bounded.{count_from}
 use Rattle.disk_held.specs.Held.{holds}
 use Rattle.disk_held.proofs.CountLaws.{held_word}
+use Rattle.disk_held.proofs.held_below.Invariants.{more}
 use Rattle.disk_held.proofs.held_below.Goals as goal
-
--- k blocks of word i more
-more : (held : List ℕ) (i k sum r : ℕ) → k ≤ 64 → sum ≡ count_from (holds held) 0 (64 * i) → r ≡ ones (get_or held i 0 % 2 ^ min k 64)
-    → sum + r ≡ count_from (holds held) 0 (64 * i + k)
-more held i k sum r h s e =
-    let z : min k 64 ≡ k = omega arith in
-    ap₂ (λ (x y : ℕ). x + y) s (e ∙ ap (λ (x : ℕ). ones (get_or held i 0 % 2 ^ x)) z) ∙ sym (held_word held i k h)
 
 pub loop-i-init : goal.loop-i-init
 unfolding count_from

@@ -17,23 +17,14 @@ use Rattle.disk_maps.specs.CodeHeldBelow.{held_below}
 use Rattle.disk_marks.specs.CodeMarks.{all_marked}
 use Rattle.disk_maps.proofs.HeldLaws.{no_slots, all_slots}
 use Rattle.disk_marks.proofs.MarkLaws.{none_marked}
+use Rattle.disk_inspection.proofs.look.Invariants.{SoFar, bad}
 use Rattle.disk_inspection.proofs.look.Goals as goal
-
-abbrev bad : Geometry → List ℕ → ℕ → Bool
-bad g volume j = not (good_slot g volume j)
-
-record SoFar (g : Geometry) (volume held marks : List ℕ) (i : ℕ) : Type 0 where
-  low : i ≤ slots g
-  good : Searched (bad g volume) 0 (slots g) i
-  blocks : held ≡ words_of (held_below g volume i)
-  long : length marks ≡ 1024
-  seen : all_marked g volume marks i ≡ true
 
 pub loop-i-init : goal.loop-i-init
 loop-i-init c = record { low = search rules; good = searched_start; blocks = c.requires.held_value ∙ no_slots _ _; long = search rules; seen = none_marked _ _ _ }
 
 pub take_slot-requires : goal.take_slot-requires
-take_slot-requires c = let s = c.loop-i.invariant in (search rules, ((search rules, s.blocks), (s.long, s.seen)))
+take_slot-requires c = let s = c.loop-i.invariant in record { volume = search rules; i_bound = (search rules, s.blocks); marked = (s.long, s.seen) }
 
 pub shape_of-held-then-not-take_slot : goal.shape_of-held-then-not-take_slot
 shape_of-held-then-not-take_slot c =
@@ -47,7 +38,7 @@ returns-then-not-take_slot c =
     let a = c.args in
     let l = c.loop-i in
     let s = c.take_slot in
-    let e = sym (searched_hit l.invariant.good (search rules) (ap not (sym s.ensures.0) ∙ c.if-not-take_slot.true)) ∙ from_zero (bad a.g a.volume.now) (slots a.g) in
+    let e = sym (searched_hit l.invariant.good (search rules) (ap not (sym s.ensures.value) ∙ (ap not c.if-not-take_slot.true))) ∙ from_zero (bad a.g a.volume.now) (slots a.g) in
     record {
       value = (e, search rules);
       held_after = λ h. absurd (omega arith);
@@ -57,13 +48,13 @@ pub loop-i-preserved : goal.loop-i-preserved
 loop-i-preserved c =
     let l = c.loop-i in
     let s = c.take_slot in
-    let good = not-false s.result c.if-not-take_slot.false in
+    let good = not-false s.result (ap not c.if-not-take_slot.false) in
     record {
       low = search rules;
-      good = searched_next l.invariant.good (search rules) (ap not (sym s.ensures.0 ∙ good));
-      blocks = s.ensures.1.0 good;
+      good = searched_next l.invariant.good (search rules) (ap not (sym s.ensures.value ∙ good));
+      blocks = s.ensures.held_after good;
       long = search rules;
-      seen = s.ensures.1.1 good;
+      seen = s.ensures.i_after good;
     }
 
 pub shape_of-held : goal.shape_of-held

@@ -19,6 +19,16 @@ use Rattle.disk_maps.proofs.HeldLaws.{no_slots, all_slots}
 use Rattle.disk_marks.proofs.MarkLaws.{none_marked}
 use Rattle.disk_inspection.proofs.look.Given as goal
 
+abbrev pub bad : Geometry → List ℕ → ℕ → Bool
+bad g volume j = not (good_slot g volume j)
+
+pub record SoFar (g : Geometry) (volume held marks : List ℕ) (i : ℕ) : Type 0 where
+  pub low : i ≤ slots g
+  pub good : Searched (bad g volume) 0 (slots g) i
+  pub blocks : held ≡ words_of (held_below g volume i)
+  pub long : length marks ≡ 1024
+  pub seen : all_marked g volume marks i ≡ true
+
 abbrev pub invariant-loop-i : goal.invariant-loop-i
 invariant-loop-i l = SoFar l.g l.volume l.held l.marks l.i
 

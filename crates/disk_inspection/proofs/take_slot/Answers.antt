@@ -17,24 +17,18 @@ pub returns-then-volume-at : goal.returns-then-volume-at
 returns-then-volume-at c =
     let a = c.args in
     let at = c.slot_start-at in
-    let e = slot_empty a.g a.volume.now a.i at.result at.ensures.0 c.if-volume-at.true in (
-      sym (empty_good a.g a.volume.now a.i e),
-      (
-        λ h. c.requires.i_bound.1 ∙ empty_slot a.g a.volume.now a.i e,
-        λ h. still_marked a.g a.volume.now a.marks.now a.i c.requires.marked.1 (rw e),
-      ),
-    )
+    let e = slot_empty a.g a.volume.now a.i at.result at.ensures.0 c.if-volume-at.true in record { value = sym (empty_good a.g a.volume.now a.i e); held_after = λ h. c.requires.i_bound.1 ∙ empty_slot a.g a.volume.now a.i e; i_after = λ h. still_marked a.g a.volume.now a.marks.now a.i c.requires.marked.1 (rw e) }
 
 pub returns-then-not-good_entry : goal.returns-then-not-good_entry
 returns-then-not-good_entry c =
     let used : (let a = c.args in is_empty (slot_at a.g a.volume.now a.i) ≡ false) = (let a = c.args in
-      let at = c.slot_start-at in
-      slot_used a.g a.volume.now a.i at.result at.ensures.0 c.if-volume-at.false) in
+    let at = c.slot_start-at in
+    slot_used a.g a.volume.now a.i at.result at.ensures.0 c.if-volume-at.false) in
     let entry : (let a = c.args in let e = slot_at a.g a.volume.now a.i in c.good_entry.result ≡ good_fields e && good_name false (name_of e) && good_top_bits e) = (let a = c.args in
-      let at = c.slot_start-at in
-      rw (← lent_slot a.g a.volume.now a.i at.result at.ensures.0) c.good_entry.ensures) in
+    let at = c.slot_start-at in
+    rw (← lent_slot a.g a.volume.now a.i at.result at.ensures.0) c.good_entry.ensures) in
     let a = c.args in
-    let bad = sym entry ∙ not-true c.good_entry.result c.if-not-good_entry.true in
+    let bad = sym entry ∙ not-true c.good_entry.result (ap not c.if-not-good_entry.true) in
     record {
       value = sym (entry_bad a.g a.volume.now a.i used bad);
       held_after = λ h. absurd (false≢true h);
@@ -44,11 +38,11 @@ returns-then-not-good_entry c =
 pub returns-then-not-take_map : goal.returns-then-not-take_map
 returns-then-not-take_map c =
     let used : (let a = c.args in is_empty (slot_at a.g a.volume.now a.i) ≡ false) = (let a = c.args in
-      let at = c.slot_start-at in
-      slot_used a.g a.volume.now a.i at.result at.ensures.0 c.if-volume-at.false) in
+    let at = c.slot_start-at in
+    slot_used a.g a.volume.now a.i at.result at.ensures.0 c.if-volume-at.false) in
     let a = c.args in
     let m = c.take_map in
-    let bad = sym m.ensures.0 ∙ not-true m.result c.if-not-take_map.true in
+    let bad = sym m.ensures.value ∙ not-true m.result (ap not c.if-not-take_map.true) in
     record {
       value = sym (map_bad a.g a.volume.now a.i used bad);
       held_after = λ h. absurd (false≢true h);
@@ -58,8 +52,8 @@ returns-then-not-take_map c =
 pub is_seen-requires : goal.is_seen-requires
 is_seen-requires c =
     let used : (let a = c.args in is_empty (slot_at a.g a.volume.now a.i) ≡ false) = (let a = c.args in
-      let at = c.slot_start-at in
-      slot_used a.g a.volume.now a.i at.result at.ensures.0 c.if-volume-at.false) in
+    let at = c.slot_start-at in
+    slot_used a.g a.volume.now a.i at.result at.ensures.0 c.if-volume-at.false) in
     let a = c.args in
     let at = c.slot_start-at in
     let e = lent_slot a.g a.volume.now a.i at.result at.ensures.0 in
@@ -72,17 +66,14 @@ is_seen-requires c =
 pub returns : goal.returns
 returns c =
     let used : (let a = c.args in is_empty (slot_at a.g a.volume.now a.i) ≡ false) = (let a = c.args in
-      let at = c.slot_start-at in
-      slot_used a.g a.volume.now a.i at.result at.ensures.0 c.if-volume-at.false) in
+    let at = c.slot_start-at in
+    slot_used a.g a.volume.now a.i at.result at.ensures.0 c.if-volume-at.false) in
     let entry : (let a = c.args in let e = slot_at a.g a.volume.now a.i in c.good_entry.result ≡ good_fields e && good_name false (name_of e) && good_top_bits e) = (let a = c.args in
-      let at = c.slot_start-at in
-      rw (← lent_slot a.g a.volume.now a.i at.result at.ensures.0) c.good_entry.ensures) in
+    let at = c.slot_start-at in
+    rw (← lent_slot a.g a.volume.now a.i at.result at.ensures.0) c.good_entry.ensures) in
     let a = c.args in
     let full = used in
     let t = c.take_map in
-    let m = not-false t.result c.if-not-take_map.false in
-    let e = sym entry ∙ not-false c.good_entry.result c.if-not-good_entry.false in
-    let good = seen_decides a.g a.volume.now a.i full e (sym t.ensures.0 ∙ m) in (
-      ap not c.is_seen.ensures.value ∙ sym good,
-      (λ h. t.ensures.1 m ∙ full_slot a.g a.volume.now a.i full, λ h. c.is_seen.ensures.i_after),
-    )
+    let m = not-false t.result (ap not c.if-not-take_map.false) in
+    let e = sym entry ∙ not-false c.good_entry.result (ap not c.if-not-good_entry.false) in
+    let good = seen_decides a.g a.volume.now a.i full e (sym t.ensures.value ∙ m) in record { value = ap not c.is_seen.ensures.value ∙ sym good; held_after = λ h. t.ensures.held_after m ∙ full_slot a.g a.volume.now a.i full; i_after = λ h. c.is_seen.ensures.i_after }

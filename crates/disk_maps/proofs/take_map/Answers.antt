@@ -20,6 +20,7 @@ use Rattle.disk_rules.specs.GoodSlot.{good_place}
 use Rattle.disk_maps.specs.CodeHeldBelow.{held_below, held_up_to}
 use Rattle.disk_maps.proofs.HeldLaws.{no_places, zero_place, zero_good, block_place, place_test}
 use Rattle.disk_maps.proofs.take_map.Goals as goal
+use Rattle.disk_maps.proofs.take_map.Goals.{then-b-ne0+else-not-take_block, else-b-ne0}
 
 -- words of a set are as many as a state has
 all_words : (held : List ℕ) (p : ℕ → Bool) → held ≡ words_of p → length held ≡ held_words
@@ -63,17 +64,20 @@ loop-p-preserved c =
     let l = c.loop-p in
     let b = c.block_in-b.result in
     let e = block in
-    ⊎_elim
-    (λ w.
-    let taken = not-false w.2.result w.5.left in
-    let good = place_test a.g a.volume.now a.i l.p law b e w.0.taken l.held l.invariant.1.0 ∙ sym w.2.ensures.0 ∙ taken in
-    let in_g = and_left _ _ (sym w.2.ensures.0 ∙ taken) in
-    let next = ap (λ (t : Bool). cond t (hold l.held b) l.held) taken ∙ ap (λ (h : List ℕ). hold h b) l.invariant.1.0 in
-    (search rules, (w.6 ∙ w.2.ensures.1 ∙ next ∙ block_place a.g a.volume.now a.i l.p law b e in_g, passed_next l.invariant.1.1 (search rules) good)))
-    (λ w.
-    let z = sym e ∙ w.0.left in
-    (search rules, (w.1 ∙ l.invariant.1.0 ∙ zero_place a.g a.volume.now a.i l.p law z, passed_next l.invariant.1.1 (search rules) (zero_good a.g a.volume.now a.i l.p z))))
-    c.if-b-ne0.branch
+    elim c.if-b-ne0.branch [
+      | then-b-ne0+else-not-take_block w ↦
+          let taken = w.if-not-take_block.false in
+          let good =
+          place_test a.g a.volume.now a.i l.p law b e w.if-b-ne0.true l.held l.invariant.1.0
+          ∙ sym w.take_block.ensures.value
+          ∙ taken in
+          let in_g = and_left _ _ (sym w.take_block.ensures.value ∙ taken) in
+          let next = ap (λ (t : Bool). cond t (hold l.held b) l.held) taken ∙ ap (λ (h : List ℕ). hold h b) l.invariant.1.0 in
+          (search rules, (w.held-is ∙ w.take_block.ensures.held_after ∙ next ∙ block_place a.g a.volume.now a.i l.p law b e in_g, passed_next l.invariant.1.1 (search rules) good))
+      | else-b-ne0 w ↦
+          let z = sym e ∙ w.if-b-ne0.false in
+          (search rules, (w.held-is ∙ l.invariant.1.0 ∙ zero_place a.g a.volume.now a.i l.p law z, passed_next l.invariant.1.1 (search rules) (zero_good a.g a.volume.now a.i l.p z)))
+    ]
 
 pub shape_of-held : goal.shape_of-held
 shape_of-held c = all_words _ _ c.loop-p.invariant.1.0 ∙ sym (all_words _ _ c.requires.i_bound.1)

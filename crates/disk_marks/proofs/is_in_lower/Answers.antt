@@ -10,11 +10,8 @@ use Rattle.disk_volume.specs.Entry.{of_group}
 use Rattle.disk_volume.specs.Directory.{slot_at}
 use Rattle.disk_volume.proofs.EntryLaws.{lent_slot}
 use Rattle.lists.proofs.AnyLaws.{AnySoFar, asked_start, asked_next, asked_hit, asked_none}
+use Rattle.disk_marks.proofs.is_in_lower.Invariants.{group_at}
 use Rattle.disk_marks.proofs.is_in_lower.Goals as goal
-
--- the test of slot j
-abbrev group_at : Geometry → List ℕ → ℕ → List ℕ → ℕ → ℕ → Bool
-group_at g volume user name k j = of_group g user (strip name) k (slot_at g volume j)
 
 pub loop-j-init : goal.loop-j-init
 loop-j-init c = (search rules, asked_start)

@@ -12,6 +12,10 @@ use Rattle.disk_volume.proofs.EntryLaws.{lent_slot}
 use Rattle.lists.proofs.AnyLaws.{AnySoFar, asked_start, asked_next, asked_hit, asked_none}
 use Rattle.disk_marks.proofs.is_in_lower.Given as goal
 
+-- the test of slot j
+abbrev pub group_at : Geometry → List ℕ → ℕ → List ℕ → ℕ → ℕ → Bool
+group_at g volume user name k j = of_group g user (strip name) k (slot_at g volume j)
+
 abbrev pub invariant-loop-j : goal.invariant-loop-j
 invariant-loop-j l = (l.j ≤ l.n) × AnySoFar (group_at l.g l.volume l.user l.name l.k) l.n l.j
 

@@ -8,11 +8,11 @@ use Rattle.drive_bytes.proofs.front.Goals as goal
 
 pub returns-then-not-is_drive : goal.returns-then-not-is_drive
 unfolding decoded
-returns-then-not-is_drive c = rw (← c.is_drive.ensures, not-true c.is_drive.result c.if-not-is_drive.true) (c.front.ensures ∙ ap front_of c.closed.ensures)
+returns-then-not-is_drive c = rw (← c.is_drive.ensures, c.if-not-is_drive.true) (c.front.ensures ∙ ap front_of c.closed.ensures)
 
 pub fields-requires : goal.fields-requires
-fields-requires c = sym c.is_drive.ensures ∙ not-false c.is_drive.result c.if-not-is_drive.false
+fields-requires c = sym c.is_drive.ensures ∙ c.if-not-is_drive.false
 
 pub returns : goal.returns
 unfolding decoded
-returns c = rw (← c.is_drive.ensures, not-false c.is_drive.result c.if-not-is_drive.false) c.fields.ensures
+returns c = rw (← c.is_drive.ensures, c.if-not-is_drive.false) c.fields.ensures

@@ -10,11 +10,11 @@ use Rattle.drive_bytes.proofs.is_drive.Goals as goal
 
 pub returns-then-not-has_length : goal.returns-then-not-has_length
 unfolding is_drive
-returns-then-not-has_length c = rw (← c.has_length.ensures, not-true c.has_length.result c.if-not-has_length.true)
+returns-then-not-has_length c = rw (← c.has_length.ensures, c.if-not-has_length.true)
 
 pub is_laid-requires : goal.is_laid-requires
-is_laid-requires c = let s = c.args.s.now in omega (arith, eqb-true (length s) (drive_bytes (blocks_at s)) (sym c.has_length.ensures ∙ not-false c.has_length.result c.if-not-has_length.false), at_least (blocks_at s))
+is_laid-requires c = let s = c.args.s.now in omega (arith, eqb-true (length s) (drive_bytes (blocks_at s)) (sym c.has_length.ensures ∙ c.if-not-has_length.false), at_least (blocks_at s))
 
 pub returns : goal.returns
 unfolding is_drive
-returns c = rw (← c.has_length.ensures, not-false c.has_length.result c.if-not-has_length.false) c.is_laid.ensures
+returns c = rw (← c.has_length.ensures, c.if-not-has_length.false) c.is_laid.ensures

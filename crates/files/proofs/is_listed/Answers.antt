@@ -3,7 +3,6 @@ use borrow.Author.Tests.{eq-eqb, ne_eqb}
 use Rattle.files.specs.Files.{is_listed}
 use Rattle.disk_volume.specs.Name.{name_at}
 use Rattle.lists.specs.Bytes.{byte, part}
-use borrow.Author.Rules.{rules}
 use Rattle.files.proofs.is_listed.Goals as goal
 
 pub returns-then-user : goal.returns-then-user

@@ -1,9 +1,6 @@
 -- None of the slots passed so far has the mark for the file, so what is still to be asked gives the whole.
-use Rattle.files.specs.Files.{marked_at, is_marked}
-use Rattle.disk_volume.specs.Name.{strip}
-use Rattle.disk_geometry.specs.Geometry.{slots}
-use Rattle.lists.proofs.AnyLaws.{AnySoFar, asked_start, asked_next, asked_hit, asked_none}
-use Prim.Native.Nat.{◌-◌}
+use Rattle.files.specs.Files.{is_marked}
+use Rattle.lists.proofs.AnyLaws.{asked_start, asked_next, asked_hit, asked_none}
 use mathlib.Core.Path.{sym, ◌∙◌}
 use borrow.Author.Rules.{rules}
 use Rattle.files.proofs.is_marked.Goals as goal

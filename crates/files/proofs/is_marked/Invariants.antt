@@ -1,11 +1,9 @@
 -- None of the slots passed so far has the mark for the file, so what is still to be asked gives the whole.
-use Rattle.files.specs.Files.{marked_at, is_marked}
+use Rattle.files.specs.Files.{marked_at}
 use Rattle.disk_volume.specs.Name.{strip}
 use Rattle.disk_geometry.specs.Geometry.{slots}
-use Rattle.lists.proofs.AnyLaws.{AnySoFar, asked_start, asked_next, asked_hit, asked_none}
+use Rattle.lists.proofs.AnyLaws.{AnySoFar}
 use Prim.Native.Nat.{◌-◌}
-use mathlib.Core.Path.{sym, ◌∙◌}
-use borrow.Author.Rules.{rules}
 use Rattle.files.proofs.is_marked.Given as goal
 
 abbrev pub invariant-loop-i : goal.invariant-loop-i

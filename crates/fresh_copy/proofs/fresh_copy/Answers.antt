@@ -4,7 +4,7 @@ use mathlib.Core.Bool.{true}
 use Prim.Native.Nat.{ℕ}
 use lib.ListN.{length}
 use lib.Dec.{eqb}
-use borrow.Author.Tests.{not-true, not-false, eqb-true}
+use borrow.Author.Tests.{eq-eqb, ne_eqb}
 use borrow.Author.Rules.{rules}
 use Rattle.disk_geometry.specs.Geometry.{bytes}
 use Rattle.call_answers.specs.Answer.{succeeded}
@@ -14,41 +14,41 @@ use Rattle.filecalls.proofs.ReadyLaws.{Accepted, accepted}
 use Rattle.fresh_copy.proofs.CopyLaws.{first_refused, second_refused, copy_done}
 use Rattle.fresh_copy.proofs.fresh_copy.Goals as goal
 
--- TODO place After-log_in-reply 
--- what log-in said of the first
-said : (c : goal.After-log_in-reply) → (let a = c.args in c.log_in-reply.result.answer ≡ (log_in a.g a.first.now).answer)
-said c = ap (λ (r : Reply). r.answer) c.log_in-reply.ensures
-
--- TODO place Else-not-succeeded 
-passed : (c : goal.Else-not-succeeded) → succeeded c.log_in-reply.result.answer ≡ true
-passed c = sym c.succeeded.ensures ∙ not-false c.succeeded.result c.if-not-succeeded.false
-
--- TODO place Else-not-succeeded 
-ready : (c : goal.Else-not-succeeded) → (let a = c.args in Accepted a.g a.first.now)
-ready c = accepted _ _ (sym (ap succeeded (said c)) ∙ passed c)
-
 pub returns-then-not-succeeded : goal.returns-then-not-succeeded
-returns-then-not-succeeded c = let a = c.args in first_refused a.g a.first.now a.second.now (said c) (sym c.succeeded.ensures ∙ not-true c.succeeded.result c.if-not-succeeded.true)
+returns-then-not-succeeded c =
+    let said : (let a = c.args in c.log_in-reply.result.answer ≡ (log_in a.g a.first.now).answer) = ap (λ (r : Reply). r.answer) c.log_in-reply.ensures in
+    let a = c.args in first_refused a.g a.first.now a.second.now said (sym c.succeeded.ensures ∙ c.if-not-succeeded.true)
 
 pub bytes-requires : goal.bytes-requires
-bytes-requires c = (ready c).law
+bytes-requires c =
+    let said : (let a = c.args in c.log_in-reply.result.answer ≡ (log_in a.g a.first.now).answer) = ap (λ (r : Reply). r.answer) c.log_in-reply.ensures in
+    let passed : succeeded c.log_in-reply.result.answer ≡ true = sym c.succeeded.ensures ∙ c.if-not-succeeded.false in
+    let ready : (let a = c.args in Accepted a.g a.first.now) = accepted _ _ (sym (ap succeeded said) ∙ passed) in
+    ready.law
 
 pub returns-then-not-whole : goal.returns-then-not-whole
 returns-then-not-whole c =
+    let said : (let a = c.args in c.log_in-reply.result.answer ≡ (log_in a.g a.first.now).answer) = ap (λ (r : Reply). r.answer) c.log_in-reply.ensures in
+    let passed : succeeded c.log_in-reply.result.answer ≡ true = sym c.succeeded.ensures ∙ c.if-not-succeeded.false in
     let a = c.args in
-    second_refused a.g a.first.now a.second.now (said c) (passed c)
-    (ap (λ (n : ℕ). eqb (length a.second.now) n) (sym c.bytes.ensures) ∙ c.if-not-whole.true)
+    second_refused a.g a.first.now a.second.now said passed
+    (ap (λ (n : ℕ). eqb (length a.second.now) n) (sym c.bytes.ensures) ∙ ne_eqb _ _ c.if-not-whole.true)
 
 pub lay_out-requires : goal.lay_out-requires
 lay_out-requires c =
-    let r = ready c in
+    let said : (let a = c.args in c.log_in-reply.result.answer ≡ (log_in a.g a.first.now).answer) = ap (λ (r : Reply). r.answer) c.log_in-reply.ensures in
+    let passed : succeeded c.log_in-reply.result.answer ≡ true = sym c.succeeded.ensures ∙ c.if-not-succeeded.false in
+    let ready : (let a = c.args in Accepted a.g a.first.now) = accepted _ _ (sym (ap succeeded said) ∙ passed) in
+    let r = ready in
     record {
       accepted = (r.law, (r.size, r.good));
-      second_len = eqb-true _ _ c.if-not-whole.false ∙ c.bytes.ensures;
+      second_len = c.if-not-whole.false ∙ c.bytes.ensures;
     }
 
 pub returns : goal.returns
 returns c =
+    let said : (let a = c.args in c.log_in-reply.result.answer ≡ (log_in a.g a.first.now).answer) = ap (λ (r : Reply). r.answer) c.log_in-reply.ensures in
+    let passed : succeeded c.log_in-reply.result.answer ≡ true = sym c.succeeded.ensures ∙ c.if-not-succeeded.false in
     let a = c.args in
-    copy_done a.g a.first.now a.second.now (said c) (passed c)
-    (ap (λ (n : ℕ). eqb (length a.second.now) n) (sym c.bytes.ensures) ∙ c.if-not-whole.false) c.lay_out.ensures
+    copy_done a.g a.first.now a.second.now said passed
+    (ap (λ (n : ℕ). eqb (length a.second.now) n) (sym c.bytes.ensures) ∙ eq-eqb _ _ c.if-not-whole.false) c.lay_out.ensures

@@ -1,14 +1,9 @@
 -- The records passed so far are blank, so what is still to be laid gives the whole.
-use mathlib.Core.Path.{◌≡◌, refl, sym, ◌∙◌}
-use mathlib.Core.List.{List}
-use Prim.Native.Nat.{ℕ, ◌-◌}
+use mathlib.Core.Path.{refl, sym, ◌∙◌}
+use Prim.Native.Nat.{ℕ}
 use native.Mathlib.Omega.{arith}
-use lib.ListN.{replicate, length-replicate}
-use lib.ListN.{length}
-use borrow.Author.Rules.{rules}
-use Rattle.lists.proofs.FoldLaws.{Folded, folded_start, folded_next, folded_end}
-use Rattle.disk_geometry.specs.Geometry.{records}
-use Rattle.disk_volume.specs.Record.{put_record}
+use lib.ListN.{length-replicate}
+use Rattle.lists.proofs.FoldLaws.{folded_start, folded_next, folded_end}
 use Rattle.fresh_volume.specs.Copy.{put_block}
 use Rattle.fresh_laying.proofs.blank_block.Goals as goal
 
@@ -26,7 +21,7 @@ pub loop-k-preserved : goal.loop-k-preserved
 loop-k-preserved c =
     let l = c.loop-k in
     let o = c.lay_record in
-    (o.auto.1.0 ∙ l.invariant.0, folded_next l.invariant.1 (omega (arith, c.loop-k-test.true, c.records-n.ensures)) o.ensures)
+    (o.auto.second ∙ l.invariant.0, folded_next l.invariant.1 (omega (arith, c.loop-k-test.true, c.records-n.ensures)) o.ensures)
 
 pub shape_of-second : goal.shape_of-second
 shape_of-second c = c.loop-k.invariant.0

@@ -1,15 +1,12 @@
 -- The records passed so far are blank, so what is still to be laid gives the whole.
-use mathlib.Core.Path.{◌≡◌, refl, sym, ◌∙◌}
+use mathlib.Core.Path.{◌≡◌}
 use mathlib.Core.List.{List}
 use Prim.Native.Nat.{ℕ, ◌-◌}
-use native.Mathlib.Omega.{arith}
-use lib.ListN.{replicate, length-replicate}
+use lib.ListN.{replicate}
 use lib.ListN.{length}
-use borrow.Author.Rules.{rules}
-use Rattle.lists.proofs.FoldLaws.{Folded, folded_start, folded_next, folded_end}
+use Rattle.lists.proofs.FoldLaws.{Folded}
 use Rattle.disk_geometry.specs.Geometry.{records}
 use Rattle.disk_volume.specs.Record.{put_record}
-use Rattle.fresh_volume.specs.Copy.{put_block}
 use Rattle.fresh_laying.proofs.blank_block.Given as goal
 
 abbrev pub invariant-loop-k : goal.invariant-loop-k

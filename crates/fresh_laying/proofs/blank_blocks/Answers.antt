@@ -1,10 +1,6 @@
 -- The blocks passed so far are blank, so what is still to be laid gives the whole.
-use mathlib.Core.Path.{◌≡◌, refl, sym, ◌∙◌}
-use Prim.Native.Nat.{◌-◌}
-use lib.ListN.{length}
-use borrow.Author.Rules.{rules}
-use Rattle.fresh_laying.specs.CodeLaying.{blank_block}
-use Rattle.fresh_laying.proofs.FoldFrom.{FoldedFrom, from_start, from_next, from_end}
+use mathlib.Core.Path.{refl, sym, ◌∙◌}
+use Rattle.fresh_laying.proofs.FoldFrom.{from_start, from_next, from_end}
 use Rattle.fresh_laying.proofs.blank_blocks.Goals as goal
 
 pub loop-i-init : goal.loop-i-init
@@ -21,7 +17,7 @@ pub loop-i-preserved : goal.loop-i-preserved
 loop-i-preserved c =
     let l = c.loop-i in
     let o = c.blank_block in
-    (o.auto.1.0 ∙ l.invariant.0, from_next l.invariant.1 c.loop-i-test.true o.ensures)
+    (o.auto.second ∙ l.invariant.0, from_next l.invariant.1 c.loop-i-test.true o.ensures)
 
 pub shape_of-second : goal.shape_of-second
 shape_of-second c = c.loop-i.invariant.0

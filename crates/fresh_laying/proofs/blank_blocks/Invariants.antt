@@ -1,10 +1,9 @@
 -- The blocks passed so far are blank, so what is still to be laid gives the whole.
-use mathlib.Core.Path.{◌≡◌, refl, sym, ◌∙◌}
+use mathlib.Core.Path.{◌≡◌}
 use Prim.Native.Nat.{◌-◌}
 use lib.ListN.{length}
-use borrow.Author.Rules.{rules}
 use Rattle.fresh_laying.specs.CodeLaying.{blank_block}
-use Rattle.fresh_laying.proofs.FoldFrom.{FoldedFrom, from_start, from_next, from_end}
+use Rattle.fresh_laying.proofs.FoldFrom.{FoldedFrom}
 use Rattle.fresh_laying.proofs.blank_blocks.Given as goal
 
 abbrev pub invariant-loop-i : goal.invariant-loop-i

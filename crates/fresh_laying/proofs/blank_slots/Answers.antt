@@ -1,13 +1,9 @@
 -- The slots passed so far are blank, so what is still to be laid gives the whole.
-use mathlib.Core.Path.{◌≡◌, refl, sym, ◌∙◌}
-use Prim.Native.Nat.{ℕ, ◌-◌}
+use mathlib.Core.Path.{refl, sym, ◌∙◌}
+use Prim.Native.Nat.{ℕ}
 use native.Mathlib.Omega.{arith}
 use lib.ListN.{length-replicate}
-use lib.ListN.{length}
-use borrow.Author.Rules.{rules}
-use Rattle.disk_geometry.specs.Geometry.{slots}
-use Rattle.fresh_laying.specs.CodeLaying.{blank_slot}
-use Rattle.fresh_laying.proofs.FoldFrom.{FoldedFrom, from_start, from_next, from_end}
+use Rattle.fresh_laying.proofs.FoldFrom.{from_start, from_next, from_end}
 use Rattle.fresh_laying.proofs.blank_slots.Goals as goal
 
 pub loop-i-init : goal.loop-i-init
@@ -24,7 +20,7 @@ pub loop-i-preserved : goal.loop-i-preserved
 loop-i-preserved c =
     let l = c.loop-i in
     let o = c.lay_slot in
-    (o.auto.1.0 ∙ l.invariant.0, from_next l.invariant.1 (omega (arith, c.loop-i-test.true, c.slots-n.ensures.0)) o.ensures)
+    (o.auto.second ∙ l.invariant.0, from_next l.invariant.1 (omega (arith, c.loop-i-test.true, c.slots-n.ensures.0)) o.ensures)
 
 pub shape_of-second : goal.shape_of-second
 shape_of-second c = c.loop-i.invariant.0

@@ -1,13 +1,9 @@
 -- The records passed so far are laid, so what is still to be laid gives the whole.
-use mathlib.Core.Path.{◌≡◌, refl, sym, ap, ◌∙◌}
-use mathlib.Core.List.{List}
-use Prim.Native.Nat.{ℕ, ◌-◌}
+use mathlib.Core.Path.{refl, sym, ap, ◌∙◌}
 use native.Mathlib.Omega.{arith}
 use lib.ListN.{length}
-use borrow.Author.Rules.{rules}
-use Rattle.lists.proofs.FoldLaws.{Folded, folded_start, folded_next, folded_end}
-use Rattle.disk_geometry.specs.Geometry.{records}
-use Rattle.disk_volume.specs.Record.{record_at, put_record}
+use Rattle.lists.proofs.FoldLaws.{folded_start, folded_next, folded_end}
+use Rattle.disk_volume.specs.Record.{put_record}
 use Rattle.disk_volume.proofs.DirectoryLaws.{record_length}
 use Rattle.fresh_volume.specs.Copy.{put_block}
 use Rattle.fresh_laying.proofs.MoveLaws.{lent_record}
@@ -20,10 +16,11 @@ pub lay_record-requires : goal.lay_record-requires
 lay_record-requires c =
     let a = c.args in
     let at = c.record_start-at in
-    let e = lent_record a.g a.first.now a.b c.loop-k.k at.result at.ensures.0 in (
-      (c.requires.volume_and.0, c.loop-k.invariant.0 ∙ c.requires.volume_and.1.1),
-      (c.requires.b_bound.1, ap length e ∙ record_length a.g c.requires.volume_and.0 a.first.now c.requires.volume_and.1.0 a.b c.loop-k.k c.requires.b_bound.0),
-    )
+    let e = lent_record a.g a.first.now a.b c.loop-k.k at.result at.ensures.0 in
+    record {
+      volume = (c.requires.volume_and.0, c.loop-k.invariant.0 ∙ c.requires.volume_and.1.1);
+      b_bound = (c.requires.b_bound.1, ap length e ∙ record_length a.g c.requires.volume_and.0 a.first.now c.requires.volume_and.1.0 a.b c.loop-k.k c.requires.b_bound.0);
+    }
 
 pub loop-k-preserved : goal.loop-k-preserved
 loop-k-preserved c =
@@ -32,7 +29,7 @@ loop-k-preserved c =
     let o = c.lay_record in
     let at = c.record_start-at in
     let e = lent_record a.g a.first.now a.b l.k at.result at.ensures.0 in
-    (o.auto.1.0 ∙ l.invariant.0, folded_next l.invariant.1 (omega (arith, c.loop-k-test.true, c.records-n.ensures)) (o.ensures ∙ ap (put_record a.g l.second a.c l.k) e))
+    (o.auto.second ∙ l.invariant.0, folded_next l.invariant.1 (omega (arith, c.loop-k-test.true, c.records-n.ensures)) (o.ensures ∙ ap (put_record a.g l.second a.c l.k) e))
 
 pub shape_of-second : goal.shape_of-second
 shape_of-second c = c.loop-k.invariant.0

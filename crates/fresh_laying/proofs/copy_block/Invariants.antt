@@ -1,16 +1,11 @@
 -- The records passed so far are laid, so what is still to be laid gives the whole.
-use mathlib.Core.Path.{◌≡◌, refl, sym, ap, ◌∙◌}
+use mathlib.Core.Path.{◌≡◌}
 use mathlib.Core.List.{List}
 use Prim.Native.Nat.{ℕ, ◌-◌}
-use native.Mathlib.Omega.{arith}
 use lib.ListN.{length}
-use borrow.Author.Rules.{rules}
-use Rattle.lists.proofs.FoldLaws.{Folded, folded_start, folded_next, folded_end}
+use Rattle.lists.proofs.FoldLaws.{Folded}
 use Rattle.disk_geometry.specs.Geometry.{records}
 use Rattle.disk_volume.specs.Record.{record_at, put_record}
-use Rattle.disk_volume.proofs.DirectoryLaws.{record_length}
-use Rattle.fresh_volume.specs.Copy.{put_block}
-use Rattle.fresh_laying.proofs.MoveLaws.{lent_record}
 use Rattle.fresh_laying.proofs.copy_block.Given as goal
 
 abbrev pub invariant-loop-k : goal.invariant-loop-k

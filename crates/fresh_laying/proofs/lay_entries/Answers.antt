@@ -1,17 +1,14 @@
 -- The entries passed so far are laid.
 use mathlib.Core.Path.{◌∙◌}
-use Prim.Native.Nat.{◌-◌}
 use native.Mathlib.Omega.{arith}
-use borrow.Author.Rules.{rules}
-use Rattle.fresh_laying.proofs.KeptLaws.{LaidTo, laid_none, laid_next, laid_number, laid_all, kept_long, entry_fits}
+use Rattle.fresh_laying.proofs.KeptLaws.{laid_none, laid_next, laid_number, laid_all, kept_long, entry_fits}
 use Rattle.fresh_laying.proofs.lay_entries.Goals as goal
 
 pub loop-k-init : goal.loop-k-init
 loop-k-init c = let a = c.args in laid_none a.g a.first.now a.m a.second.now
 
--- TODO s.well-formed.1.1.0.1
 pub offset_bounds-kept-k : goal.offset_bounds-kept-k
-offset_bounds-kept-k c = omega (arith, c.loop-k-test.true, kept_long c.args.g c.args.first.now c.requires.accepted.0 c.args.kept.now c.args.m c.requires.in_order, s.well-formed.1.1.0.1)
+offset_bounds-kept-k c = omega (arith, c.loop-k-test.true, kept_long c.args.g c.args.first.now c.requires.accepted.0 c.args.kept.now c.args.m c.requires.in_order)
 
 pub bounds-kept-k : goal.bounds-kept-k
 bounds-kept-k c = omega (arith, c.loop-k-test.true, kept_long c.args.g c.args.first.now c.requires.accepted.0 c.args.kept.now c.args.m c.requires.in_order)
@@ -19,10 +16,12 @@ bounds-kept-k c = omega (arith, c.loop-k-test.true, kept_long c.args.g c.args.fi
 pub lay_entry-next-requires : goal.lay_entry-next-requires
 lay_entry-next-requires c =
     let a = c.args in
-    let l = c.loop-k in (
-      (c.requires.accepted.0.0, (c.requires.accepted.0.1.0, l.invariant.size ∙ c.requires.accepted.1)),
-      entry_fits a.g a.first.now c.requires.accepted.0 a.kept.now a.m c.requires.in_order l.k c.loop-k-test.true l.next l.invariant.number,
-    )
+    let l = c.loop-k in
+    let fits = entry_fits a.g a.first.now c.requires.accepted.0 a.kept.now a.m c.requires.in_order l.k c.loop-k-test.true l.next l.invariant.number in
+    record {
+      volume_and = (c.requires.accepted.0.0, (c.requires.accepted.0.1.0, l.invariant.size ∙ c.requires.accepted.1));
+      i_bound = fits;
+    }
 
 pub loop-k-smaller : goal.loop-k-smaller
 loop-k-smaller c = omega (arith, c.loop-k-test.true)
@@ -33,7 +32,7 @@ loop-k-preserved c =
     let l = c.loop-k in
     let o = c.lay_entry-next in
     laid_next a.g a.first.now c.requires.accepted.0 a.kept.now a.m c.requires.in_order a.second.now l.second l.next l.k l.invariant c.loop-k-test.true
-    o.new.1.1.1.0 o.result o.auto.1.1.1.0 o.ensures.0 o.ensures.1
+    o.new.second o.result o.auto.second o.ensures.value o.ensures.second_after
 
 pub shape_of-second : goal.shape_of-second
 shape_of-second c = c.loop-k.invariant.size
@@ -41,7 +40,8 @@ shape_of-second c = c.loop-k.invariant.size
 pub returns : goal.returns
 returns c =
     let a = c.args in
-    let l = c.loop-k in (
-      laid_number a.g a.first.now a.m a.second.now l.second l.next l.k l.invariant c.loop-k-test.false,
-      laid_all a.g a.first.now a.m a.second.now l.second l.next l.k l.invariant c.loop-k-test.false,
-    )
+    let l = c.loop-k in
+    record {
+      value = laid_number a.g a.first.now a.m a.second.now l.second l.next l.k l.invariant c.loop-k-test.false;
+      second_after = laid_all a.g a.first.now a.m a.second.now l.second l.next l.k l.invariant c.loop-k-test.false;
+    }

@@ -1,9 +1,6 @@
 -- The entries passed so far are laid.
-use mathlib.Core.Path.{◌∙◌}
 use Prim.Native.Nat.{◌-◌}
-use native.Mathlib.Omega.{arith}
-use borrow.Author.Rules.{rules}
-use Rattle.fresh_laying.proofs.KeptLaws.{LaidTo, laid_none, laid_next, laid_number, laid_all, kept_long, entry_fits}
+use Rattle.fresh_laying.proofs.KeptLaws.{LaidTo}
 use Rattle.fresh_laying.proofs.lay_entries.Given as goal
 
 abbrev pub invariant-loop-k : goal.invariant-loop-k

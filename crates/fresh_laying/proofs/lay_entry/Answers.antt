@@ -4,7 +4,6 @@ use mathlib.Core.List.{List, ◌++◌}
 use Prim.Native.Nat.{ℕ, ◌+◌}
 use native.Mathlib.Omega.{arith}
 use lib.ListN.{length, replicate, length-append}
-use borrow.Author.Rules.{rules}
 use Rattle.disk_geometry.specs.Geometry.{places}
 use Rattle.disk_volume.specs.Directory.{put_slot}
 use Rattle.disk_volume.specs.Entry.{Entry}
@@ -15,39 +14,41 @@ use Rattle.fresh_laying.specs.CodeLaying.{move_blocks, MapFits}
 use Rattle.fresh_laying.proofs.MoveLaws.{new_entry}
 use Rattle.fresh_laying.proofs.lay_entry.Goals as goal
 
--- TODO place After-new-3-1 
--- the new entry before its blocks are moved
-long : (c : goal.After-new-3-1) → length (c.copy.new.0 ++ replicate 16 0) ≡ 32
-long c = length-append c.copy.new.0 (replicate 16 0) ∙ omega (arith, c.copy.auto.0)
-
 pub slice_bounds-move_blocks-end-2 : goal.slice_bounds-move_blocks-end-2
-slice_bounds-move_blocks-end-2 c = sym (long c)
+slice_bounds-move_blocks-end-2 c =
+    let long : length (c.copy.new.dst ++ replicate 16 0) ≡ 32 = length-append c.copy.new.dst (replicate 16 0) ∙ omega (arith, c.copy.auto.dst) in
+    sym long
 
 pub move_blocks-next-requires : goal.move_blocks-next-requires
 move_blocks-next-requires c =
+    let long : length (c.copy.new.dst ++ replicate 16 0) ≡ 32 = length-append c.copy.new.dst (replicate 16 0) ∙ omega (arith, c.copy.auto.dst) in
     let a = c.args in
     let at = c.slot_start-at in
-    let e = lent_slot a.g a.first.now a.i at.result at.ensures.0 in (
-      c.requires.volume_and,
-      (
+    let e = lent_slot a.g a.first.now a.i at.result at.ensures.0 in
+    record {
+      volume_and = c.requires.volume_and;
+      entry = (
         ap length e ∙ slot_length a.g c.requires.volume_and.0 a.first.now c.requires.volume_and.1.0 a.i c.requires.i_bound.0,
-        (long c, subst⁻¹ (λ (x : Entry). MapFits a.g x a.b) e c.requires.i_bound.1.1),
-      ),
-    )
+        (long, subst⁻¹ (λ (x : Entry). MapFits a.g x a.b) e c.requires.i_bound.1.1),
+      );
+    }
 
 pub slice_bounds-lay_slot-end : goal.slice_bounds-lay_slot-end
-slice_bounds-lay_slot-end c = sym (c.move_blocks-next.auto.1.1.1.1.0 ∙ long c)
+slice_bounds-lay_slot-end c =
+    let long : length (c.copy.new.dst ++ replicate 16 0) ≡ 32 = length-append c.copy.new.dst (replicate 16 0) ∙ omega (arith, c.copy.auto.dst) in
+    sym (c.move_blocks-next.auto.new ∙ long)
 
 pub lay_slot-requires : goal.lay_slot-requires
 lay_slot-requires c =
+    let long : length (c.copy.new.dst ++ replicate 16 0) ≡ 32 = length-append c.copy.new.dst (replicate 16 0) ∙ omega (arith, c.copy.auto.dst) in
     let m = c.move_blocks-next in
     record {
-      volume = (c.requires.volume_and.0, m.auto.1.1.1.0 ∙ c.requires.volume_and.1.1);
-      k_bound = (c.requires.i_bound.1.0, m.auto.1.1.1.1.0 ∙ long c);
+      volume = (c.requires.volume_and.0, m.auto.second ∙ c.requires.volume_and.1.1);
+      k_bound = (c.requires.i_bound.1.0, m.auto.new ∙ long);
     }
 
 pub shape_of-second : goal.shape_of-second
-shape_of-second c = c.lay_slot.auto.1.0 ∙ c.move_blocks-next.auto.1.1.1.0
+shape_of-second c = c.lay_slot.auto.second ∙ c.move_blocks-next.auto.second
 
 pub returns : goal.returns
 returns c =
@@ -55,10 +56,11 @@ returns c =
     let at = c.slot_start-at in
     let m = c.move_blocks-next in
     let e = lent_slot a.g a.first.now a.i at.result at.ensures.0 in
-    let new = new_entry a.g a.first.now a.b a.i at.result at.ensures.0 e c.copy.ensures in (
-      m.ensures.0 ∙ ap (λ (x : Entry). a.b + length (blocks_below a.g x (places a.g))) e,
-      c.lay_slot.ensures
+    let new = new_entry a.g a.first.now a.b a.i at.result at.ensures.0 e c.copy.ensures in
+    record {
+      value = m.ensures.value ∙ ap (λ (x : Entry). a.b + length (blocks_below a.g x (places a.g))) e;
+      second_after = c.lay_slot.ensures
           ∙ ap₂ (λ (x : List ℕ) (n : Entry). put_slot a.g x a.k n)
-          (m.ensures.1.0 ∙ ap (λ (x : Entry). move_blocks a.g a.first.now x a.b a.second.now) e)
-          (m.ensures.1.1 ∙ new),
-    )
+          (m.ensures.second_after ∙ ap (λ (x : Entry). move_blocks a.g a.first.now x a.b a.second.now) e)
+          (m.ensures.after ∙ new);
+    }

@@ -29,24 +29,25 @@ pub blank_slots-requires : goal.blank_slots-requires
 blank_slots-requires c =
     let o = c.order_of-m in
     record {
-      volume = (c.requires.accepted.0, c.lay_entries-next.auto.1.1.1.1.0 ∙ c.requires.second_len);
-      k_bound = kept_few c.args.g c.args.first.now c.requires.accepted o.new.1.1.0 o.result o.ensures;
+      volume = (c.requires.accepted.0, c.lay_entries-next.auto.second ∙ c.requires.second_len);
+      k_bound = kept_few c.args.g c.args.first.now c.requires.accepted o.new.kept o.result o.ensures;
     }
 
 pub blank_blocks-requires : goal.blank_blocks-requires
 blank_blocks-requires c =
     let o = c.order_of-m in
-    let l = c.lay_entries-next in (
-      (c.requires.accepted.0, c.blank_slots.auto.1.0 ∙ l.auto.1.1.1.1.0 ∙ c.requires.second_len),
-      numbers_low c.args.g c.args.first.now c.requires.accepted o.new.1.1.0 o.result o.ensures l.result l.ensures.0,
-    )
+    let l = c.lay_entries-next in
+    record {
+      volume = (c.requires.accepted.0, c.blank_slots.auto.second ∙ l.auto.second ∙ c.requires.second_len);
+      b_bound = numbers_low c.args.g c.args.first.now c.requires.accepted o.new.kept o.result o.ensures l.result l.ensures.value;
+    }
 
 pub shape_of-second : goal.shape_of-second
-shape_of-second c = c.blank_blocks.auto.1.0 ∙ c.blank_slots.auto.1.0 ∙ c.lay_entries-next.auto.1.1.1.1.0
+shape_of-second c = c.blank_blocks.auto.second ∙ c.blank_slots.auto.second ∙ c.lay_entries-next.auto.second
 
 pub returns : goal.returns
 returns c =
     let o = c.order_of-m in
     let l = c.lay_entries-next in
-    laid_out c.args.g c.args.first.now c.requires.accepted o.new.1.1.0 o.result o.ensures c.args.second.now c.requires.second_len
-    l.result l.new.1.1.1.1.0 c.blank_slots.new.1.0 c.blank_blocks.new.1.0 l.ensures.0 l.ensures.1 c.blank_slots.ensures c.blank_blocks.ensures
+    laid_out c.args.g c.args.first.now c.requires.accepted o.new.kept o.result o.ensures c.args.second.now c.requires.second_len
+    l.result l.new.second c.blank_slots.new.second c.blank_blocks.new.second l.ensures.value l.ensures.second_after c.blank_slots.ensures c.blank_blocks.ensures

@@ -2,7 +2,6 @@
 use mathlib.Core.Path.{◌≡◌}
 use Prim.Native.Nat.{◌+◌, ◌-◌}
 use native.Mathlib.Omega.{arith}
-use borrow.Author.Rules.{rules}
 use Rattle.lists.specs.Bytes.{put}
 use Rattle.disk_volume.specs.Record.{put_record}
 use Rattle.fresh_laying.proofs.lay_record.Goals as goal

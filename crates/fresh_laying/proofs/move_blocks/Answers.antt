@@ -1,11 +1,9 @@
 -- The blocks of the places passed so far are moved.
 use mathlib.Core.Path.{◌∙◌}
 use Prim.Native.Nat.{◌≤◌, ◌<◌}
-use Prim.Native.Nat.{◌-◌}
 use native.Mathlib.Omega.{arith}
-use borrow.Author.Rules.{rules}
 use Rattle.disk_geometry.specs.Geometry.{places}
-use Rattle.fresh_laying.proofs.MoveLaws.{MovedTo, moved_none, moved_next, moved_number, moved_all, moved_entry}
+use Rattle.fresh_laying.proofs.MoveLaws.{moved_none, moved_next, moved_number, moved_all, moved_entry}
 use Rattle.fresh_laying.proofs.move_blocks.Goals as goal
 
 pub loop-p-init : goal.loop-p-init
@@ -14,10 +12,12 @@ loop-p-init c = let a = c.args in moved_none a.g a.first.now a.e.now a.b a.secon
 pub move_place-next-requires : goal.move_place-next-requires
 move_place-next-requires c =
     let l = c.loop-p in
-    let p< : l.p < places c.args.g = omega (arith, c.loop-p-test.true, c.places-n.ensures.0) in (
-      (c.requires.volume_and.0, (c.requires.volume_and.1.0, l.invariant.size ∙ c.requires.volume_and.1.1)),
-      ((p<, (c.requires.entry.0, l.invariant.long ∙ c.requires.entry.1.0)), λ u. rw l.invariant.number (c.requires.entry.1.1 l.p p< u)),
-    )
+    let p< : l.p < places c.args.g = omega (arith, c.loop-p-test.true, c.places-n.ensures.0) in
+    record {
+      volume_and = (c.requires.volume_and.0, (c.requires.volume_and.1.0, l.invariant.size ∙ c.requires.volume_and.1.1));
+      p_bound = (p<, (c.requires.entry.0, l.invariant.long ∙ c.requires.entry.1.0));
+      p_bound_2 = λ u. rw l.invariant.number (c.requires.entry.1.1 l.p p< u);
+    }
 
 pub loop-p-smaller : goal.loop-p-smaller
 loop-p-smaller c = omega (arith, c.loop-p-test.true, c.places-n.ensures.0)
@@ -28,8 +28,8 @@ loop-p-preserved c =
     let l = c.loop-p in
     let o = c.move_place-next in
     moved_next a.g a.first.now a.e.now a.b a.second.now a.new.now l.second l.new l.next l.p l.invariant
-    (omega (arith, c.loop-p-test.true, c.places-n.ensures.0)) o.new.1.1.1.1.0 o.new.1.1.1.1.1.0 o.result
-    o.auto.1.1.1.1.0 o.auto.1.1.1.1.1.0 o.ensures.0 o.ensures.1.0 o.ensures.1.1
+    (omega (arith, c.loop-p-test.true, c.places-n.ensures.0)) o.new.second o.new.new o.result
+    o.auto.second o.auto.new o.ensures.value o.ensures.second_after o.ensures.after
 
 pub shape_of-second : goal.shape_of-second
 shape_of-second c = c.loop-p.invariant.size
@@ -41,10 +41,9 @@ pub returns : goal.returns
 returns c =
     let a = c.args in
     let l = c.loop-p in
-    let end : places a.g ≤ l.p = omega (arith, c.loop-p-test.false, c.places-n.ensures.0) in (
-      moved_number a.g a.first.now a.e.now a.b a.second.now a.new.now l.second l.new l.next l.p l.invariant end,
-      (
-        moved_all a.g a.first.now a.e.now a.b a.second.now a.new.now l.second l.new l.next l.p l.invariant end,
-        moved_entry a.g a.first.now a.e.now a.b a.second.now a.new.now l.second l.new l.next l.p l.invariant end,
-      ),
-    )
+    let end : places a.g ≤ l.p = omega (arith, c.loop-p-test.false, c.places-n.ensures.0) in
+    record {
+      value = moved_number a.g a.first.now a.e.now a.b a.second.now a.new.now l.second l.new l.next l.p l.invariant end;
+      second_after = moved_all a.g a.first.now a.e.now a.b a.second.now a.new.now l.second l.new l.next l.p l.invariant end;
+      after = moved_entry a.g a.first.now a.e.now a.b a.second.now a.new.now l.second l.new l.next l.p l.invariant end;
+    }

@@ -1,11 +1,7 @@
 -- The blocks of the places passed so far are moved.
-use mathlib.Core.Path.{◌∙◌}
-use Prim.Native.Nat.{◌≤◌, ◌<◌}
 use Prim.Native.Nat.{◌-◌}
-use native.Mathlib.Omega.{arith}
-use borrow.Author.Rules.{rules}
 use Rattle.disk_geometry.specs.Geometry.{places}
-use Rattle.fresh_laying.proofs.MoveLaws.{MovedTo, moved_none, moved_next, moved_number, moved_all, moved_entry}
+use Rattle.fresh_laying.proofs.MoveLaws.{MovedTo}
 use Rattle.fresh_laying.proofs.move_blocks.Given as goal
 
 abbrev pub invariant-loop-p : goal.invariant-loop-p

@@ -1,10 +1,5 @@
 -- Places above k are filled with what stood one below them, and none of these is below the number.
-use mathlib.Core.Path.{◌≡◌, subst, subst⁻¹, ◌∙◌}
-use Prim.Native.Nat.{ℕ, suc, ◌+◌, ◌-◌}
-use native.Mathlib.Omega.{arith}
-use lib.ListN.{get_or, set, take, length-set}
-use Rattle.fresh_order.specs.CodeKeys.{entered}
-use Rattle.fresh_order.proofs.EnteredLaws.{Opened, opened_start, opened_next, opened_hit, opened_none}
+use Rattle.fresh_order.proofs.EnteredLaws.{Opened}
 use Rattle.fresh_sorting.proofs.enter.Given as goal
 
 abbrev pub invariant-loop-k : goal.invariant-loop-k

@@ -51,4 +51,4 @@ returns c =
     let used = ne_eqb (byte (slot_at a.g v a.i) 0) 229 (λ h. c.if-e.false (ap (λ (l : List ℕ). byte l 0) e ∙ h)) in
     let key = c.key_of-key.ensures ∙ ap (λ (l : List ℕ). key_in a.g v l a.i) e in
     entered_in_order a.g v c.requires.accepted a.i c.requires.i_bound.0 a.kept.now a.m c.requires.i_bound.1 used
-    c.enter.new.0 c.enter.ensures.kept_len_unchanged (c.enter.ensures.kept_after ∙ ap (λ (x : ℕ). entered (take a.m a.kept.now) x) key)
+    c.enter.new.kept c.enter.ensures.kept_len_unchanged (c.enter.ensures.kept_after ∙ ap (λ (x : ℕ). entered (take a.m a.kept.now) x) key)

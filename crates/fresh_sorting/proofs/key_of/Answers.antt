@@ -7,7 +7,6 @@ use Rattle.disk_geometry.proofs.GeometryLaws.{bounds}
 use Rattle.disk_volume.specs.Name.{name_at}
 use Rattle.fresh_order.specs.CodeKeys.{file_extents, most_slots}
 use Rattle.fresh_sorting.specs.CodeKept.{key_in}
-use borrow.Author.Rules.{rules}
 use Rattle.fresh_sorting.proofs.key_of.Goals as goal
 
 pub overflow_mul-result : goal.overflow_mul-result

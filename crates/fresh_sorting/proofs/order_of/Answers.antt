@@ -1,8 +1,7 @@
 -- The slots passed so far are in order.
 use mathlib.Core.Path.{◌≡◌, sym, ◌∙◌, subst}
-use Prim.Native.Nat.{ℕ, ◌≤◌, ◌-◌}
+use Prim.Native.Nat.{ℕ}
 use native.Mathlib.Omega.{arith}
-use borrow.Author.Rules.{rules}
 use Rattle.disk_geometry.specs.Geometry.{slots}
 use Rattle.fresh_sorting.specs.CodeKept.{InOrder}
 use Rattle.fresh_sorting.proofs.SortedLaws.{in_order_none}
@@ -35,4 +34,4 @@ returns c =
     let l = c.loop-i in
     let a = c.args in
     let z : l.i ≡ slots a.g = omega (arith, c.loop-i-test.false, l.invariant.0, c.slots-n.ensures.0) in
-    subst (λ (x : ℕ). InOrder a.g a.volume.now x l.auto l.m) z l.invariant.1
+    subst (λ (x : ℕ). InOrder a.g a.volume.now x l.kept l.m) z l.invariant.1

@@ -1,11 +1,6 @@
 -- The slots passed so far are in order.
-use mathlib.Core.Path.{◌≡◌, sym, ◌∙◌, subst}
-use Prim.Native.Nat.{ℕ, ◌≤◌, ◌-◌}
-use native.Mathlib.Omega.{arith}
-use borrow.Author.Rules.{rules}
-use Rattle.disk_geometry.specs.Geometry.{slots}
+use Prim.Native.Nat.{◌≤◌, ◌-◌}
 use Rattle.fresh_sorting.specs.CodeKept.{InOrder}
-use Rattle.fresh_sorting.proofs.SortedLaws.{in_order_none}
 use Rattle.fresh_sorting.proofs.order_of.Given as goal
 
 abbrev pub invariant-loop-i : goal.invariant-loop-i

@@ -3,7 +3,6 @@ use Rattle.gencmd_file.proofs.PlanLaws.{carried_is}
 use Rattle.gencmd_file.specs.CodePlan.{carried}
 use Rattle.gencmd_file.specs.declared.Plan.{Plan}
 use mathlib.Core.Path.{sym, ap, ◌∙◌}
-use borrow.Author.Rules.{rules}
 use Rattle.gencmd_file.proofs.gencmd.Goals as goal
 
 pub write-requires : goal.write-requires

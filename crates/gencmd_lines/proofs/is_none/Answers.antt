@@ -1,5 +1,4 @@
 -- By the number.
-use Rattle.std.proofs.Common.{rules}
 use Rattle.gencmd_lines.proofs.is_none.Goals as goal
 
 pub returns : goal.returns

@@ -1,5 +1,4 @@
 -- The three numbers of the group.
-use borrow.Author.Rules.{rules}
 use Rattle.load_grants.proofs.grant_one.Goals as goal
 
 pub returns : goal.returns

@@ -1,9 +1,7 @@
 -- No form passed so far is 0, so what is still to be searched gives the whole.
-use Rattle.load_header.specs.Header.{descriptors, form_at, groups}
-use Rattle.lists.proofs.BoundedLaws.{Searched, searched_start, searched_next, searched_hit, searched_none}
+use Rattle.load_header.specs.Header.{groups}
+use Rattle.lists.proofs.BoundedLaws.{searched_start, searched_next, searched_hit, searched_none}
 use borrow.Author.Tests.{eq-eqb, ne_eqb}
-use lib.Dec.{eqb}
-use Prim.Native.Nat.{◌≤◌, ◌-◌}
 use mathlib.Core.Path.{sym, ◌∙◌}
 use borrow.Author.Rules.{rules}
 use Rattle.load_header.proofs.groups.Goals as goal

@@ -1,11 +1,8 @@
 -- No form passed so far is 0, so what is still to be searched gives the whole.
-use Rattle.load_header.specs.Header.{descriptors, form_at, groups}
-use Rattle.lists.proofs.BoundedLaws.{Searched, searched_start, searched_next, searched_hit, searched_none}
-use borrow.Author.Tests.{eq-eqb, ne_eqb}
+use Rattle.load_header.specs.Header.{descriptors, form_at}
+use Rattle.lists.proofs.BoundedLaws.{Searched}
 use lib.Dec.{eqb}
 use Prim.Native.Nat.{◌≤◌, ◌-◌}
-use mathlib.Core.Path.{sym, ◌∙◌}
-use borrow.Author.Rules.{rules}
 use Rattle.load_header.proofs.groups.Given as goal
 
 abbrev pub invariant-loop-i : goal.invariant-loop-i

@@ -2,7 +2,6 @@
 use Rattle.load_header.specs.Header.{image_start}
 use Rattle.load_header.proofs.HeaderLaws.{start_next}
 use native.Mathlib.Omega.{arith}
-use Prim.Native.Nat.{◌≤◌, ◌-◌, ◌*◌}
 use mathlib.Core.Path.{◌≡◌, refl, ap, ◌∙◌}
 use borrow.Author.Rules.{rules}
 use Rattle.load_header.proofs.image_start.Goals as goal

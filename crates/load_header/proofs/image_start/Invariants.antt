@@ -1,10 +1,7 @@
 -- The lengths of the groups passed so far.
 use Rattle.load_header.specs.Header.{image_start}
-use Rattle.load_header.proofs.HeaderLaws.{start_next}
-use native.Mathlib.Omega.{arith}
 use Prim.Native.Nat.{◌≤◌, ◌-◌, ◌*◌}
-use mathlib.Core.Path.{◌≡◌, refl, ap, ◌∙◌}
-use borrow.Author.Rules.{rules}
+use mathlib.Core.Path.{◌≡◌}
 use Rattle.load_header.proofs.image_start.Given as goal
 
 abbrev pub invariant-loop-i : goal.invariant-loop-i

@@ -1,9 +1,6 @@
 -- No group passed so far has the type, so what is still to be asked gives the whole.
-use Rattle.load_header.specs.Header.{type_at}
-use Rattle.lists.proofs.AnyLaws.{AnySoFar, asked_start, asked_next, asked_hit, asked_none}
+use Rattle.lists.proofs.AnyLaws.{asked_start, asked_next, asked_hit, asked_none}
 use borrow.Author.Tests.{eq-eqb, ne_eqb}
-use lib.Dec.{eqb}
-use Prim.Native.Nat.{◌≤◌, ◌-◌}
 use mathlib.Core.Path.{sym, ◌∙◌}
 use borrow.Author.Rules.{rules}
 use Rattle.load_header.proofs.is_given.Goals as goal

@@ -1,6 +1,5 @@
 -- The rules one by one.
 use Rattle.load_header.specs.Header.{good_header}
-use borrow.Author.Rules.{rules}
 use Rattle.load_header.proofs.is_good.Goals as goal
 
 pub returns : goal.returns

@@ -1,6 +1,5 @@
 -- The tests are the definition's.
 use Rattle.load_header.specs.Header.{good_group}
-use borrow.Author.Rules.{rules}
 use Rattle.load_header.proofs.is_good_group.Goals as goal
 
 pub returns : goal.returns

@@ -1,10 +1,7 @@
 -- No group passed so far has the type, so what is still to be searched gives the whole.
-use Rattle.load_header.specs.Header.{type_at}
 use Rattle.load_header.proofs.HeaderLaws.{place_is}
-use Rattle.lists.proofs.BoundedLaws.{Searched, searched_start, searched_next, searched_hit, searched_none}
+use Rattle.lists.proofs.BoundedLaws.{searched_start, searched_next, searched_hit, searched_none}
 use borrow.Author.Tests.{eq-eqb, ne_eqb}
-use lib.Dec.{eqb}
-use Prim.Native.Nat.{◌≤◌, ◌-◌}
 use mathlib.Core.Path.{sym, ◌∙◌}
 use borrow.Author.Rules.{rules}
 use Rattle.load_header.proofs.place_of.Goals as goal

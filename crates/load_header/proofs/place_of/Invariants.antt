@@ -1,12 +1,8 @@
 -- No group passed so far has the type, so what is still to be searched gives the whole.
 use Rattle.load_header.specs.Header.{type_at}
-use Rattle.load_header.proofs.HeaderLaws.{place_is}
-use Rattle.lists.proofs.BoundedLaws.{Searched, searched_start, searched_next, searched_hit, searched_none}
-use borrow.Author.Tests.{eq-eqb, ne_eqb}
+use Rattle.lists.proofs.BoundedLaws.{Searched}
 use lib.Dec.{eqb}
 use Prim.Native.Nat.{◌≤◌, ◌-◌}
-use mathlib.Core.Path.{sym, ◌∙◌}
-use borrow.Author.Rules.{rules}
 use Rattle.load_header.proofs.place_of.Given as goal
 
 abbrev pub invariant-loop-i : goal.invariant-loop-i

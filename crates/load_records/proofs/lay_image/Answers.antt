@@ -4,9 +4,9 @@ use Rattle.load_records.specs.Records.{image}
 use Rattle.load_records.specs.CodeReading.{bare}
 use Rattle.lists.specs.Bytes.{part}
 use native.Mathlib.Omega.{arith}
-use lib.ListN.{length, take}
+use lib.ListN.{length}
 use lib.Seq.{take_all}
-use Prim.Native.Nat.{ℕ, ◌≤◌, ◌+◌, ◌-◌}
+use Prim.Native.Nat.{ℕ, ◌+◌, ◌-◌}
 use mathlib.Core.Path.{◌≡◌, refl, sym, ap, ◌∙◌}
 use borrow.Author.Rules.{rules}
 use Rattle.load_records.proofs.lay_image.Goals as goal

@@ -1,14 +1,10 @@
 -- The bytes up to the present place are laid, a record or what is wanted of it at a time.
-use Rattle.load_records.proofs.ImageLaws.{laid_more}
 use Rattle.load_records.specs.Records.{image}
 use Rattle.load_records.specs.CodeReading.{bare}
 use Rattle.lists.specs.Bytes.{part}
-use native.Mathlib.Omega.{arith}
 use lib.ListN.{length, take}
-use lib.Seq.{take_all}
-use Prim.Native.Nat.{ℕ, ◌≤◌, ◌+◌, ◌-◌}
-use mathlib.Core.Path.{◌≡◌, refl, sym, ap, ◌∙◌}
-use borrow.Author.Rules.{rules}
+use Prim.Native.Nat.{◌≤◌, ◌-◌}
+use mathlib.Core.Path.{◌≡◌}
 use Rattle.load_records.proofs.lay_image.Given as goal
 
 abbrev pub invariant-loop-at : goal.invariant-loop-at

@@ -1,12 +1,10 @@
 -- The size is refused, or a record, or none.
 use Rattle.load_records.proofs.ReadLaws.{rest_unsized, rest_read}
-use borrow.Author.Tests.{not-true, not-false}
 use mathlib.Core.Path.{sym, ◌∙◌}
-use borrow.Author.Rules.{rules}
 use Rattle.load_records.proofs.read_rest.Goals as goal
 
 pub returns-then-not-is_none : goal.returns-then-not-is_none
-returns-then-not-is_none c = rest_unsized _ _ _ c.measure.ensures.0 c.measure.ensures.1.0 c.measure.ensures.1.1 (sym c.is_none.ensures ∙ not-true c.is_none.result c.if-not-is_none.true)
+returns-then-not-is_none c = rest_unsized _ _ _ c.measure-sized.ensures.0 c.measure-sized.ensures.1.0 c.measure-sized.ensures.1.1 (sym c.is_none.ensures ∙ c.if-not-is_none.true)
 
 pub returns : goal.returns
-returns c = rest_read _ _ _ c.measure.ensures.0 c.measure.ensures.1.0 c.measure.ensures.1.1 (sym c.is_none.ensures ∙ not-false c.is_none.result c.if-not-is_none.false) c.why_unread-rest.ensures
+returns c = rest_read _ _ _ c.measure-sized.ensures.0 c.measure-sized.ensures.1.0 c.measure-sized.ensures.1.1 (sym c.is_none.ensures ∙ c.if-not-is_none.false) c.why_unread-rest.ensures

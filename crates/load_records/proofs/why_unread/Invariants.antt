@@ -1,13 +1,11 @@
 -- No record passed so far is refused, so what is still to be asked gives the whole.
-use Rattle.load_records.proofs.ReadLaws.{FirstSoFar, first_next, first_stop, first_end}
+use Rattle.load_records.proofs.ReadLaws.{FirstSoFar}
 use Rattle.load_records.specs.Records.{unread}
 use Rattle.load_records.specs.CodeReading.{bare}
 use Rattle.disk_geometry.specs.Geometry.{record_bytes}
-use borrow.Author.Tests.{not-true, not-false}
 use lib.ListN.{length}
 use Prim.Native.Nat.{◌-◌}
-use mathlib.Core.Path.{◌≡◌, refl, sym, ◌∙◌}
-use borrow.Author.Rules.{rules}
+use mathlib.Core.Path.{◌≡◌}
 use Rattle.load_records.proofs.why_unread.Given as goal
 
 abbrev pub invariant-loop-n : goal.invariant-loop-n

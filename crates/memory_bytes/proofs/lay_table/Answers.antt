@@ -1,5 +1,4 @@
 -- Laid where the test is met.
-use borrow.Author.Rules.{rules}
 use Rattle.memory_bytes.proofs.lay_table.Goals as goal
 
 pub put_table-requires : goal.put_table-requires

@@ -1,5 +1,4 @@
 -- Each number stands at its place.
-use borrow.Author.Rules.{rules}
 use Rattle.memory_bytes.proofs.mcb_of.Goals as goal
 
 pub returns : goal.returns

@@ -1,7 +1,6 @@
 -- 34, or what the call on the table and the block in the bytes leaves.
 use Rattle.memory_bytes.proofs.OverLaws.{is_34, goes_on, mcb_lent, table_lent}
 use mathlib.Core.Path.{sym, ◌∙◌}
-use borrow.Author.Rules.{rules}
 use Rattle.memory_bytes.proofs.memory_call.Goals as goal
 
 pub returns-then-is_mcb_refused : goal.returns-then-is_mcb_refused

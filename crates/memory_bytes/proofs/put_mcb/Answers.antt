@@ -1,7 +1,6 @@
 -- The five bytes are the definition's.
 use Rattle.memory_bytes.specs.TableBytes.{mcb_laid}
 use Rattle.numbers.specs.Numbers.{bytes_of}
-use borrow.Author.Rules.{rules}
 use Rattle.memory_bytes.proofs.put_mcb.Goals as goal
 
 pub returns : goal.returns

@@ -1,13 +1,10 @@
 -- The spans of the places passed so far are laid.
-use Rattle.memory_bytes.specs.TableBytes.{span_bytes, span_laid, spans_laid}
+use Rattle.memory_bytes.specs.TableBytes.{span_bytes, spans_laid}
 use Rattle.memory_bytes.proofs.BytesLaws.{span_length, span_is}
-use Rattle.joined.specs.Joined.{joined}
 use Rattle.joined.proofs.JoinedLaws.{joined_start, joined_next, joined_end}
-use Rattle.memory_spans.specs.Span.{places, none}
+use Rattle.memory_spans.specs.Span.{places}
 use native.Mathlib.Omega.{arith}
-use lib.ListN.{length, take, get_or}
-use Prim.Native.Nat.{◌*◌, ◌-◌, ◌≤◌}
-use mathlib.Core.Path.{◌≡◌}
+use lib.ListN.{take}
 use borrow.Author.Rules.{rules}
 use Rattle.memory_bytes.proofs.put_spans.Goals as goal
 

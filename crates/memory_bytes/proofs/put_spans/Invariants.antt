@@ -1,14 +1,10 @@
 -- The spans of the places passed so far are laid.
-use Rattle.memory_bytes.specs.TableBytes.{span_bytes, span_laid, spans_laid}
-use Rattle.memory_bytes.proofs.BytesLaws.{span_length, span_is}
+use Rattle.memory_bytes.specs.TableBytes.{span_bytes, span_laid}
 use Rattle.joined.specs.Joined.{joined}
-use Rattle.joined.proofs.JoinedLaws.{joined_start, joined_next, joined_end}
 use Rattle.memory_spans.specs.Span.{places, none}
-use native.Mathlib.Omega.{arith}
 use lib.ListN.{length, take, get_or}
 use Prim.Native.Nat.{◌*◌, ◌-◌, ◌≤◌}
 use mathlib.Core.Path.{◌≡◌}
-use borrow.Author.Rules.{rules}
 use Rattle.memory_bytes.proofs.put_spans.Given as goal
 
 abbrev pub invariant-loop-i : goal.invariant-loop-i

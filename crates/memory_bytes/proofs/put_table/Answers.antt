@@ -3,7 +3,6 @@ use Rattle.memory_bytes.specs.TableBytes.{spans_laid, table_laid}
 use Rattle.memory_bytes.proofs.BytesLaws.{table_laid_lem, spans_laid_length}
 use Rattle.memory_calls.specs.Table.{pieces_of, regions_of}
 use Rattle.lists.specs.Bytes.{put}
-use borrow.Author.Rules.{rules}
 use Rattle.memory_bytes.proofs.put_table.Goals as goal
 
 pub returns : goal.returns

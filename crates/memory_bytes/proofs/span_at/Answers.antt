@@ -1,5 +1,4 @@
 -- Start and length stand one behind the other.
-use borrow.Author.Rules.{rules}
 use Rattle.memory_bytes.proofs.span_at.Goals as goal
 
 pub returns : goal.returns

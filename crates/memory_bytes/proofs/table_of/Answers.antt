@@ -1,6 +1,5 @@
 -- Pieces, regions and their numbers, each at its place.
 use Rattle.memory_bytes.specs.TableBytes.{table_of}
-use borrow.Author.Rules.{rules}
 use Rattle.memory_bytes.proofs.table_of.Goals as goal
 
 pub returns : goal.returns

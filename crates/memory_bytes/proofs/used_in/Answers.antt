@@ -2,7 +2,6 @@
 use mathlib.Core.Path.{◌∙◌}
 use Rattle.memory_bytes.specs.TableBytes.{used_in}
 use borrow.Author.Tests.{eq-eqb, ne_eqb}
-use borrow.Author.Rules.{rules}
 use Rattle.memory_bytes.proofs.used_in.Goals as goal
 
 pub returns-then-b-ne-TABLE_BYTES : goal.returns-then-b-ne-TABLE_BYTES

@@ -1,7 +1,6 @@
 -- M-Ext decides.
 use Rattle.memory_calls.specs.Calls.{freeing}
 use borrow.Author.Tests.{eq-eqb, ne_eqb}
-use borrow.Author.Rules.{rules}
 use Rattle.memory_calls.proofs.free.Goals as goal
 
 pub returns-then-mcb-eq-EVERY : goal.returns-then-mcb-eq-EVERY

@@ -1,5 +1,4 @@
 -- The table with no region.
-use borrow.Author.Rules.{rules}
 use Rattle.memory_calls.proofs.free_all.Goals as goal
 
 pub returns : goal.returns

@@ -5,7 +5,6 @@ use Rattle.lists.proofs.BoolLaws.{and_right}
 use lib.Dec.{eqb, ltb}
 use borrow.Author.Tests.{ltb-true}
 use mathlib.Core.Bool.{not}
-use borrow.Author.Rules.{rules}
 use Rattle.memory_calls.proofs.free_part.Goals as goal
 
 pub free_at-requires : goal.free_at-requires

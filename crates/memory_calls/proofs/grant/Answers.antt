@@ -1,7 +1,6 @@
 -- The two tests in their order.
 use Rattle.memory_calls.specs.Calls.{granted}
 use borrow.Author.Tests.{lt-ltb, le-ltb}
-use borrow.Author.Rules.{rules}
 use Rattle.memory_calls.proofs.grant.Goals as goal
 
 pub returns-then-t-ge-PLACES : goal.returns-then-t-ge-PLACES

@@ -1,5 +1,4 @@
 -- The region places with one more, in the table.
-use borrow.Author.Rules.{rules}
 use Rattle.memory_calls.proofs.grant_region.Goals as goal
 
 pub returns : goal.returns

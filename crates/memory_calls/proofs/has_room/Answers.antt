@@ -1,5 +1,4 @@
 -- The block's two numbers.
-use borrow.Author.Rules.{rules}
 use Rattle.memory_calls.proofs.has_room.Goals as goal
 
 pub returns : goal.returns

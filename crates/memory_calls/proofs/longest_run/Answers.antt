@@ -7,7 +7,6 @@ use lib.Dec.{eqb}
 use native.Mathlib.Omega.{arith}
 use mathlib.Core.Bool.{true, ◌||◌}
 use mathlib.Core.Path.{◌≡◌}
-use borrow.Author.Rules.{rules}
 use Rattle.memory_calls.proofs.longest_run.Goals as goal
 
 pub returns-then-asked-k : goal.returns-then-asked-k

@@ -4,7 +4,6 @@ use Rattle.memory_calls.specs.Table.{within_rules}
 use Rattle.memory_calls.specs.Calls.{memory_call}
 use mathlib.Core.Bool.{true, false}
 use mathlib.Core.Path.{◌≡◌, sym, ◌∙◌}
-use borrow.Author.Rules.{rules}
 use Rattle.memory_calls.proofs.memory_call.Goals as goal
 
 pub serve-requires : goal.serve-requires

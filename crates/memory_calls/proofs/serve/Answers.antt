@@ -1,7 +1,6 @@
 -- Number by number.
 use Rattle.memory_calls.specs.Calls.{serve}
 use borrow.Author.Tests.{eq-eqb, ne_eqb}
-use borrow.Author.Rules.{rules}
 use Rattle.memory_calls.proofs.serve.Goals as goal
 
 pub returns-then-function-eq-GET_MAX_MEM : goal.returns-then-function-eq-GET_MAX_MEM

@@ -1,6 +1,5 @@
 -- The test is the definition's.
 use Rattle.memory_calls.specs.Calls.{tested}
-use borrow.Author.Rules.{rules}
 use Rattle.memory_calls.proofs.test_region.Goals as goal
 
 pub returns-then-has_room : goal.returns-then-has_room

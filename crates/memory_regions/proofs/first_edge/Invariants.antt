@@ -1,14 +1,10 @@
 -- The search from place i on gives the whole.
-use Rattle.memory_regions.proofs.FreeLaws.{first_is}
-use Rattle.memory_regions.proofs.PlaceLaws.{used_at}
 use Rattle.memory_regions.specs.Freeing.{edge}
 use Rattle.memory_spans.specs.Span.{none}
-use Rattle.lists.proofs.BoundedLaws.{Searched, searched_start, searched_next, searched_hit, searched_none}
+use Rattle.lists.proofs.BoundedLaws.{Searched}
 use lib.ListN.{length, take, get_or}
-use native.Mathlib.Omega.{arith}
 use Prim.Native.Nat.{ℕ, ◌≤◌, ◌-◌}
-use mathlib.Core.Path.{◌≡◌, sym, ap, ◌∙◌}
-use borrow.Author.Rules.{rules}
+use mathlib.Core.Path.{◌≡◌}
 use Rattle.memory_regions.proofs.first_edge.Given as goal
 
 abbrev pub invariant-loop-i : goal.invariant-loop-i

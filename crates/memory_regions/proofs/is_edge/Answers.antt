@@ -1,6 +1,5 @@
 -- The test is the definition.
 use Rattle.memory_regions.specs.Freeing.{edge}
-use borrow.Author.Rules.{rules}
 use Rattle.memory_regions.proofs.is_edge.Goals as goal
 
 pub returns : goal.returns

@@ -7,15 +7,17 @@ use mathlib.Core.Path.{◌≡◌, sym, ◌∙◌}
 use borrow.Author.Rules.{rules}
 use Rattle.memory_regions.proofs.kept_with.Goals as goal
 
--- TODO place Start 
-size : (c : goal.Start) → c.args.at ≤ length (take c.args.m c.args.t1)
-size c = let n : length c.args.t1 ≡ 8 = search rules in omega (arith, used_length c.args.t1 c.args.m n c.requires.0)
-
 pub returns-then-j-at : goal.returns-then-j-at
-returns-then-j-at c = let a = c.args in rw c.if-j-at.true (sym (with_at (take a.m a.t1) a.at a.s (size c)))
+returns-then-j-at c =
+    let size : c.args.at ≤ length (take c.args.m c.args.regions) = let n : length c.args.regions ≡ 8 = search rules in omega (arith, used_length c.args.regions c.args.m n c.requires.0) in
+    let a = c.args in rw c.if-j-at.true (sym (with_at (take a.m a.regions) a.at a.s size))
 
 pub returns-then-j-m : goal.returns-then-j-m
-returns-then-j-m c = let a = c.args in sym (with_other (take a.m a.t1) a.at a.j a.s (size c) c.if-j-at.false ∙ used_at a.t1 a.m a.j c.if-j-m.true)
+returns-then-j-m c =
+    let size : c.args.at ≤ length (take c.args.m c.args.regions) = let n : length c.args.regions ≡ 8 = search rules in omega (arith, used_length c.args.regions c.args.m n c.requires.0) in
+    let a = c.args in sym (with_other (take a.m a.regions) a.at a.j a.s size c.if-j-at.false ∙ used_at a.regions a.m a.j c.if-j-m.true)
 
 pub returns : goal.returns
-returns c = let a = c.args in sym (with_other (take a.m a.t1) a.at a.j a.s (size c) c.if-j-at.false ∙ used_past a.t1 a.m a.j c.if-j-m.false)
+returns c =
+    let size : c.args.at ≤ length (take c.args.m c.args.regions) = let n : length c.args.regions ≡ 8 = search rules in omega (arith, used_length c.args.regions c.args.m n c.requires.0) in
+    let a = c.args in sym (with_other (take a.m a.regions) a.at a.j a.s size c.if-j-at.false ∙ used_past a.regions a.m a.j c.if-j-m.false)

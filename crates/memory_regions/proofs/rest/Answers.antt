@@ -3,7 +3,6 @@ use Rattle.memory_regions.proofs.FreeLaws.{part_shorter, rest_named}
 use Rattle.memory_regions.specs.Freeing.{left}
 use borrow.Author.Tests.{eq-eqb, ne_eqb}
 use native.Mathlib.Omega.{arith}
-use borrow.Author.Rules.{rules}
 use Rattle.memory_regions.proofs.rest.Goals as goal
 
 pub overflow_sub-length : goal.overflow_sub-length

@@ -1,9 +1,6 @@
 -- After j turns the first j places are laid down.
-use Rattle.memory_regions.proofs.PlaceLaws.{Laid, laid_start, laid_next, laid_end}
-use lib.ListN.{take, drop}
+use Rattle.memory_regions.proofs.PlaceLaws.{laid_start, laid_next, laid_end}
 use native.Mathlib.Omega.{arith}
-use Prim.Native.Nat.{suc, ◌-◌}
-use mathlib.Core.List.{◌++◌}
 use borrow.Author.Rules.{rules}
 use Rattle.memory_regions.proofs.without_region.Goals as goal
 

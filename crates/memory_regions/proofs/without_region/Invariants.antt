@@ -1,10 +1,8 @@
 -- After j turns the first j places are laid down.
-use Rattle.memory_regions.proofs.PlaceLaws.{Laid, laid_start, laid_next, laid_end}
+use Rattle.memory_regions.proofs.PlaceLaws.{Laid}
 use lib.ListN.{take, drop}
-use native.Mathlib.Omega.{arith}
 use Prim.Native.Nat.{suc, ◌-◌}
 use mathlib.Core.List.{◌++◌}
-use borrow.Author.Rules.{rules}
 use Rattle.memory_regions.proofs.without_region.Given as goal
 
 abbrev pub invariant-loop-j : goal.invariant-loop-j

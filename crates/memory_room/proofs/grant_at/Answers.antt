@@ -8,7 +8,6 @@ use lib.Dec.{ltb, leb, eqb}
 use mathlib.Core.Bool.{true, false, not, ◌&&◌}
 use mathlib.Core.Path.{◌≡◌}
 use native.Mathlib.Omega.{arith}
-use borrow.Author.Rules.{rules}
 use Rattle.memory_room.proofs.grant_at.Goals as goal
 
 pub overflow_cast-result : goal.overflow_cast-result

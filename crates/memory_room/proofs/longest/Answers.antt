@@ -4,7 +4,6 @@ use lib.ListN.{take}
 use Prim.Native.Nat.{max}
 use native.Mathlib.Omega.{arith}
 use mathlib.Core.Path.{sym, ap₂, ◌∙◌}
-use borrow.Author.Rules.{rules}
 use Rattle.memory_room.proofs.longest.Goals as goal
 
 pub returns : goal.returns

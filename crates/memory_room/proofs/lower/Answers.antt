@@ -1,5 +1,4 @@
 -- The test is the definition's.
-use borrow.Author.Rules.{rules}
 use Rattle.memory_room.proofs.lower.Goals as goal
 
 pub returns-then-below-has_room : goal.returns-then-below-has_room

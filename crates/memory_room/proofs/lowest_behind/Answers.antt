@@ -1,11 +1,6 @@
 -- The search among the candidates from place i on, below the lowest so far, gives the whole.
-use Rattle.memory_room.proofs.CandidateLaws.{Lowered, lowered_start, lowered_next, lowered_end}
-use Rattle.memory_spans.specs.Room.{has_room}
-use Rattle.memory_spans.specs.Span.{end}
-use lib.ListN.{length, take}
+use Rattle.memory_room.proofs.CandidateLaws.{lowered_start, lowered_next, lowered_end}
 use native.Mathlib.Omega.{arith}
-use Prim.Native.Nat.{◌-◌}
-use mathlib.Core.Path.{◌≡◌}
 use borrow.Author.Rules.{rules}
 use Rattle.memory_room.proofs.lowest_behind.Goals as goal
 

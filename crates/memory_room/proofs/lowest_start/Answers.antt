@@ -1,7 +1,6 @@
 -- The lowest candidate is the lowest start.
 use Rattle.memory_room.proofs.CandidateLaws.{lowest_is}
 use lib.ListN.{take}
-use borrow.Author.Rules.{rules}
 use Rattle.memory_room.proofs.lowest_start.Goals as goal
 
 pub returns : goal.returns

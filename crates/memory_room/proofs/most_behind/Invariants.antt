@@ -1,12 +1,10 @@
 -- The largest so far and those from place i on give the whole.
 use Rattle.memory_room.specs.CodeCandidates.{room_below}
-use Rattle.memory_spans.proofs.SpanLaws.{Kept, kept_start, kept_next, kept_end}
+use Rattle.memory_spans.proofs.SpanLaws.{Kept}
 use Rattle.memory_spans.specs.Span.{end}
 use lib.ListN.{length, take}
-use native.Mathlib.Omega.{arith}
-use Prim.Native.Nat.{◌-◌, ◌<◌, max}
-use mathlib.Core.Path.{◌≡◌, ap, ◌∙◌}
-use borrow.Author.Rules.{rules}
+use Prim.Native.Nat.{◌-◌, ◌<◌}
+use mathlib.Core.Path.{◌≡◌}
 use Rattle.memory_room.proofs.most_behind.Given as goal
 
 abbrev pub invariant-loop-i : goal.invariant-loop-i

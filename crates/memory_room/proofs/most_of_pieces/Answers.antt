@@ -1,10 +1,8 @@
 -- The largest so far and those from place i on give the whole.
-use Rattle.memory_room.specs.CodeCandidates.{room_below}
-use Rattle.memory_spans.proofs.SpanLaws.{Kept, kept_start, kept_next, kept_end}
-use lib.ListN.{length, take}
+use Rattle.memory_spans.proofs.SpanLaws.{kept_start, kept_next, kept_end}
 use native.Mathlib.Omega.{arith}
-use Prim.Native.Nat.{◌-◌, ◌<◌, max}
-use mathlib.Core.Path.{◌≡◌, ap, ◌∙◌}
+use Prim.Native.Nat.{max}
+use mathlib.Core.Path.{ap, ◌∙◌}
 use borrow.Author.Rules.{rules}
 use Rattle.memory_room.proofs.most_of_pieces.Goals as goal
 

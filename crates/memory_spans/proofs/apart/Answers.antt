@@ -1,9 +1,7 @@
 -- What is still to be compared from place i on gives the whole.
-use Rattle.memory_spans.proofs.RulesLaws.{Parted, parted_start, parted_next, parted_not, parted_all}
+use Rattle.memory_spans.proofs.RulesLaws.{parted_start, parted_next, parted_not, parted_all}
 use native.Mathlib.Omega.{arith}
-use lib.ListN.{length}
-use Prim.Native.Nat.{◌-◌}
-use mathlib.Core.Path.{◌≡◌, sym, ◌∙◌}
+use mathlib.Core.Path.{sym, ◌∙◌}
 use borrow.Author.Rules.{rules}
 use Rattle.memory_spans.proofs.apart.Goals as goal
 

@@ -1,10 +1,8 @@
 -- What is still to be compared from place i on gives the whole.
-use Rattle.memory_spans.proofs.RulesLaws.{Parted, parted_start, parted_next, parted_not, parted_all}
-use native.Mathlib.Omega.{arith}
+use Rattle.memory_spans.proofs.RulesLaws.{Parted}
 use lib.ListN.{length}
 use Prim.Native.Nat.{◌-◌}
-use mathlib.Core.Path.{◌≡◌, sym, ◌∙◌}
-use borrow.Author.Rules.{rules}
+use mathlib.Core.Path.{◌≡◌}
 use Rattle.memory_spans.proofs.apart.Given as goal
 
 abbrev pub invariant-loop-i : goal.invariant-loop-i

@@ -1,6 +1,5 @@
 -- The two comparisons are the definition.
 use Rattle.memory_spans.specs.Span.{covers}
-use borrow.Author.Rules.{rules}
 use Rattle.memory_spans.proofs.covers.Goals as goal
 
 pub returns : goal.returns

@@ -1,15 +1,9 @@
 -- The search among the regions from place i on, below what was met so far, gives the whole.
-use mathlib.Core.List.{List}
-use Rattle.memory_spans.specs.declared.Span.{Span}
-use Rattle.memory_spans.proofs.RoomLaws.{taken_next, taken_none}
-use Rattle.memory_spans.proofs.SpanLaws.{next, past}
 use Rattle.memory_spans.specs.Room.{taken}
 use Rattle.lists.specs.Bounded.{low_from}
 use lib.ListN.{length, take, drop}
-use native.Mathlib.Omega.{arith}
 use Prim.Native.Nat.{◌≤◌, ◌-◌}
-use mathlib.Core.Path.{◌≡◌, refl, sym, ap, ◌∙◌}
-use borrow.Author.Rules.{rules}
+use mathlib.Core.Path.{◌≡◌}
 use Rattle.memory_spans.proofs.first_taken.Given as goal
 
 abbrev pub invariant-loop-i : goal.invariant-loop-i

@@ -1,6 +1,5 @@
 -- The test is the definition.
 use Rattle.memory_spans.specs.Room.{has_room}
-use borrow.Author.Rules.{rules}
 use Rattle.memory_spans.proofs.has_room.Goals as goal
 
 pub returns : goal.returns

@@ -1,12 +1,9 @@
 -- What is still to be asked from place i on gives the whole.
-use Rattle.memory_spans.proofs.SpanLaws.{Passed, passed_start, passed_next, passed_fails, passed_all}
+use Rattle.memory_spans.proofs.SpanLaws.{Passed}
 use Rattle.memory_spans.specs.Rules.{in_one_of}
-use borrow.Author.Tests.{not-true, not-false}
-use native.Mathlib.Omega.{arith}
 use lib.ListN.{length, take}
 use Prim.Native.Nat.{◌-◌}
-use mathlib.Core.Path.{◌≡◌, sym, ◌∙◌}
-use borrow.Author.Rules.{rules}
+use mathlib.Core.Path.{◌≡◌}
 use Rattle.memory_spans.proofs.in_pieces.Given as goal
 
 abbrev pub invariant-loop-i : goal.invariant-loop-i

@@ -1,6 +1,5 @@
 -- The four rules in their order.
 use Rattle.memory_spans.specs.Rules.{lawful}
-use borrow.Author.Rules.{rules}
 use Rattle.memory_spans.proofs.is_lawful.Goals as goal
 
 pub returns : goal.returns

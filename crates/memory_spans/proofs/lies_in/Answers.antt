@@ -1,6 +1,5 @@
 -- The two comparisons are the definition.
 use Rattle.memory_spans.specs.Span.{lies_in}
-use borrow.Author.Rules.{rules}
 use Rattle.memory_spans.proofs.lies_in.Goals as goal
 
 pub returns : goal.returns

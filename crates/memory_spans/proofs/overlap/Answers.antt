@@ -1,6 +1,5 @@
 -- Four comparisons are the definition's one of the later start and the earlier end.
 use Rattle.memory_spans.proofs.SpanLaws.{overlap_is}
-use borrow.Author.Rules.{rules}
 use Rattle.memory_spans.proofs.overlap.Goals as goal
 
 pub returns : goal.returns

@@ -1,10 +1,7 @@
 -- What is still to be asked from place i on gives the whole.
-use Rattle.memory_spans.proofs.SpanLaws.{Asked, asked_start, asked_next, asked_hit, asked_none}
-use Rattle.memory_spans.specs.Span.{overlap}
+use Rattle.memory_spans.proofs.SpanLaws.{asked_start, asked_next, asked_hit, asked_none}
 use native.Mathlib.Omega.{arith}
-use lib.ListN.{length}
-use Prim.Native.Nat.{◌-◌}
-use mathlib.Core.Path.{◌≡◌, sym, ◌∙◌}
+use mathlib.Core.Path.{sym, ◌∙◌}
 use borrow.Author.Rules.{rules}
 use Rattle.memory_spans.proofs.overlaps_from.Goals as goal
 

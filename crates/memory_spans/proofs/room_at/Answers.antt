@@ -1,10 +1,9 @@
 -- The largest so far and those from place i on give the whole.
-use Rattle.memory_spans.proofs.SpanLaws.{Kept, kept_start, kept_next, kept_end}
-use Rattle.memory_spans.specs.Room.{free_in, run, room}
-use lib.ListN.{length, take}
+use Rattle.memory_spans.proofs.SpanLaws.{kept_start, kept_next, kept_end}
+use Rattle.memory_spans.specs.Room.{room}
 use native.Mathlib.Omega.{arith}
-use Prim.Native.Nat.{◌-◌, ◌<◌, max}
-use mathlib.Core.Path.{◌≡◌, ap, ◌∙◌}
+use Prim.Native.Nat.{max}
+use mathlib.Core.Path.{ap, ◌∙◌}
 use borrow.Author.Rules.{rules}
 use Rattle.memory_spans.proofs.room_at.Goals as goal
 

@@ -3,23 +3,21 @@ use Rattle.memory_spans.proofs.RoomLaws.{room_within, room_outside}
 use Rattle.memory_spans.proofs.SpanLaws.{Covers, covers_facts}
 use lib.ListN.{take}
 use native.Mathlib.Omega.{arith}
-use Prim.Native.Nat.{◌-◌}
 use mathlib.Core.Path.{sym, ◌∙◌}
 use borrow.Author.Rules.{rules}
 use Rattle.memory_spans.proofs.room_in.Goals as goal
 
--- TODO place Then-covers 
-here : (c : goal.Then-covers) → Covers c.args.piece c.args.start
-here c = covers_facts c.args.piece c.args.start (sym c.covers.ensures ∙ c.if-covers.true)
-
 pub first_taken-requires : goal.first_taken-requires
-first_taken-requires c = (c.requires, omega (arith, (here c).below, c.end_of-stop.ensures.0))
+first_taken-requires c =
+    let here : Covers c.args.piece c.args.start = covers_facts c.args.piece c.args.start (sym c.covers.ensures ∙ c.if-covers.true) in
+    (c.requires, omega (arith, here.below, c.end_of-stop.ensures.0))
 
 pub returns-then-covers : goal.returns-then-covers
 returns-then-covers c =
+    let here : Covers c.args.piece c.args.start = covers_facts c.args.piece c.args.start (sym c.covers.ensures ∙ c.if-covers.true) in
     let a = c.args in
     let f = c.first_taken.ensures in
-    (rw (f.0, c.end_of-stop.ensures.0) (sym (room_within a.piece (take a.n a.regions) a.start (sym c.covers.ensures ∙ c.if-covers.true))), omega (arith, (here c).from, f.1.1, c.end_of-stop.ensures.1.1))
+    (rw (f.0, c.end_of-stop.ensures.0) (sym (room_within a.piece (take a.n a.regions) a.start (sym c.covers.ensures ∙ c.if-covers.true))), omega (arith, here.from, f.1.1, c.end_of-stop.ensures.1.1))
 
 pub returns-else-covers : goal.returns-else-covers
 returns-else-covers c =

@@ -3,23 +3,22 @@ use Rattle.replay_script.specs.Layout.{longest_volume}
 use Rattle.replay_script.specs.Script.{header_of}
 use lib.ListN.{length}
 use lib.Dec.{leb}
-use mathlib.Core.Bool.{◌&&◌}
-use borrow.Author.Tests.{not-true, not-false, leb-true}
+use borrow.Author.Tests.{leb-true}
 use Rattle.lists.proofs.BoolLaws.{and_right}
-use borrow.Author.Rules.{rules}
 use Rattle.replay_script.proofs.header_of.Goals as goal
 
 pub returns-then-not-good : goal.returns-then-not-good
 unfolding header_of
 returns-then-not-good c =
     record {
-      value = rw (← c.four_at-length.ensures, not-true (leb 10 (length c.args.s.now) && leb c.four_at-length.result longest_volume) c.if-not-good.true);
+      value = rw (← c.four_at-length.ensures, c.if-not-good.true);
       at_most = tt;
     }
 
 pub returns : goal.returns
 unfolding header_of
-returns c = (
-  rw (← c.four_at-length.ensures, not-false (leb 10 (length c.args.s.now) && leb c.four_at-length.result longest_volume) c.if-not-good.false, ← c.two_at.ensures.0, ← c.two_at-2.ensures.0, ← c.byte_at.ensures, ← c.wide.ensures.0, ← c.byte_at-2.ensures, ← c.wide-2.ensures.0),
-  leb-true c.four_at-length.result longest_volume (and_right (leb 10 (length c.args.s.now)) (leb c.four_at-length.result longest_volume) (not-false (leb 10 (length c.args.s.now) && leb c.four_at-length.result longest_volume) c.if-not-good.false)),
-)
+returns c =
+    record {
+      value = rw (← c.four_at-length.ensures, c.if-not-good.false, ← c.two_at.ensures.0, ← c.two_at-2.ensures.0, ← c.byte_at.ensures, ← c.wide.ensures.0, ← c.byte_at-2.ensures, ← c.wide-2.ensures.0);
+      at_most = leb-true c.four_at-length.result longest_volume (and_right (leb 10 (length c.args.s.now)) (leb c.four_at-length.result longest_volume) c.if-not-good.false);
+    }

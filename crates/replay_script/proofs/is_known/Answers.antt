@@ -1,5 +1,4 @@
 -- 0, or a number that is served.
-use borrow.Author.Rules.{rules}
 use Rattle.replay_script.proofs.is_known.Goals as goal
 
 pub returns : goal.returns

@@ -8,14 +8,14 @@ use Rattle.seam_desk.proofs.state.Goals as goal
 
 pub returns-then-not-is_drive : goal.returns-then-not-is_drive
 unfolding decoded
-returns-then-not-is_drive c = rw (← c.is_drive.ensures, not-true c.is_drive.result c.if-not-is_drive.true) c.closed.ensures
+returns-then-not-is_drive c = rw (← c.is_drive.ensures, c.if-not-is_drive.true) c.closed.ensures
 
 pub fields-front-requires : goal.fields-front-requires
-fields-front-requires c = sym c.is_drive.ensures ∙ not-false c.is_drive.result c.if-not-is_drive.false
+fields-front-requires c = sym c.is_drive.ensures ∙ c.if-not-is_drive.false
 
 pub load_words-requires : goal.load_words-requires
 load_words-requires c =
-    (sym c.is_drive.ensures ∙ not-false c.is_drive.result c.if-not-is_drive.false, refl)
+    (sym c.is_drive.ensures ∙ c.if-not-is_drive.false, refl)
 
 pub returns : goal.returns
 returns c =

@@ -1,5 +1,5 @@
 -- The state is asked first; then the lengths, with the number of records before the buffer's.
-use mathlib.Core.Path.{◌≡◌, refl, sym, ◌∙◌}
+use mathlib.Core.Path.{◌≡◌, refl, sym, ◌∙◌, ap}
 use mathlib.Core.Bool.{true, not, ◌&&◌}
 use mathlib.Core.List.{List, [], ◌∷◌}
 use Prim.Native.Nat.{ℕ, ◌*◌}
@@ -22,7 +22,7 @@ unfolding several_tests first_met
 returns-then-not-is_open c = λ (held : List ℕ). rw (← c.is_open.ensures held, c.if-not-is_open.true)
 
 pub bytes-requires : goal.bytes-requires
-bytes-requires c = (is_open_lem _ (sym (c.is_open.ensures []) ∙ not-false c.is_open.result c.if-not-is_open.false)).law
+bytes-requires c = (is_open_lem _ (sym (c.is_open.ensures []) ∙ not-false c.is_open.result (ap not c.if-not-is_open.false))).law
 
 pub returns : goal.returns
 unfolding several_tests first_met

@@ -1,5 +1,6 @@
 -- What is still to be written from piece i on with the stores that are left gives the whole; a refused write ends it.
-use mathlib.Core.Path.{◌≡◌, refl, sym, ◌∙◌}
+use mathlib.Core.Bool.{not}
+use mathlib.Core.Path.{◌≡◌, refl, sym, ◌∙◌, ap}
 use Prim.Native.Nat.{◌+◌, ◌-◌, ◌*◌, ◌≤◌, ◌<◌}
 use native.Mathlib.Omega.{arith}
 use lib.ListN.{length}
@@ -13,10 +14,10 @@ pub loop-i-init : goal.loop-i-init
 loop-i-init c = (search rules, (refl, (refl, cut_start _ _ _ _ _ _)))
 
 pub shape_of-volume-then-not-succeeded : goal.shape_of-volume-then-not-succeeded
-shape_of-volume-then-not-succeeded c = c.write_piece-written.auto.1.1.0 ∙ c.loop-i.invariant.1.0
+shape_of-volume-then-not-succeeded c = c.write_piece-written.auto.volume ∙ c.loop-i.invariant.1.0
 
 pub shape_of-fcb-then-not-succeeded : goal.shape_of-fcb-then-not-succeeded
-shape_of-fcb-then-not-succeeded c = c.write_piece-written.auto.1.1.1.0 ∙ c.loop-i.invariant.1.1.0
+shape_of-fcb-then-not-succeeded c = c.write_piece-written.auto.fcb ∙ c.loop-i.invariant.1.1.0
 
 pub returns-then-not-succeeded : goal.returns-then-not-succeeded
 returns-then-not-succeeded c =
@@ -25,7 +26,7 @@ returns-then-not-succeeded c =
     let inside : l.i < a.k = c.loop-i-test.true in
     let fits : 128 * l.i + 128 ≤ length a.buffer.now = omega (arith, inside, c.requires) in
     cut_stop (joined l.d l.held) l.volume l.fcb a.buffer.now l.left l.i fits c.write_piece-written.ensures l.invariant.1.1.1 inside
-    (sym c.succeeded.ensures ∙ not-true c.succeeded.result c.if-not-succeeded.true) (c.ended.ensures _ ∙ rw c.why_of.ensures)
+    (sym c.succeeded.ensures ∙ not-true c.succeeded.result (ap not c.if-not-succeeded.true)) (c.ended.ensures _ ∙ rw c.why_of.ensures)
 
 pub loop-i-preserved : goal.loop-i-preserved
 loop-i-preserved c =
@@ -36,10 +37,10 @@ loop-i-preserved c =
     let fits : 128 * l.i + 128 ≤ length a.buffer.now = omega (arith, inside, c.requires) in (
       search rules,
       (
-        r.auto.1.1.0 ∙ l.invariant.1.0,
+        r.auto.volume ∙ l.invariant.1.0,
         (
-          r.auto.1.1.1.0 ∙ l.invariant.1.1.0,
-          cut_next (joined l.d l.held) l.volume l.fcb a.buffer.now l.left l.i fits r.ensures l.invariant.1.1.1 inside (sym c.succeeded.ensures ∙ not-false c.succeeded.result c.if-not-succeeded.false),
+          r.auto.fcb ∙ l.invariant.1.1.0,
+          cut_next (joined l.d l.held) l.volume l.fcb a.buffer.now l.left l.i fits r.ensures l.invariant.1.1.1 inside (sym c.succeeded.ensures ∙ not-false c.succeeded.result (ap not c.if-not-succeeded.false)),
         ),
       ),
     )

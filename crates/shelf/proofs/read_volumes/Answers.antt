@@ -10,6 +10,7 @@ use Rattle.shelf_figures.proofs.OrderLaws.{bare_within}
 use Rattle.shelf_report.specs.Room.{OfVolumes}
 use Rattle.shelf.proofs.ReadingLaws.{next_read}
 use borrow.Author.Rules.{rules}
+use Rattle.shelf.proofs.read_volumes.Invariants.{SoFar}
 use Rattle.shelf.proofs.read_volumes.Goals as goal
 
 -- a bare shelf has seen none

@@ -12,33 +12,21 @@ use Rattle.shelf_figures.specs.Shelf.{accepted_one}
 use Rattle.shelf_figures.proofs.ShelfLaws.{one_refused, one_accepted}
 use Rattle.shelf_figures.proofs.look.Goals as goal
 
--- TODO place After-number-said 
--- what log-in said
-said_is : (c : goal.After-number-said) → (let a = c.args in c.number-said.result ≡ number_of (log_in a.g a.volume.now).answer)
-said_is c = c.number-said.ensures ∙ ap (λ (r : Reply). number_of r.answer) c.log_in-reply.ensures
-
--- TODO place After-succeeded 
-succeeded_is : (c : goal.After-succeeded) → (let a = c.args in succeeded (log_in a.g a.volume.now).answer ≡ c.succeeded.result)
-succeeded_is c = sym (c.succeeded.ensures ∙ ap (λ (r : Reply). succeeded r.answer) c.log_in-reply.ensures)
-
--- TODO place Then-not-succeeded 
-was_refused : (c : goal.Then-not-succeeded) → (let a = c.args in succeeded (log_in a.g a.volume.now).answer ≡ false)
-was_refused c = succeeded_is c ∙ not-true c.succeeded.result c.if-not-succeeded.true
-
--- TODO place Else-not-succeeded 
-was_accepted : (c : goal.Else-not-succeeded) → (let a = c.args in succeeded (log_in a.g a.volume.now).answer ≡ true)
-was_accepted c = succeeded_is c ∙ not-false c.succeeded.result c.if-not-succeeded.false
-
 pub returns-then-not-succeeded : goal.returns-then-not-succeeded
 returns-then-not-succeeded c =
+    let said_is : (let a = c.args in c.number-said.result ≡ number_of (log_in a.g a.volume.now).answer) = c.number-said.ensures ∙ ap (λ (r : Reply). number_of r.answer) c.log_in-reply.ensures in
+    let succeeded_is : (let a = c.args in succeeded (log_in a.g a.volume.now).answer ≡ c.succeeded.result) = sym (c.succeeded.ensures ∙ ap (λ (r : Reply). succeeded r.answer) c.log_in-reply.ensures) in
+    let was_refused : (let a = c.args in succeeded (log_in a.g a.volume.now).answer ≡ false) = succeeded_is ∙ c.if-not-succeeded.true in
     record {
-      said_value = said_is c;
-      alone_value = c.refused_one-alone.ensures ∙ sym (one_refused _ _ (was_refused c));
+      said_value = said_is;
+      alone_value = c.refused_one-alone.ensures ∙ sym (one_refused _ _ was_refused);
     }
 
 pub take_stock-stock-requires : goal.take_stock-stock-requires
 take_stock-stock-requires c =
-    let a = accepted _ _ (was_accepted c) in
+    let succeeded_is : (let a = c.args in succeeded (log_in a.g a.volume.now).answer ≡ c.succeeded.result) = sym (c.succeeded.ensures ∙ ap (λ (r : Reply). succeeded r.answer) c.log_in-reply.ensures) in
+    let was_accepted : (let a = c.args in succeeded (log_in a.g a.volume.now).answer ≡ true) = succeeded_is ∙ c.if-not-succeeded.false in
+    let a = accepted _ _ was_accepted in
     let free = c.value.ensures ∙ ap (λ (r : Reply). value_of r.answer) c.log_in-reply.ensures ∙ ap value_of a.answer in
     record {
       volume = (a.law, a.size);
@@ -47,7 +35,10 @@ take_stock-stock-requires c =
 
 pub returns : goal.returns
 returns c =
+    let said_is : (let a = c.args in c.number-said.result ≡ number_of (log_in a.g a.volume.now).answer) = c.number-said.ensures ∙ ap (λ (r : Reply). number_of r.answer) c.log_in-reply.ensures in
+    let succeeded_is : (let a = c.args in succeeded (log_in a.g a.volume.now).answer ≡ c.succeeded.result) = sym (c.succeeded.ensures ∙ ap (λ (r : Reply). succeeded r.answer) c.log_in-reply.ensures) in
+    let was_accepted : (let a = c.args in succeeded (log_in a.g a.volume.now).answer ≡ true) = succeeded_is ∙ c.if-not-succeeded.false in
     record {
-      said_value = said_is c;
-      alone_value = c.accepted_one-alone.ensures ∙ ap (λ (h : Holdings). accepted_one h) c.take_stock-stock.ensures ∙ sym (one_accepted _ _ (was_accepted c));
+      said_value = said_is;
+      alone_value = c.accepted_one-alone.ensures ∙ ap (λ (h : Holdings). accepted_one h) c.take_stock-stock.ensures ∙ sym (one_accepted _ _ was_accepted);
     }

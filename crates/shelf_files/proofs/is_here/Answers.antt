@@ -1,11 +1,7 @@
 -- An entry of the file has its key; where the slot's is another, no name need be compared.
-use mathlib.Core.Path.{◌≡◌, refl, sym, ap, ◌∙◌}
-use mathlib.Core.Bool.{Bool, true, false}
+use mathlib.Core.Path.{sym, ap, ◌∙◌}
 use Prim.Native.Nat.{ℕ, ◌/◌}
-use borrow.Author.Rules.{rules}
 use Rattle.disk_volume.specs.Name.{strip}
-use Rattle.disk_volume.specs.Entry.{of_file}
-use Rattle.disk_volume.specs.Directory.{slot_at}
 use Rattle.disk_volume.proofs.EntryLaws.{lent_slot}
 use Rattle.shelf_files.proofs.WalkLaws.{other_file}
 use Rattle.shelf_files.proofs.is_here.Goals as goal

@@ -1,9 +1,7 @@
 -- At no slot: the chain begins here. At a slot: its word has the new one behind the bit.
-use mathlib.Core.Path.{◌≡◌, refl, sym, ap, ◌∙◌}
-use mathlib.Core.Bool.{cond}
-use Prim.Native.Nat.{ℕ, ◌<◌}
+use mathlib.Core.Path.{ap, ◌∙◌}
+use Prim.Native.Nat.{ℕ}
 use native.Mathlib.Omega.{arith}
-use borrow.Author.Rules.{rules}
 use borrow.Author.Tests.{ne_eqb}
 use Rattle.shelf_files.specs.CodeTree.{next_in}
 use Rattle.shelf_files.proofs.link.Goals as goal

@@ -1,6 +1,5 @@
 -- Where there was no slot to go on at, the sum stays below 2^32: what is beside it is the other slot and the key.
 use native.Mathlib.Omega.{arith}
-use borrow.Author.Rules.{rules}
 use borrow.Author.Tests.{ne_eqb}
 use Rattle.shelf_files.proofs.with_next.Goals as goal
 

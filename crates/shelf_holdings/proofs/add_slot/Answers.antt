@@ -1,6 +1,6 @@
 -- An empty slot adds nothing; another one an entry, its records, and a file if it is the first of that.
-use mathlib.Core.Path.{◌≡◌, sym, ap, ◌∙◌}
-use mathlib.Core.Bool.{Bool, true, false, cond}
+use mathlib.Core.Path.{◌≡◌, ap, ◌∙◌}
+use mathlib.Core.Bool.{Bool, false, cond}
 use Prim.Native.Nat.{ℕ, ◌+◌}
 use native.Mathlib.Omega.{arith}
 use Rattle.disk_geometry.proofs.GeometryLaws.{bounds}
@@ -15,40 +15,31 @@ use Rattle.shelf_holdings.proofs.SlotLaws.{not_listed, no_file, no_entry_lem, no
 use borrow.Author.Rules.{rules}
 use Rattle.shelf_holdings.proofs.add_slot.Goals as goal
 
--- TODO place Else-volume-at 
-used : (c : goal.Else-volume-at) → (let a = c.args in is_empty (slot_at a.g a.volume.now a.i) ≡ false)
-used c =
-    let a = c.args in
-    let at = c.slot_start-at in
-    slot_used a.g a.volume.now a.i at.result at.ensures.0 c.if-volume-at.false
-
 pub returns-then-volume-at : goal.returns-then-volume-at
 returns-then-volume-at c =
     let a = c.args in
     let at = c.slot_start-at in
-    let e = slot_empty a.g a.volume.now a.i at.result at.ensures.0 c.if-volume-at.true in (
-      no_file a.g a.volume.now a.i a.c.files e,
-      (
-        no_entry_lem a.g a.volume.now a.i a.c.entries e,
-        (
-          no_records a.g a.volume.now a.i a.c.records e,
-          (
-            (omega (arith, c.requires.i_bound), (omega (arith, c.requires.i_bound), omega (arith, c.requires.i_bound))),
-            (heads_still a.g a.volume.now a.i (not_listed a.g a.volume.now a.i e) c.requires.heads.0, nodes_still a.g a.volume.now a.i (not_listed a.g a.volume.now a.i e) c.requires.heads.1),
-          ),
-        ),
-      ),
-    )
+    let e = slot_empty a.g a.volume.now a.i at.result at.ensures.0 c.if-volume-at.true in
+    record {
+      files_value = no_file a.g a.volume.now a.i a.c.files e;
+      entries_value = no_entry_lem a.g a.volume.now a.i a.c.entries e;
+      records_value = no_records a.g a.volume.now a.i a.c.records e;
+      files_bound = (omega (arith, c.requires.i_bound), (omega (arith, c.requires.i_bound), omega (arith, c.requires.i_bound)));
+      heads_2 = (heads_still a.g a.volume.now a.i (not_listed a.g a.volume.now a.i e) c.requires.heads.0, nodes_still a.g a.volume.now a.i (not_listed a.g a.volume.now a.i e) c.requires.heads.1);
+    }
 
 pub is_first-first-requires : goal.is_first-first-requires
 is_first-first-requires c =
+    let used : (let a = c.args in is_empty (slot_at a.g a.volume.now a.i) ≡ false) = (let a = c.args in
+    let at = c.slot_start-at in
+    slot_used a.g a.volume.now a.i at.result at.ensures.0 c.if-volume-at.false) in
     let a = c.args in
     let at = c.slot_start-at in
     let e = lent_slot a.g a.volume.now a.i at.result at.ensures.0 in
     record {
       volume = c.requires.volume;
       i_bound = (c.requires.i_bound.0, (search rules, e));
-      e_value = (rw e (used c), (c.requires.heads.0, c.requires.heads.1));
+      e_value = (rw e used, (c.requires.heads.0, c.requires.heads.1));
     }
 
 pub overflow_add-files : goal.overflow_add-files
@@ -62,22 +53,19 @@ overflow_add-records c = omega (arith, (bounds _ c.requires.volume.0).slots_high
 
 pub returns : goal.returns
 returns c =
+    let used : (let a = c.args in is_empty (slot_at a.g a.volume.now a.i) ≡ false) = (let a = c.args in
+    let at = c.slot_start-at in
+    slot_used a.g a.volume.now a.i at.result at.ensures.0 c.if-volume-at.false) in
     let a = c.args in
     let at = c.slot_start-at in
     let e = lent_slot a.g a.volume.now a.i at.result at.ensures.0 in
-    let here = used c in
     let first = c.is_first-first.ensures.value ∙ ap (λ (x : Entry). is_listed a.g a.volume.now x a.i) e in
     let one = c.one_if.ensures in
-    let some = c.entry_records.ensures in (
-      ap (λ (x : ℕ). a.c.files + x) (one.0 ∙ ap (λ (t : Bool). cond t 1 0) first),
-      (
-        one_entry a.g a.volume.now a.i a.c.entries here,
-        (
-          ap (λ (x : ℕ). a.c.records + x) (some.0 ∙ ap (λ (x : Entry). entry_records a.g x) e ∙ its_records a.g a.volume.now a.i 0 here),
-          (
-            (omega (arith, c.requires.i_bound, one.1), (omega (arith, c.requires.i_bound), omega (arith, c.requires.i_bound, some.1))),
-            c.is_first-first.ensures.heads,
-          ),
-        ),
-      ),
-    )
+    let some = c.entry_records.ensures in
+    record {
+      files_value = ap (λ (x : ℕ). a.c.files + x) (one.0 ∙ ap (λ (t : Bool). cond t 1 0) first);
+      entries_value = one_entry a.g a.volume.now a.i a.c.entries used;
+      records_value = ap (λ (x : ℕ). a.c.records + x) (some.0 ∙ ap (λ (x : Entry). entry_records a.g x) e ∙ its_records a.g a.volume.now a.i 0 used);
+      files_bound = (omega (arith, c.requires.i_bound, one.1), (omega (arith, c.requires.i_bound), omega (arith, c.requires.i_bound, some.1)));
+      heads_2 = c.is_first-first.ensures.heads;
+    }

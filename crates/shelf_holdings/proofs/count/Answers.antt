@@ -1,31 +1,15 @@
 -- Files, entries and records of the slots passed so far are added up, and their files are in the tree.
 use mathlib.Core.Path.{◌≡◌, refl, sym, ◌∙◌}
-use mathlib.Core.Bool.{cond}
-use mathlib.Core.List.{List}
-use Prim.Native.Nat.{ℕ, zero, suc, ◌+◌, ◌-◌, ◌*◌, ◌≤◌}
+use Prim.Native.Nat.{ℕ, zero, suc}
 use lib.ListN.{replicate}
 use native.Mathlib.Omega.{arith}
 use Rattle.lists.specs.Bytes.{byte}
-use Rattle.sums.proofs.SumLaws.{Summed, summed_start, summed_next, summed_end, count_sum}
-use Rattle.disk_geometry.specs.declared.Geometry.{Geometry}
-use Rattle.disk_geometry.specs.Geometry.{slots}
-use Rattle.shelf_files.specs.CodeTree.{Heads, Nodes}
+use Rattle.sums.proofs.SumLaws.{summed_start, summed_next, summed_end, count_sum}
 use Rattle.shelf_files.proofs.TreeLaws.{no_heads, no_nodes}
-use Rattle.shelf_holdings.specs.Holdings.{is_entry, entries, is_file, files}
-use Rattle.shelf_holdings.specs.CodeEntries.{slot_records, records_by_entries}
+use Rattle.shelf_holdings.specs.Holdings.{entries, files}
+use Rattle.shelf_holdings.specs.CodeEntries.{records_by_entries}
 use borrow.Author.Rules.{rules}
 use Rattle.shelf_holdings.proofs.count.Goals as goal
-
-record SoFar (g : Geometry) (v heads nodes : List ℕ) (f e r i : ℕ) : Type 0 where
-  low : i ≤ slots g
-  few_files : f ≤ i
-  few_entries : e ≤ i
-  few_records : r ≤ 512 * i
-  files_are : Summed (λ j. cond (is_file g v j) 1 0) (slots g) f i
-  entries_are : Summed (λ j. cond (is_entry g v j) 1 0) (slots g) e i
-  records_are : Summed (slot_records g v) (slots g) r i
-  begin : Heads g v heads i
-  go_on : Nodes g v nodes i
 
 -- nothing is kept yet
 no_begin : (n c : ℕ) → byte (replicate n 0) c ≡ 0

@@ -1,20 +1,26 @@
 -- Files, entries and records of the slots passed so far are added up, and their files are in the tree.
-use mathlib.Core.Path.{◌≡◌, refl, sym, ◌∙◌}
 use mathlib.Core.Bool.{cond}
 use mathlib.Core.List.{List}
-use Prim.Native.Nat.{ℕ, zero, suc, ◌+◌, ◌-◌, ◌*◌, ◌≤◌}
-use lib.ListN.{replicate}
-use native.Mathlib.Omega.{arith}
-use Rattle.lists.specs.Bytes.{byte}
-use Rattle.sums.proofs.SumLaws.{Summed, summed_start, summed_next, summed_end, count_sum}
+use Prim.Native.Nat.{ℕ, ◌-◌, ◌*◌, ◌≤◌}
+use Rattle.sums.proofs.SumLaws.{Summed}
 use Rattle.disk_geometry.specs.declared.Geometry.{Geometry}
 use Rattle.disk_geometry.specs.Geometry.{slots}
 use Rattle.shelf_files.specs.CodeTree.{Heads, Nodes}
-use Rattle.shelf_files.proofs.TreeLaws.{no_heads, no_nodes}
-use Rattle.shelf_holdings.specs.Holdings.{is_entry, entries, is_file, files}
-use Rattle.shelf_holdings.specs.CodeEntries.{slot_records, records_by_entries}
-use borrow.Author.Rules.{rules}
+use Rattle.shelf_holdings.specs.Holdings.{is_entry, is_file}
+use Rattle.shelf_holdings.specs.CodeEntries.{slot_records}
 use Rattle.shelf_holdings.proofs.count.Given as goal
+
+-- the slots passed so far
+pub record SoFar (g : Geometry) (v heads nodes : List ℕ) (f e r i : ℕ) : Type 0 where
+  pub low : i ≤ slots g
+  pub few_files : f ≤ i
+  pub few_entries : e ≤ i
+  pub few_records : r ≤ 512 * i
+  pub files_are : Summed (λ j. cond (is_file g v j) 1 0) (slots g) f i
+  pub entries_are : Summed (λ j. cond (is_entry g v j) 1 0) (slots g) e i
+  pub records_are : Summed (slot_records g v) (slots g) r i
+  pub begin : Heads g v heads i
+  pub go_on : Nodes g v nodes i
 
 abbrev pub invariant-loop-i : goal.invariant-loop-i
 invariant-loop-i l = SoFar l.g l.volume l.heads l.nodes l.c.files l.c.entries l.c.records l.i

@@ -1,20 +1,11 @@
 -- Of the places passed so far the records are added up; what is left of the run begins at the next place.
-use mathlib.Core.Path.{◌≡◌, ap}
-use mathlib.Core.List.{List}
-use Prim.Native.Nat.{ℕ, ◌+◌, ◌-◌, ◌*◌, ◌≤◌}
+use mathlib.Core.Path.{ap}
+use Prim.Native.Nat.{ℕ, ◌+◌}
 use native.Mathlib.Omega.{arith}
-use Rattle.sums.proofs.SumLaws.{Summed, summed_start, summed_next, summed_end}
-use Rattle.disk_geometry.specs.declared.Geometry.{Geometry}
-use Rattle.disk_geometry.specs.Geometry.{records, places}
-use Rattle.shelf_holdings.specs.CodeEntries.{run, place_records, entry_records}
+use Rattle.sums.proofs.SumLaws.{summed_start, summed_next, summed_end}
+use Rattle.shelf_holdings.specs.CodeEntries.{entry_records}
 use borrow.Author.Rules.{rules}
 use Rattle.shelf_holdings.proofs.entry_records.Goals as goal
-
-record SoFar (g : Geometry) (e : List ℕ) (left m p : ℕ) : Type 0 where
-  low : p ≤ places g
-  few : m ≤ 32 * p
-  rest : left ≡ run g e - p * records g
-  sum : Summed (place_records g e) (places g) m p
 
 pub loop-p-init : goal.loop-p-init
 loop-p-init c = record { low = search rules; few = search rules; rest = omega arith; sum = summed_start }

@@ -1,6 +1,5 @@
 -- 1 where the test is met, 0 where it is not.
 use native.Mathlib.Omega.{arith}
-use borrow.Author.Rules.{rules}
 use Rattle.shelf_holdings.proofs.one_if.Goals as goal
 
 pub returns-then-t : goal.returns-then-t

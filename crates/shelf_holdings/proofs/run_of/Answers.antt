@@ -6,29 +6,33 @@ use native.Mathlib.Omega.{arith}
 use Rattle.lists.specs.Bytes.{byte}
 use Rattle.disk_geometry.proofs.GeometryLaws.{bounds}
 use Rattle.disk_volume.proofs.EntryLaws.{count_own}
-use borrow.Author.Rules.{rules}
 use Rattle.shelf_holdings.proofs.run_of.Goals as goal
-
--- TODO place After-extents 
--- there are at most four extents, so at most three are below
-few_below : (c : goal.After-extents) → c.extent_of-x.result % c.extents.result < 4
-few_below c =
-    let b = bounds _ c.requires.0 in
-    let some : 0 < c.extents.result = omega (arith, c.extents.ensures, b.some_extents) in
-    let four : c.extents.result ≤ 4 = omega (arith, c.extents.ensures, b.block_high) in
-    omega (arith, mod-lt c.extent_of-x.result some)
 
 pub nonzero_rem-result : goal.nonzero_rem-result
 nonzero_rem-result c = omega (arith, c.extents.ensures, (bounds _ c.requires.0).some_extents)
 
 pub overflow_mul-result : goal.overflow_mul-result
-overflow_mul-result c = omega (arith, few_below c)
+overflow_mul-result c =
+    let few_below : c.extent_of-x.result % c.extents.result < 4 = (let b = bounds _ c.requires.0 in
+    let some : 0 < c.extents.result = omega (arith, c.extents.ensures, b.some_extents) in
+    let four : c.extents.result ≤ 4 = omega (arith, c.extents.ensures, b.block_high) in
+    omega (arith, mod-lt c.extent_of-x.result some)) in
+    omega (arith, few_below)
 
 pub overflow_add-result : goal.overflow_add-result
-overflow_add-result c = omega (arith, few_below c, c.wide.ensures.0, c.count_of.ensures.1)
+overflow_add-result c =
+    let few_below : c.extent_of-x.result % c.extents.result < 4 = (let b = bounds _ c.requires.0 in
+    let some : 0 < c.extents.result = omega (arith, c.extents.ensures, b.some_extents) in
+    let four : c.extents.result ≤ 4 = omega (arith, c.extents.ensures, b.block_high) in
+    omega (arith, mod-lt c.extent_of-x.result some)) in
+    omega (arith, few_below, c.wide.ensures.0, c.count_of.ensures.1)
 
 pub returns : goal.returns
 returns c =
+    let few_below : c.extent_of-x.result % c.extents.result < 4 = (let b = bounds _ c.requires.0 in
+    let some : 0 < c.extents.result = omega (arith, c.extents.ensures, b.some_extents) in
+    let four : c.extents.result ≤ 4 = omega (arith, c.extents.ensures, b.block_high) in
+    omega (arith, mod-lt c.extent_of-x.result some)) in
     let a = c.args in
     let own : c.wide.result ≡ min (byte a.e.now 15) 128 = c.wide.ensures.0 ∙ c.count_of.ensures.0 ∙ count_own a.e.now c.extent_of-x.result c.extent_of-x.ensures.0 in
-    (rw (own, c.extent_of-x.ensures.0, c.extents.ensures), omega (arith, few_below c, c.wide.ensures.0, c.count_of.ensures.1))
+    (rw (own, c.extent_of-x.ensures.0, c.extents.ensures), omega (arith, few_below, c.wide.ensures.0, c.count_of.ensures.1))

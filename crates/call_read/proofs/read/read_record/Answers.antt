@@ -10,8 +10,8 @@ use Rattle.call_read.proofs.read.read_record.Goals as goal
 pub act-requires : goal.act-requires
 unfolding name_at part
 act-requires c =
-    let goes : (let a = c.args in Goes a.g a.volume.now a.user (name_of a.fcb.now) a.n a.missing c.slot-1.given.0.0 c.slot-1.given.0.1.0) = (let a = c.args in
-    plan_go a.g a.volume.now a.user (name_of a.fcb.now) a.n a.missing c.requires.n_lt_file_records.1 c.slot-1.given.0.0 c.slot-1.given.0.1.0 (sym c.plan.ensures ∙ c.in-Go.is)) in
+    let goes : (let a = c.args in Goes a.g a.volume.now a.user (name_of a.fcb.now) a.n a.missing c.in-Go.slot c.in-Go.block) = (let a = c.args in
+    plan_go a.g a.volume.now a.user (name_of a.fcb.now) a.n a.missing c.requires.n_lt_file_records.1 c.in-Go.slot c.in-Go.block (sym c.plan.ensures ∙ c.in-Go.is)) in
     let k = goes in
     record {
       volume_and = c.requires.volume_and;
@@ -22,7 +22,7 @@ pub returns-in-No : goal.returns-in-No
 unfolding name_at part
 returns-in-No c =
     let a = c.args in
-    let k = plan_no a.g a.volume.now a.user (name_of a.fcb.now) a.n a.missing c.requires.n_lt_file_records.1 c.why-1.given.0.0 (sym c.plan.ensures ∙ c.in-No.is) in
+    let k = plan_no a.g a.volume.now a.user (name_of a.fcb.now) a.n a.missing c.requires.n_lt_file_records.1 c.in-No.why (sym c.plan.ensures ∙ c.in-No.is) in
     record {
       value = k.0;
       fcb_after = rw k.1;
@@ -32,8 +32,8 @@ returns-in-No c =
 pub returns-in-Go : goal.returns-in-Go
 unfolding read_bytes name_at part
 returns-in-Go c =
-    let goes : (let a = c.args in Goes a.g a.volume.now a.user (name_of a.fcb.now) a.n a.missing c.slot-1.given.0.0 c.slot-1.given.0.1.0) = (let a = c.args in
-    plan_go a.g a.volume.now a.user (name_of a.fcb.now) a.n a.missing c.requires.n_lt_file_records.1 c.slot-1.given.0.0 c.slot-1.given.0.1.0 (sym c.plan.ensures ∙ c.in-Go.is)) in
+    let goes : (let a = c.args in Goes a.g a.volume.now a.user (name_of a.fcb.now) a.n a.missing c.in-Go.slot c.in-Go.block) = (let a = c.args in
+    plan_go a.g a.volume.now a.user (name_of a.fcb.now) a.n a.missing c.requires.n_lt_file_records.1 c.in-Go.slot c.in-Go.block (sym c.plan.ensures ∙ c.in-Go.is)) in
     let k = goes in
     record {
       value = sym k.clear;

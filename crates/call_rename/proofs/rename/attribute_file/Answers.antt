@@ -23,19 +23,19 @@ change_most-requires c =
 pub returns-then-is_none : goal.returns-then-is_none
 returns-then-is_none c =
     let why : (let a = c.args in c.first_of-why.result ≡ first a.before (first_met (test NoMatch (leb (slots a.g) (find_slot a.g a.volume.now a.user (strip a.name.now) File)) ∷ []))) = (let a = c.args in
-      rw (← ladder_one NoMatch (leb (slots a.g) (find_slot a.g a.volume.now a.user (strip a.name.now) File)) refl, ← c.find-first.ensures.0, ← c.slots.ensures.0, ← c.refuse-no_match.ensures) c.first_of-why.ensures) in
+    rw (← ladder_one NoMatch (leb (slots a.g) (find_slot a.g a.volume.now a.user (strip a.name.now) File)) refl, ← c.find-first.ensures.0, ← c.slots.ensures.0, ← c.refuse-no_match.ensures) c.first_of-why.ensures) in
     let n = sym c.is_none.ensures ∙ c.if-is_none.true in
     let o = c.change_most in
     record {
       value = why;
-      volume_after = rw n o.ensures.0;
-      left_after = rw n o.ensures.1;
+      volume_after = rw n o.ensures.volume_after;
+      left_after = rw n o.ensures.left_after;
     }
 
 pub returns-else-is_none : goal.returns-else-is_none
 returns-else-is_none c =
     let why : (let a = c.args in c.first_of-why.result ≡ first a.before (first_met (test NoMatch (leb (slots a.g) (find_slot a.g a.volume.now a.user (strip a.name.now) File)) ∷ []))) = (let a = c.args in
-      rw (← ladder_one NoMatch (leb (slots a.g) (find_slot a.g a.volume.now a.user (strip a.name.now) File)) refl, ← c.find-first.ensures.0, ← c.slots.ensures.0, ← c.refuse-no_match.ensures) c.first_of-why.ensures) in
+    rw (← ladder_one NoMatch (leb (slots a.g) (find_slot a.g a.volume.now a.user (strip a.name.now) File)) refl, ← c.find-first.ensures.0, ← c.slots.ensures.0, ← c.refuse-no_match.ensures) c.first_of-why.ensures) in
     let n = sym c.is_none.ensures ∙ c.if-is_none.false in
     record {
       value = why;

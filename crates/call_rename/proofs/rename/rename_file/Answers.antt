@@ -18,8 +18,8 @@ returns-then-is_none c =
     let o = c.change_most in
     record {
       value = c.first_of-why.ensures ∙ ap (first c.args.before) c.rename_why.ensures;
-      volume_after = rw n o.ensures.0;
-      left_after = rw n o.ensures.1;
+      volume_after = rw n o.ensures.volume_after;
+      left_after = rw n o.ensures.left_after;
     }
 
 pub returns-else-is_none : goal.returns-else-is_none

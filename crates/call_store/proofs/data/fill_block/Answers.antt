@@ -21,7 +21,7 @@ pub loop-k-preserved : goal.loop-k-preserved
 loop-k-preserved c =
     let l = c.loop-k in
     let o = c.fill_record in
-    (search rules, (o.auto.1.0 ∙ l.invariant.1.0, filled_next l.invariant.1.1 (search rules) o.ensures.0 o.ensures.1))
+    (search rules, (o.auto.volume ∙ l.invariant.1.0, filled_next l.invariant.1.1 (search rules) o.ensures.volume_after o.ensures.left_after))
 
 pub returns : goal.returns
-returns c = filled_end c.loop-k.invariant.1.1 (search rules)
+returns c = let o = filled_end c.loop-k.invariant.1.1 (search rules) in record { volume_after = o.0; left_after = o.1 }

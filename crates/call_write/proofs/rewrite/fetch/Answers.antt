@@ -1,5 +1,6 @@
 -- By the two ways of the test; the record is lent from where the definition has it.
-use mathlib.Core.Path.{◌≡◌}
+use mathlib.Core.Bool.{not}
+use mathlib.Core.Path.{◌≡◌, ap}
 use Prim.Native.Nat.{◌+◌, ◌-◌}
 use native.Mathlib.Omega.{arith}
 use borrow.Author.Tests.{not-true, not-false}
@@ -11,7 +12,7 @@ use Rattle.call_write.proofs.rewrite.fetch.Goals as goal
 pub returns-then-not-is_counted : goal.returns-then-not-is_counted
 returns-then-not-is_counted c =
     let k = c.is_counted in
-    rw (← k.ensures, not-true k.result c.if-not-is_counted.true)
+    rw (← k.ensures, not-true k.result (ap not c.if-not-is_counted.true))
 
 pub returns : goal.returns
 unfolding record_at part
@@ -19,4 +20,4 @@ returns c =
     let k = c.is_counted in
     let at = c.record_start-at in
     let z : at.result + 128 - at.result ≡ 128 = omega arith in
-    rw (← k.ensures, not-false k.result c.if-not-is_counted.false, ← at.ensures.0) (rw z at c.copy.ensures)
+    rw (← k.ensures, not-false k.result (ap not c.if-not-is_counted.false), ← at.ensures.0) (rw z at c.copy.ensures)

@@ -13,45 +13,40 @@ use Rattle.call_write.specs.Rewrite.{with_first_two, bytes_of}
 use Rattle.call_write.proofs.DecidedLaws.{wrote_nothing, wrote, slot_fits_lem, block_fits, shown_counted}
 use Rattle.call_write.proofs.write.write_record.Goals as goal
 
--- the bytes that are written
-abbrev bytes : (s : tie.Start) → List ℕ
-bytes s = let a = s.args in bytes_of a.g a.volume.now a.user (name_of a.fcb.now) a.n a.buffer.now a.again a.low a.high
-
 pub returns-then-not-is_none : goal.returns-then-not-is_none
 unfolding name_at part
 returns-then-not-is_none c =
     let a = c.args in
-    let met : is_none c.decide-plan.result.why ≡ false = sym c.is_none.ensures ∙ not-true c.is_none.result c.if-not-is_none.true in
-    wrote_nothing a.g a.fills a.volume.now a.fcb.now (bytes s) a.user a.held.now a.n a.cr a.left.now c.decide-plan.ensures.why_value met
+    let bytes = bytes_of a.g a.volume.now a.user (name_of a.fcb.now) a.n a.buffer.now a.again a.low a.high in
+    let met : is_none c.decide-plan.result.why ≡ false = sym c.is_none.ensures ∙ c.if-not-is_none.true in
+    wrote_nothing a.g a.fills a.volume.now a.fcb.now bytes a.user a.held.now a.n a.cr a.left.now c.decide-plan.ensures.why_value met
 
 pub write_decided-requires : goal.write_decided-requires
 unfolding name_at part
 write_decided-requires c =
-    let none_met : is_none c.decide-plan.result.why ≡ true = sym c.is_none.ensures ∙ not-false c.is_none.result c.if-not-is_none.false in
-    let decided : (let a = c.args in let r = c.decide-plan.result in Decided a.g a.held.now a.volume.now a.user (name_of a.fcb.now) a.n r.slot r.block r.fresh c.decide-plan.new.1.1.1.1.1.1.0) = c.decide-plan.ensures.decided none_met in
+    let none_met : is_none c.decide-plan.result.why ≡ true = sym c.is_none.ensures ∙ c.if-not-is_none.false in
+    let decided : (let a = c.args in let r = c.decide-plan.result in Decided a.g a.held.now a.volume.now a.user (name_of a.fcb.now) a.n r.slot r.block r.fresh c.decide-plan.new.e) = c.decide-plan.ensures.decided none_met in
     let a = c.args in
+    let bytes = bytes_of a.g a.volume.now a.user (name_of a.fcb.now) a.n a.buffer.now a.again a.low a.high in
     let w = c.decide-plan.ensures.why_value in
     let none = none_met in
-    let d = decided in (
-      c.requires.volume,
-      (
-        c.requires.fcb,
-        (
+    let d = decided in record { volume = c.requires.volume; fcb = c.requires.fcb; entry = (
           search rules,
           (
-            slot_fits_lem a.g a.fills a.volume.now a.fcb.now (bytes s) a.user a.held.now a.n a.cr a.left.now w none d,
-            block_fits a.g a.fills a.volume.now a.fcb.now (bytes s) a.user a.held.now a.n a.cr a.left.now w none d,
+            slot_fits_lem a.g a.fills a.volume.now a.fcb.now bytes a.user a.held.now a.n a.cr a.left.now w none d,
+            block_fits a.g a.fills a.volume.now a.fcb.now bytes a.user a.held.now a.n a.cr a.left.now w none d,
           ),
-        ),
-      ),
-    )
+        ) }
 
 pub returns : goal.returns
 unfolding name_at part
 returns c =
+    let none_met : is_none c.decide-plan.result.why ≡ true = sym c.is_none.ensures ∙ c.if-not-is_none.false in
+    let decided : (let a = c.args in let r = c.decide-plan.result in Decided a.g a.held.now a.volume.now a.user (name_of a.fcb.now) a.n r.slot r.block r.fresh c.decide-plan.new.e) = c.decide-plan.ensures.decided none_met in
     let a = c.args in
+    let bytes = bytes_of a.g a.volume.now a.user (name_of a.fcb.now) a.n a.buffer.now a.again a.low a.high in
     let w = c.decide-plan.ensures.why_value in
-    let d = decided e in
-    let shown = shown_counted a.g a.held.now a.volume.now a.user (name_of a.fcb.now) a.n c.requires.volume.0.0 c.requires.volume.0.1 (ap is_none (sym w) ∙ none_met e) d.entry_is d.block_is in
+    let d = decided in
+    let shown = shown_counted a.g a.held.now a.volume.now a.user (name_of a.fcb.now) a.n c.requires.volume.0.0 c.requires.volume.0.1 (ap is_none (sym w) ∙ none_met) d.entry_is d.block_is in
     let b = ap (λ (x : List ℕ). cond a.again (with_first_two a.low a.high x) a.buffer.now) shown in
-    wrote a.g a.fills a.volume.now a.fcb.now (bytes s) a.user a.held.now a.n a.cr a.left.now w (none_met e) d (rw b at c.write_decided.ensures)
+    wrote a.g a.fills a.volume.now a.fcb.now bytes a.user a.held.now a.n a.cr a.left.now w none_met d (rw b at c.write_decided.ensures)

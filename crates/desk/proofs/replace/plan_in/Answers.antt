@@ -8,29 +8,29 @@ use borrow.Author.Rules.{rules}
 use Rattle.desk.proofs.replace.plan_in.Goals as goal
 
 pub returns-then-not-are_good : goal.returns-then-not-are_good
-returns-then-not-are_good c = λ (held : List ℕ). (bad_contents _ _ _ _ _ (sym c.are_good.ensures ∙ not-true c.are_good.result c.if-not-are_good.true), tt)
+returns-then-not-are_good c = λ (held : List ℕ). (bad_contents _ _ _ _ _ (sym c.are_good.ensures ∙ c.if-not-are_good.true), tt)
 
 pub returns-then-listed-ge-FILE_RECORDS : goal.returns-then-listed-ge-FILE_RECORDS
 returns-then-listed-ge-FILE_RECORDS c = λ (held : List ℕ).
-    let g = sym c.are_good.ensures ∙ not-false c.are_good.result c.if-not-are_good.false in
+    let g = sym c.are_good.ensures ∙ c.if-not-are_good.false in
     (too_many _ _ _ _ _ g (rw (← c.listed-listed.ensures.0) c.if-listed-ge-FILE_RECORDS.true), tt)
 
 pub returns-then-place-ge-PLACES : goal.returns-then-place-ge-PLACES
 returns-then-place-ge-PLACES c = λ (held : List ℕ).
-    let g = sym c.are_good.ensures ∙ not-false c.are_good.result c.if-not-are_good.false in
+    let g = sym c.are_good.ensures ∙ c.if-not-are_good.false in
     (no_chapter _ _ _ _ _ g (rw (← c.listed-listed.ensures.0) c.if-listed-ge-FILE_RECORDS.false) (rw (← c.place_of-place.ensures.0) c.if-place-ge-PLACES.true), tt)
 
 pub returns-then-not-sift : goal.returns-then-not-sift
 returns-then-not-sift c = λ (held : List ℕ).
-    let g = sym c.are_good.ensures ∙ not-false c.are_good.result c.if-not-are_good.false in (
+    let g = sym c.are_good.ensures ∙ c.if-not-are_good.false in (
       not_all _ _ _ _ _ g (rw (← c.listed-listed.ensures.0) c.if-listed-ge-FILE_RECORDS.false) (rw (← c.place_of-place.ensures.0) c.if-place-ge-PLACES.false)
-          (rw (← c.listed-listed.ensures.0) (sym (c.sift.ensures held).all_read ∙ not-true c.sift.result c.if-not-sift.true)),
+          (rw (← c.listed-listed.ensures.0) (sym (c.sift.ensures held).all_read ∙ c.if-not-sift.true)),
       tt,
     )
 
 pub returns : goal.returns
 returns c = λ (held : List ℕ).
-    let g = sym c.are_good.ensures ∙ not-false c.are_good.result c.if-not-are_good.false in
+    let g = sym c.are_good.ensures ∙ c.if-not-are_good.false in
     let s = c.sift in
     planned_go _ _ _ _ _ _ _ c.requires.0 g c.listed-listed.ensures.0 c.if-listed-ge-FILE_RECORDS.false c.place_of-place.ensures.0 c.if-place-ge-PLACES.false (s.ensures held)
-    c.if-not-sift.false c.first_at.ensures.0 c.count_at.ensures.0
+    (c.if-not-sift.false) c.first_at.ensures.0 c.count_at.ensures.0

@@ -21,7 +21,7 @@ loop-n-init c = (search rules, (search rules, (refl, (refl, λ (held : List ℕ)
 pub returns-then-not-is_none : goal.returns-then-not-is_none
 returns-then-not-is_none c = λ (held : List ℕ).
     let l = c.loop-n in
-    let unread = ap is_none (sym (c.show.ensures held).0) ∙ sym c.is_none.ensures ∙ not-true c.is_none.result c.if-not-is_none.true in
+    let unread = ap is_none (sym (c.show.ensures held).0) ∙ sym c.is_none.ensures ∙ c.if-not-is_none.true in
     record { all_read = sym (passed_fails (l.invariant.1.1.1.1 held).0 (search rules) unread) ∙ every_one _ _; right = λ e. absurd (false≢true e) }
 
 pub loop-n-preserved : goal.loop-n-preserved

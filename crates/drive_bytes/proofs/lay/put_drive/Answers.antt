@@ -32,7 +32,7 @@ returns c =
     let a = c.args in
     let d = a.d in
     let q = d.search in
-    let size = sym c.out-4-1.given ∙ same_length c ∙ c.requires in
+    let size = c.out-3-1.given.1 ∙ c.out-2-1.given.1 ∙ c.out-1.given.1 ∙ c.requires in
     let w = counted (blocks d.geometry) size c.words_in-n.ensures in
     c.words.ensures
     ∙ rw (w.stored, c.put_head.ensures, c.put_search.ensures, c.put_eight.ensures, placing_word d.geometry)

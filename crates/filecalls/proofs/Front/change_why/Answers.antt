@@ -1,6 +1,6 @@
 -- What is lent is asked first; then protection, the file, and whether one of its entries is read_only.
-use mathlib.Core.Path.{refl, sym, ◌∙◌}
-use mathlib.Core.Bool.{false}
+use mathlib.Core.Path.{refl, sym, ◌∙◌, ap}
+use mathlib.Core.Bool.{false, not}
 use mathlib.Core.List.{List, [], ◌∷◌}
 use Prim.Native.Nat.{ℕ}
 use native.Mathlib.Omega.{arith}
@@ -22,37 +22,44 @@ use Rattle.filecalls.proofs.OutcomeLaws.{refuses}
 use Rattle.filecalls.proofs.StateLaws.{Named, named, no_buffer}
 use Rattle.filecalls.proofs.Front.change_why.Goals as goal
 
--- TODO place Else-not-is_none 
--- the tests of what is lent have passed
-clear : (held : List ℕ) (c : goal.Else-not-is_none) → Named (joined c.args.self held) c.args.volume.now c.args.fcb.now false
-clear held c = named _ _ _ false (c.named_why-why.ensures held) c.is_none.ensures c.if-not-is_none.false
-
 pub returns-then-not-is_none : goal.returns-then-not-is_none
 unfolding change_tests
 returns-then-not-is_none c = λ (held : List ℕ).
     let a = c.args in
     let xs = plain_tests (joined a.self held) a.volume.now a.fcb.now false in
     let e = c.named_why-why.ensures held ∙ no_buffer (joined a.self held) a.volume.now a.fcb.now false in
-    e ∙ sym (ladder_stop xs _ (refuses xs e c.is_none.ensures c.if-not-is_none.true))
+    e ∙ sym (ladder_stop xs _ (refuses xs e c.is_none.ensures (ap not c.if-not-is_none.true)))
 
 pub slots-slots-requires : goal.slots-slots-requires
-slots-slots-requires c = (clear [] c).lent.state.law
+slots-slots-requires c =
+    let clear : (held : List ℕ) → Named (joined c.args.self held) c.args.volume.now c.args.fcb.now false = λ (held : List ℕ). named _ _ _ false (c.named_why-why.ensures held) c.is_none.ensures (ap not c.if-not-is_none.false) in
+    (clear []).lent.state.law
 
 pub slice_bounds-find-end : goal.slice_bounds-find-end
-slice_bounds-find-end c = omega (arith, (clear [] c).lent.fcb)
+slice_bounds-find-end c =
+    let clear : (held : List ℕ) → Named (joined c.args.self held) c.args.volume.now c.args.fcb.now false = λ (held : List ℕ). named _ _ _ false (c.named_why-why.ensures held) c.is_none.ensures (ap not c.if-not-is_none.false) in
+    omega (arith, (clear []).lent.fcb)
 
 pub find-lowest-requires : goal.find-lowest-requires
-find-lowest-requires c = let l = (clear [] c).lent in (l.state.law, (l.volume, search rules))
+find-lowest-requires c =
+    let clear : (held : List ℕ) → Named (joined c.args.self held) c.args.volume.now c.args.fcb.now false = λ (held : List ℕ). named _ _ _ false (c.named_why-why.ensures held) c.is_none.ensures (ap not c.if-not-is_none.false) in
+    let l = (clear []).lent in (l.state.law, (l.volume, search rules))
 
 pub slice_bounds-find-end-2 : goal.slice_bounds-find-end-2
-slice_bounds-find-end-2 c = omega (arith, (clear [] c).lent.fcb)
+slice_bounds-find-end-2 c =
+    let clear : (held : List ℕ) → Named (joined c.args.self held) c.args.volume.now c.args.fcb.now false = λ (held : List ℕ). named _ _ _ false (c.named_why-why.ensures held) c.is_none.ensures (ap not c.if-not-is_none.false) in
+    omega (arith, (clear []).lent.fcb)
 
 pub find-read_only-requires : goal.find-read_only-requires
-find-read_only-requires c = let l = (clear [] c).lent in (l.state.law, (l.volume, search rules))
+find-read_only-requires c =
+    let clear : (held : List ℕ) → Named (joined c.args.self held) c.args.volume.now c.args.fcb.now false = λ (held : List ℕ). named _ _ _ false (c.named_why-why.ensures held) c.is_none.ensures (ap not c.if-not-is_none.false) in
+    let l = (clear []).lent in (l.state.law, (l.volume, search rules))
 
 pub returns : goal.returns
 unfolding change_tests name_at part
-returns c = λ (held : List ℕ).
+returns c =
+    let clear : (held : List ℕ) → Named (joined c.args.self held) c.args.volume.now c.args.fcb.now false = λ (held : List ℕ). named _ _ _ false (c.named_why-why.ensures held) c.is_none.ensures (ap not c.if-not-is_none.false) in
+    λ (held : List ℕ).
     let a = c.args in
     let d = joined a.self held in
     let v = a.volume.now in
@@ -62,4 +69,4 @@ returns c = λ (held : List ℕ).
     c.first_of-2.ensures
     ∙ rw (c.first_of.ensures, c.refuse-a.ensures, c.refuse-b.ensures, c.refuse-c.ensures, c.find-lowest.ensures.0, c.find-read_only.ensures.0, c.slots-slots.ensures.0)
     (ladder_three Protected NoFile ReadOnly d.protected missing read_only refl)
-    ∙ sym (ladder_pass (plain_tests d v f false) (protected_drive d ∷ test NoFile missing ∷ test ReadOnly read_only ∷ []) (clear held c).none)
+    ∙ sym (ladder_pass (plain_tests d v f false) (protected_drive d ∷ test NoFile missing ∷ test ReadOnly read_only ∷ []) (clear held).none)

@@ -12,38 +12,38 @@ use Rattle.disk_volume.specs.Entry.{matches}
 use Rattle.call_sweep.specs.Sweep.{erased}
 use Rattle.call_delete.specs.Delete.{delete_tests, free_matches}
 use Rattle.lists.specs.Bytes.{part}
-use mathlib.Core.Bool.{true}
+use mathlib.Core.Bool.{true, not}
 use Rattle.filecalls.proofs.OutcomeLaws.{either}
 use Rattle.filecalls.proofs.StateLaws.{Named, named}
 use Rattle.disk_volume.specs.Name.{name_at, name_of}
 use native.Mathlib.Omega.{arith}
 use mathlib.Core.List.{List, [], ◌∷◌}
-use mathlib.Core.Path.{refl, ◌∙◌}
+use mathlib.Core.Path.{refl, ◌∙◌, ap}
 use Prim.Native.Nat.{ℕ}
 use borrow.Author.Rules.{rules}
 use Rattle.filecalls.specs.CodeFront.{joined}
 use Rattle.filecalls.proofs.Front.delete_most.Goals as goal
 
--- TODO place Else-not-is_none 
--- the tests of what is lent have passed
-clear : (held : List ℕ) (c : goal.Else-not-is_none) → Named (joined c.args.self held) c.args.volume.now c.args.fcb.now true
-clear held c = named _ _ _ true (c.named_why-why.ensures held) c.is_none.ensures c.if-not-is_none.false
-
 pub returns-then-not-is_none : goal.returns-then-not-is_none
 unfolding delete_act delete_ladder
 returns-then-not-is_none c =
     let a = c.args in
-    cut_named_no (joined a.self a.held.now) a.volume.now a.fcb.now a.left.now true _ _ (c.named_why-why.ensures a.held.now) c.is_none.ensures c.if-not-is_none.true (c.refused.ensures a.held.now)
+    cut_named_no (joined a.self a.held.now) a.volume.now a.fcb.now a.left.now true _ _ (c.named_why-why.ensures a.held.now) c.is_none.ensures (ap not c.if-not-is_none.true) (c.refused.ensures a.held.now)
 
 pub slice_bounds-delete_matches-end : goal.slice_bounds-delete_matches-end
-slice_bounds-delete_matches-end c = omega (arith, (clear [] c).lent.fcb)
+slice_bounds-delete_matches-end c =
+    let clear : (held : List ℕ) → Named (joined c.args.self held) c.args.volume.now c.args.fcb.now true = λ (held : List ℕ). named _ _ _ true (c.named_why-why.ensures held) c.is_none.ensures (ap not c.if-not-is_none.false) in
+    omega (arith, (clear []).lent.fcb)
 
 pub delete_matches-why-requires : goal.delete_matches-why-requires
-delete_matches-why-requires c = let l = (clear [] c).lent in ((l.state.law, (l.volume, search rules)), search rules)
+delete_matches-why-requires c =
+    let clear : (held : List ℕ) → Named (joined c.args.self held) c.args.volume.now c.args.fcb.now true = λ (held : List ℕ). named _ _ _ true (c.named_why-why.ensures held) c.is_none.ensures (ap not c.if-not-is_none.false) in
+    let l = (clear []).lent in record { volume_and = (l.state.law, (l.volume, search rules)); held_len = search rules }
 
 pub returns : goal.returns
 unfolding delete_act delete_ladder changed_state name_at part
 returns c =
+    let clear : (held : List ℕ) → Named (joined c.args.self held) c.args.volume.now c.args.fcb.now true = λ (held : List ℕ). named _ _ _ true (c.named_why-why.ensures held) c.is_none.ensures (ap not c.if-not-is_none.false) in
     let a = c.args in
     let d = joined a.self a.held.now in
     let v = a.volume.now in
@@ -51,6 +51,6 @@ returns c =
     let name = name_of f in
     let m = c.delete_matches-why in
     let t = is_none m.result in
-    cut_named_decided d v f a.left.now (clear d.held c) 0 (frees d.user name) (sweep_stores d.geometry (matches d.user name) erased v 0 (directory_records d.geometry)) f _
-    (after (protected_drive d ∷ []) (delete_tests d.geometry v d.user name) (c.refuse-before.ensures ∙ ladder_one Protected d.protected refl) m.ensures.0)
-    (held_or d t (free_matches d.geometry v d.user name d.held) m.ensures.1.0) m.ensures.1.1.0 (either t f) m.ensures.1.1.1 (c.answered.ensures _)
+    cut_named_decided d v f a.left.now (clear d.held) 0 (frees d.user name) (sweep_stores d.geometry (matches d.user name) erased v 0 (directory_records d.geometry)) f _
+    (after (protected_drive d ∷ []) (delete_tests d.geometry v d.user name) (c.refuse-before.ensures ∙ ladder_one Protected d.protected refl) m.ensures.value)
+    (held_or d t (free_matches d.geometry v d.user name d.held) m.ensures.held_after) m.ensures.volume_after (either t f) m.ensures.left_after (c.answered.ensures _)

@@ -1,4 +1,5 @@
 -- The geometry is asked first, since the number of slots rests on it; a search only where one is kept.
+use mathlib.Core.Bool.{not}
 use Rattle.filecalls.specs.State.{good_kept}
 use borrow.Author.Tests.{not-true, not-false}
 use mathlib.Core.Path.{sym, ap, ◌∙◌}
@@ -15,7 +16,7 @@ returns-then-not-is_lawful-self c = λ (held : List ℕ). sym (outside_closed _ 
 pub returns-then-not-is_open_search : goal.returns-then-not-is_open_search
 returns-then-not-is_open_search c =
     λ (held : List ℕ). sym
-    (search_left _ c.is_lawful.ensures c.if-not-is_lawful-self.false
+    (search_left _ c.is_lawful.ensures (ap not c.if-not-is_lawful-self.false)
     ∙ (let q = c.args.self.search in not_kept q.kind q.user q.last q.pattern) _ (sym c.is_open_search.ensures ∙ c.if-not-is_open_search.true))
 
 pub slots-n-requires : goal.slots-n-requires
@@ -27,4 +28,4 @@ is_kept-requires c = (sym c.is_open_search.ensures ∙ c.if-not-is_open_search.f
 pub returns : goal.returns
 returns c =
     λ (held : List ℕ). c.is_kept.ensures ∙ ap (let q = c.args.self.search in good_kept q.kind q.user q.last q.pattern) c.slots-n.ensures.0
-    ∙ sym (search_left _ c.is_lawful.ensures c.if-not-is_lawful-self.false)
+    ∙ sym (search_left _ c.is_lawful.ensures (ap not c.if-not-is_lawful-self.false))

@@ -10,7 +10,7 @@ use mathlib.Core.List.{List, [], ◌∷◌}
 use Rattle.filecalls.proofs.StateLaws.{is_open_lem}
 use Rattle.filecalls.specs.CodeLadder.{lent_tests}
 use borrow.Author.Tests.{not-false}
-use mathlib.Core.Path.{◌≡◌, refl, sym, ◌∙◌}
+use mathlib.Core.Path.{◌≡◌, refl, sym, ◌∙◌, ap}
 use Prim.Native.Nat.{ℕ}
 use borrow.Author.Rules.{rules}
 use Rattle.filecalls.specs.CodeFront.{joined}
@@ -21,7 +21,7 @@ unfolding lent_tests first_met
 returns-then-not-is_open c = λ (held : List ℕ). rw (← c.is_open.ensures held, c.if-not-is_open.true)
 
 pub bytes-requires : goal.bytes-requires
-bytes-requires c = (is_open_lem _ (sym (c.is_open.ensures []) ∙ not-false c.is_open.result c.if-not-is_open.false)).law
+bytes-requires c = (is_open_lem _ (sym (c.is_open.ensures []) ∙ not-false c.is_open.result (ap not c.if-not-is_open.false))).law
 
 pub returns : goal.returns
 unfolding lent_tests first_met

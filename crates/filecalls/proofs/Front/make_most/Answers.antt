@@ -16,7 +16,7 @@ use Rattle.disk_volume.specs.declared.Wanted.TheVariants.{Empty}
 use Rattle.lists.specs.Bytes.{byte, part}
 use lib.Dec.{eqb}
 use Prim.Native.Nat.{ℕ, ◌%◌}
-use mathlib.Core.Bool.{false}
+use mathlib.Core.Bool.{false, not}
 use Rattle.filecalls.proofs.OutcomeLaws.{either}
 use Rattle.filecalls.proofs.StateLaws.{Named, named}
 use Rattle.disk_volume.specs.Name.{name_at, name_of}
@@ -26,26 +26,27 @@ use borrow.Author.Rules.{rules}
 use Rattle.filecalls.specs.CodeFront.{joined}
 use Rattle.filecalls.proofs.Front.make_most.Goals as goal
 
--- TODO place Else-not-is_none 
--- the tests of what is lent have passed
-clear : (held : List ℕ) (c : goal.Else-not-is_none) → Named (joined c.args.self held) c.args.volume.now c.args.fcb.now false
-clear held c = named _ _ _ false (c.named_why-why.ensures held) c.is_none.ensures c.if-not-is_none.false
-
 pub returns-then-not-is_none : goal.returns-then-not-is_none
 unfolding make_act make_ladder
 returns-then-not-is_none c = λ (held : List ℕ).
     let a = c.args in
-    cut_named_no (joined a.self held) a.volume.now a.fcb.now a.left.now false _ _ (c.named_why-why.ensures held) c.is_none.ensures c.if-not-is_none.true (c.refused.ensures held)
+    cut_named_no (joined a.self held) a.volume.now a.fcb.now a.left.now false _ _ (c.named_why-why.ensures held) c.is_none.ensures (ap not c.if-not-is_none.true) (c.refused.ensures held)
 
 pub new_file_why-file-requires : goal.new_file_why-file-requires
-new_file_why-file-requires c = (clear [] c).lent.fcb
+new_file_why-file-requires c =
+    let clear : (held : List ℕ) → Named (joined c.args.self held) c.args.volume.now c.args.fcb.now false = λ (held : List ℕ). named _ _ _ false (c.named_why-why.ensures held) c.is_none.ensures (ap not c.if-not-is_none.false) in
+    (clear []).lent.fcb
 
 pub make_file-made-requires : goal.make_file-made-requires
-make_file-made-requires c = let l = (clear [] c).lent in (l.state.law, (l.volume, l.fcb))
+make_file-made-requires c =
+    let clear : (held : List ℕ) → Named (joined c.args.self held) c.args.volume.now c.args.fcb.now false = λ (held : List ℕ). named _ _ _ false (c.named_why-why.ensures held) c.is_none.ensures (ap not c.if-not-is_none.false) in
+    let l = (clear []).lent in (l.state.law, (l.volume, l.fcb))
 
 pub returns : goal.returns
 unfolding make_act make_ladder changed_state entry_stores name_at part
-returns c = λ (held : List ℕ).
+returns c =
+    let clear : (held : List ℕ) → Named (joined c.args.self held) c.args.volume.now c.args.fcb.now false = λ (held : List ℕ). named _ _ _ false (c.named_why-why.ensures held) c.is_none.ensures (ap not c.if-not-is_none.false) in
+    λ (held : List ℕ).
     let a = c.args in
     let d = joined a.self held in
     let v = a.volume.now in
@@ -53,10 +54,10 @@ returns c = λ (held : List ℕ).
     let m = c.make_file-made in
     let t = is_none m.result.why in
     let slot = find_slot d.geometry v d.user (name_of f) Empty in
-    let e : m.result.slot ≡ slot = m.ensures.1.0 in
-    cut_named_decided d v f a.left.now (clear held c) (slot % 4) keeps (entry_stores d.geometry v slot (fresh_entry d.user (name_of f))) (made f (name_of f)) _
+    let e : m.result.slot ≡ slot = m.ensures.slot_value in
+    cut_named_decided d v f a.left.now (clear held) (slot % 4) keeps (entry_stores d.geometry v slot (fresh_entry d.user (name_of f))) (made f (name_of f)) _
     (after (untypeable f 1 ∷ too_large (eqb (byte f 12) 0) ∷ protected_drive d ∷ []) (make_tests d.geometry v d.user (name_of f))
     (after (untypeable f 1 ∷ too_large (eqb (byte f 12) 0) ∷ []) (protected_drive d ∷ []) c.new_file_why-file.ensures
     (c.first_of-before.ensures ∙ ap (first c.new_file_why-file.result) (c.refuse-protected.ensures ∙ ladder_one Protected d.protected refl)))
-    m.ensures.0)
-    (either t d) (rw (← e) m.ensures.1.1.0) m.ensures.1.1.1.0 m.ensures.1.1.1.1 (c.answered.ensures held ∙ rw e)
+    m.ensures.why_value)
+    (either t d) (rw (← e) m.ensures.volume_after) m.ensures.fcb_after m.ensures.left_after (c.answered.ensures held ∙ rw e)

@@ -5,35 +5,34 @@ use Rattle.call_open.specs.Open.{open_slot}
 use Rattle.call_fcb.specs.Fcb.{opened}
 use Rattle.disk_volume.specs.Directory.{slot_at}
 use Prim.Native.Nat.{ℕ, ◌%◌}
-use mathlib.Core.Bool.{true}
+use mathlib.Core.Bool.{true, not}
 use Rattle.filecalls.proofs.NamingLaws.{named_no, named_decided}
 use Rattle.filecalls.proofs.OutcomeLaws.{either}
 use Rattle.filecalls.proofs.StateLaws.{Named, named}
 use Rattle.disk_stores.specs.Stores.{laid}
 use Rattle.filecalls.specs.Outcome.{keeps, changed_state}
 use mathlib.Core.List.{List, []}
-use mathlib.Core.Path.{◌≡◌, ◌∙◌}
+use mathlib.Core.Path.{◌≡◌, ◌∙◌, ap}
 use borrow.Author.Rules.{rules}
 use Rattle.filecalls.specs.CodeFront.{joined}
 use Rattle.filecalls.proofs.Front.open_file.Goals as goal
-
--- TODO place Else-not-is_none 
--- the tests of what is lent have passed
-clear : (held : List ℕ) (c : goal.Else-not-is_none) → Named (joined c.args.self held) c.args.volume.now c.args.fcb.now true
-clear held c = named _ _ _ true (c.named_why-why.ensures held) c.is_none.ensures c.if-not-is_none.false
 
 pub returns-then-not-is_none : goal.returns-then-not-is_none
 unfolding open_act open_tests
 returns-then-not-is_none c = λ (held : List ℕ).
     let a = c.args in
-    named_no (joined a.self held) a.volume.now a.fcb.now true _ _ (c.named_why-why.ensures held) c.is_none.ensures c.if-not-is_none.true (c.refused.ensures held)
+    named_no (joined a.self held) a.volume.now a.fcb.now true _ _ (c.named_why-why.ensures held) c.is_none.ensures (ap not c.if-not-is_none.true) (c.refused.ensures held)
 
 pub open_file-found-requires : goal.open_file-found-requires
-open_file-found-requires c = let l = (clear [] c).lent in (l.state.law, (l.volume, l.fcb))
+open_file-found-requires c =
+    let clear : (held : List ℕ) → Named (joined c.args.self held) c.args.volume.now c.args.fcb.now true = λ (held : List ℕ). named _ _ _ true (c.named_why-why.ensures held) c.is_none.ensures (ap not c.if-not-is_none.false) in
+    let l = (clear []).lent in (l.state.law, (l.volume, l.fcb))
 
 pub returns : goal.returns
 unfolding open_act open_tests changed_state laid
-returns c = λ (held : List ℕ).
+returns c =
+    let clear : (held : List ℕ) → Named (joined c.args.self held) c.args.volume.now c.args.fcb.now true = λ (held : List ℕ). named _ _ _ true (c.named_why-why.ensures held) c.is_none.ensures (ap not c.if-not-is_none.false) in
+    λ (held : List ℕ).
     let a = c.args in
     let d = joined a.self held in
     let v = a.volume.now in
@@ -41,6 +40,6 @@ returns c = λ (held : List ℕ).
     let m = c.open_file-found in
     let t = is_none m.result.why in
     let slot = open_slot d.geometry v d.user f in
-    let e : m.result.slot ≡ slot = m.ensures.1.0 in
-    named_decided d v f (clear held c) (slot % 4) keeps [] (opened f (slot_at d.geometry v slot)) _
-    m.ensures.0 (either t d) (either t v) (rw (← e) m.ensures.1.1) (c.answered.ensures held ∙ rw e)
+    let e : m.result.slot ≡ slot = m.ensures.slot_value in
+    named_decided d v f (clear held) (slot % 4) keeps [] (opened f (slot_at d.geometry v slot)) _
+    m.ensures.why_value (either t d) (either t v) (rw (← e) m.ensures.fcb_after) (c.answered.ensures held ∙ rw e)

@@ -1,6 +1,6 @@
 -- State and length are asked first; then drive code and position.
 use Rattle.filecalls.specs.Small.{set_random_tests}
-use borrow.Author.Tests.{not-false, eqb-true}
+use borrow.Author.Tests.{not-false, eqb-true, ne_eqb}
 use Rattle.filecalls.specs.Tests.{closed_state, fcb_length}
 use Rattle.call_answers.proofs.Ladder.{ladder_pass, ladder_two}
 use Rattle.call_answers.specs.Refusal.{first_met, test, is_none}
@@ -12,7 +12,7 @@ use lib.Dec.{ltb, eqb}
 use native.Mathlib.Omega.{arith}
 use mathlib.Core.List.{List, [], ◌∷◌}
 use mathlib.Core.Bool.{true, not}
-use mathlib.Core.Path.{◌≡◌, refl, sym, ◌∙◌}
+use mathlib.Core.Path.{◌≡◌, refl, sym, ◌∙◌, ap}
 use Prim.Native.Nat.{ℕ}
 use borrow.Author.Rules.{rules}
 use Rattle.filecalls.specs.CodeFront.{joined}
@@ -24,26 +24,26 @@ returns-then-not-is_open c = λ (held : List ℕ). rw (← c.is_open.ensures hel
 
 pub returns-then-not-whole : goal.returns-then-not-whole
 unfolding set_random_tests first_met
-returns-then-not-whole c = λ (held : List ℕ). rw (← c.is_open.ensures held, c.if-not-is_open.false, c.if-not-whole.true)
+returns-then-not-whole c = λ (held : List ℕ). rw (← c.is_open.ensures held, c.if-not-is_open.false, ne_eqb _ _ c.if-not-whole.true)
 
 pub bounds-fcb-12 : goal.bounds-fcb-12
 bounds-fcb-12 c =
-    let whole : length c.args.fcb.now ≡ 36 = eqb-true _ _ (not-false (eqb (length c.args.fcb.now) 36) c.if-not-whole.false) in
+    let whole : length c.args.fcb.now ≡ 36 = c.if-not-whole.false in
     omega (arith, whole)
 
 pub bounds-fcb-14 : goal.bounds-fcb-14
 bounds-fcb-14 c =
-    let whole : length c.args.fcb.now ≡ 36 = eqb-true _ _ (not-false (eqb (length c.args.fcb.now) 36) c.if-not-whole.false) in
+    let whole : length c.args.fcb.now ≡ 36 = c.if-not-whole.false in
     omega (arith, whole)
 
 pub bounds-fcb-32 : goal.bounds-fcb-32
 bounds-fcb-32 c =
-    let whole : length c.args.fcb.now ≡ 36 = eqb-true _ _ (not-false (eqb (length c.args.fcb.now) 36) c.if-not-whole.false) in
+    let whole : length c.args.fcb.now ≡ 36 = c.if-not-whole.false in
     omega (arith, whole)
 
 pub bounds-fcb-0 : goal.bounds-fcb-0
 bounds-fcb-0 c =
-    let whole : length c.args.fcb.now ≡ 36 = eqb-true _ _ (not-false (eqb (length c.args.fcb.now) 36) c.if-not-whole.false) in
+    let whole : length c.args.fcb.now ≡ 36 = c.if-not-whole.false in
     omega (arith, whole)
 
 pub returns : goal.returns

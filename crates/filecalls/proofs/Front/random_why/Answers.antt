@@ -11,15 +11,11 @@ use lib.Dec.{eqb}
 use native.Mathlib.Omega.{arith}
 use mathlib.Core.List.{List, [], ◌∷◌}
 use mathlib.Core.Bool.{false, not}
-use mathlib.Core.Path.{refl, sym, ◌∙◌}
+use mathlib.Core.Path.{refl, sym, ◌∙◌, ap}
 use Prim.Native.Nat.{ℕ}
 use borrow.Author.Rules.{rules}
 use Rattle.filecalls.specs.CodeFront.{joined}
 use Rattle.filecalls.proofs.Front.random_why.Goals as goal
-
--- TODO place Else-not-is_none 
-passed : (held : List ℕ) (c : goal.Else-not-is_none) → NamedLent (joined c.args.self held) c.args.volume.now c.args.fcb.now c.args.buffer false
-passed held c = named_passed _ _ _ _ false (c.named_why-why.ensures held) c.is_none.ensures c.if-not-is_none.false
 
 pub returns-then-not-is_none : goal.returns-then-not-is_none
 unfolding random_lent
@@ -27,15 +23,19 @@ returns-then-not-is_none c = λ (held : List ℕ).
     let a = c.args in
     let xs = named_tests (joined a.self held) a.volume.now a.fcb.now a.buffer false in
     c.named_why-why.ensures held
-    ∙ sym (ladder_stop xs (beyond (not (eqb (byte a.fcb.now 35) 0)) ∷ []) (refuses xs (c.named_why-why.ensures held) c.is_none.ensures c.if-not-is_none.true))
+    ∙ sym (ladder_stop xs (beyond (not (eqb (byte a.fcb.now 35) 0)) ∷ []) (refuses xs (c.named_why-why.ensures held) c.is_none.ensures (ap not c.if-not-is_none.true)))
 
 pub bounds-fcb-35 : goal.bounds-fcb-35
-bounds-fcb-35 c = omega (arith, (passed [] c).lent.fcb)
+bounds-fcb-35 c =
+    let passed : (held : List ℕ) → NamedLent (joined c.args.self held) c.args.volume.now c.args.fcb.now c.args.buffer false = λ (held : List ℕ). named_passed _ _ _ _ false (c.named_why-why.ensures held) c.is_none.ensures (ap not c.if-not-is_none.false) in
+    omega (arith, (passed []).lent.fcb)
 
 pub returns : goal.returns
 unfolding random_lent
-returns c = λ (held : List ℕ).
+returns c =
+    let passed : (held : List ℕ) → NamedLent (joined c.args.self held) c.args.volume.now c.args.fcb.now c.args.buffer false = λ (held : List ℕ). named_passed _ _ _ _ false (c.named_why-why.ensures held) c.is_none.ensures (ap not c.if-not-is_none.false) in
+    λ (held : List ℕ).
     let a = c.args in
     let m = not (eqb (byte a.fcb.now 35) 0) in
     c.refuse.ensures ∙ ladder_one Beyond m refl
-    ∙ sym (ladder_pass (named_tests (joined a.self held) a.volume.now a.fcb.now a.buffer false) (test Beyond m ∷ []) (passed held c).none)
+    ∙ sym (ladder_pass (named_tests (joined a.self held) a.volume.now a.fcb.now a.buffer false) (test Beyond m ∷ []) (passed held).none)

@@ -26,4 +26,4 @@ returns c = λ (held : List ℕ).
     let t = is_none m.result in
     decided d v f a.buffer.now 0 keeps [] (set_to f (slot_at d.geometry v (record_slot d.geometry v d.user (name_of f) a.n)) a.n a.cr) (read_bytes d.geometry v d.user (name_of f) a.n)
     (read_tests d.geometry v d.user (name_of f) a.n a.missing)
-    m.ensures.0 (either t d) (either t v) m.ensures.1.0 m.ensures.1.1 (c.answered.ensures held)
+    m.ensures.value (either t d) (either t v) m.ensures.fcb_after m.ensures.buffer_after (c.answered.ensures held)

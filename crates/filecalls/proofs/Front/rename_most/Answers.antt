@@ -11,7 +11,7 @@ use Rattle.call_rename.specs.Rename.{rename_tests}
 use Rattle.call_fcb.specs.Fcb.{new_name}
 use Rattle.disk_volume.specs.Name.{name_at, name_of}
 use Rattle.lists.specs.Bytes.{part}
-use mathlib.Core.Bool.{false}
+use mathlib.Core.Bool.{false, not}
 use Rattle.filecalls.proofs.OutcomeLaws.{either}
 use Rattle.filecalls.proofs.StateLaws.{Named, named}
 use Rattle.filecalls.specs.Tests.{bad_name, untypeable, protected_drive}
@@ -25,41 +25,46 @@ use borrow.Author.Rules.{rules}
 use Rattle.filecalls.specs.CodeFront.{joined}
 use Rattle.filecalls.proofs.Front.rename_most.Goals as goal
 
--- TODO place Else-not-is_none 
--- the tests of what is lent have passed
-clear : (held : List ℕ) (c : goal.Else-not-is_none) → Named (joined c.args.self held) c.args.volume.now c.args.fcb.now false
-clear held c = named _ _ _ false (c.named_why-why.ensures held) c.is_none.ensures c.if-not-is_none.false
-
 pub returns-then-not-is_none : goal.returns-then-not-is_none
 unfolding rename_act rename_ladder
 returns-then-not-is_none c = λ (held : List ℕ).
     let a = c.args in
-    cut_named_no (joined a.self held) a.volume.now a.fcb.now a.left.now false _ _ (c.named_why-why.ensures held) c.is_none.ensures c.if-not-is_none.true (c.refused.ensures held)
+    cut_named_no (joined a.self held) a.volume.now a.fcb.now a.left.now false _ _ (c.named_why-why.ensures held) c.is_none.ensures (ap not c.if-not-is_none.true) (c.refused.ensures held)
 
 pub new_name_why-name-requires : goal.new_name_why-name-requires
-new_name_why-name-requires c = (clear [] c).lent.fcb
+new_name_why-name-requires c =
+    let clear : (held : List ℕ) → Named (joined c.args.self held) c.args.volume.now c.args.fcb.now false = λ (held : List ℕ). named _ _ _ false (c.named_why-why.ensures held) c.is_none.ensures (ap not c.if-not-is_none.false) in
+    (clear []).lent.fcb
 
 pub slice_bounds-rename_file-end : goal.slice_bounds-rename_file-end
-slice_bounds-rename_file-end c = omega (arith, (clear [] c).lent.fcb)
+slice_bounds-rename_file-end c =
+    let clear : (held : List ℕ) → Named (joined c.args.self held) c.args.volume.now c.args.fcb.now false = λ (held : List ℕ). named _ _ _ false (c.named_why-why.ensures held) c.is_none.ensures (ap not c.if-not-is_none.false) in
+    omega (arith, (clear []).lent.fcb)
 
 pub slice_bounds-rename_file-end-2 : goal.slice_bounds-rename_file-end-2
-slice_bounds-rename_file-end-2 c = omega (arith, (clear [] c).lent.fcb)
+slice_bounds-rename_file-end-2 c =
+    let clear : (held : List ℕ) → Named (joined c.args.self held) c.args.volume.now c.args.fcb.now false = λ (held : List ℕ). named _ _ _ false (c.named_why-why.ensures held) c.is_none.ensures (ap not c.if-not-is_none.false) in
+    omega (arith, (clear []).lent.fcb)
 
 pub rename_file-why-requires : goal.rename_file-why-requires
-rename_file-why-requires c = let l = (clear [] c).lent in ((l.state.law, l.volume), (search rules, search rules))
+rename_file-why-requires c =
+    let clear : (held : List ℕ) → Named (joined c.args.self held) c.args.volume.now c.args.fcb.now false = λ (held : List ℕ). named _ _ _ false (c.named_why-why.ensures held) c.is_none.ensures (ap not c.if-not-is_none.false) in
+    let l = (clear []).lent in record { volume = (l.state.law, l.volume); name = (search rules, search rules) }
 
 pub returns : goal.returns
 unfolding rename_act rename_ladder changed_state name_at part
-returns c = λ (held : List ℕ).
+returns c =
+    let clear : (held : List ℕ) → Named (joined c.args.self held) c.args.volume.now c.args.fcb.now false = λ (held : List ℕ). named _ _ _ false (c.named_why-why.ensures held) c.is_none.ensures (ap not c.if-not-is_none.false) in
+    λ (held : List ℕ).
     let a = c.args in
     let d = joined a.self held in
     let v = a.volume.now in
     let f = a.fcb.now in
     let m = c.rename_file-why in
     let t = is_none m.result in
-    cut_named_decided d v f a.left.now (clear held c) 0 keeps (sweep_stores d.geometry (of_file d.user (name_of f)) (λ e. renamed e (part f 17 11)) v 0 (directory_records d.geometry)) f _
+    cut_named_decided d v f a.left.now (clear held) 0 keeps (sweep_stores d.geometry (of_file d.user (name_of f)) (λ e. renamed e (part f 17 11)) v 0 (directory_records d.geometry)) f _
     (after (bad_name false f 17 ∷ untypeable f 17 ∷ protected_drive d ∷ []) (rename_tests d.geometry v d.user (name_of f) (new_name f))
     (after (bad_name false f 17 ∷ untypeable f 17 ∷ []) (protected_drive d ∷ []) c.new_name_why-name.ensures
     (c.first_of-before.ensures ∙ ap (first c.new_name_why-name.result) (c.refuse-protected.ensures ∙ ladder_one Protected d.protected refl)))
-    m.ensures.0)
-    (either t d) m.ensures.1.0 (either t f) m.ensures.1.1 (c.answered.ensures held)
+    m.ensures.value)
+    (either t d) m.ensures.volume_after (either t f) m.ensures.left_after (c.answered.ensures held)

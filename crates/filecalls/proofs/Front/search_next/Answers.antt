@@ -17,10 +17,6 @@ use borrow.Author.Rules.{rules}
 use Rattle.filecalls.specs.CodeFront.{joined}
 use Rattle.filecalls.proofs.Front.search_next.Goals as goal
 
--- TODO place Else-not-is_none 
-passed : (held : List ℕ) (c : goal.Else-not-is_none) → Next (joined c.args.self held) c.args.volume.now c.args.buffer.now
-passed held c = next_passed _ _ _ (c.lent_why-why.ensures held) c.is_none.ensures c.if-not-is_none.false
-
 pub returns-then-not-is_none : goal.returns-then-not-is_none
 unfolding search_next_act next_tests
 returns-then-not-is_none c = λ (held : List ℕ).
@@ -28,44 +24,52 @@ returns-then-not-is_none c = λ (held : List ℕ).
     let d = joined a.self held in
     let v = a.volume.now in
     let b = a.buffer.now in
-    refused_at d v [] b (next_lent d v b) _ _ (c.lent_why-why.ensures held ∙ no_block d v b) c.is_none.ensures c.if-not-is_none.true (c.refused.ensures held)
+    refused_at d v [] b (next_lent d v b) _ _ (c.lent_why-why.ensures held ∙ no_block d v b) c.is_none.ensures (ap not c.if-not-is_none.true) (c.refused.ensures held)
 
 pub returns-then-not-is_open_search : goal.returns-then-not-is_open_search
 unfolding search_next_act next_tests
-returns-then-not-is_open_search c = λ (held : List ℕ).
+returns-then-not-is_open_search c =
+    let passed : (held : List ℕ) → Next (joined c.args.self held) c.args.volume.now c.args.buffer.now = λ (held : List ℕ). next_passed _ _ _ (c.lent_why-why.ensures held) c.is_none.ensures (ap not c.if-not-is_none.false) in
+    λ (held : List ℕ).
     let a = c.args in
     let d = joined a.self held in
     let v = a.volume.now in
     let b = a.buffer.now in
     let m = not (is_kept d.search.kind) || leb (slots d.geometry) (hit d.geometry v d.search (d.search.last + 1)) in
-    let e : not (is_kept d.search.kind) ≡ true = ap not (sym c.is_open_search.ensures) ∙ c.if-not-is_open_search.true in
+    let e : not (is_kept d.search.kind) ≡ true = ap not (sym c.is_open_search.ensures) ∙ (ap not c.if-not-is_open_search.true) in
     let t : m ≡ true = rw e in
-    says_no d v [] b (stops_then (next_lent d v b) NoMatch m [] _ (passed held c).none t refl) (c.refused-then-not-is_open_search.ensures held)
+    says_no d v [] b (stops_then (next_lent d v b) NoMatch m [] _ (passed held).none t refl) (c.refused-then-not-is_open_search.ensures held)
 
 pub overflow_add-search : goal.overflow_add-search
 overflow_add-search c =
+    let passed : (held : List ℕ) → Next (joined c.args.self held) c.args.volume.now c.args.buffer.now = λ (held : List ℕ). next_passed _ _ _ (c.lent_why-why.ensures held) c.is_none.ensures (ap not c.if-not-is_none.false) in
     let below : c.args.self.search.last < slots c.args.self.geometry = (let q = c.args.self.search in
-      kept_below q.kind q.user q.last q.pattern _ (sym c.is_open_search.ensures ∙ not-false c.is_open_search.result c.if-not-is_open_search.false) (passed [] c).lent.state.kept) in
-    omega (arith, below, (bounds _ (passed [] c).lent.state.law).slots_high)
+    kept_below q.kind q.user q.last q.pattern _ (sym c.is_open_search.ensures ∙ not-false c.is_open_search.result (ap not c.if-not-is_open_search.false)) (passed []).lent.state.kept) in
+    omega (arith, below, (bounds _ (passed []).lent.state.law).slots_high)
 
 pub hit-slot-requires : goal.hit-slot-requires
 hit-slot-requires c =
+    let passed : (held : List ℕ) → Next (joined c.args.self held) c.args.volume.now c.args.buffer.now = λ (held : List ℕ). next_passed _ _ _ (c.lent_why-why.ensures held) c.is_none.ensures (ap not c.if-not-is_none.false) in
     let below : c.args.self.search.last < slots c.args.self.geometry = (let q = c.args.self.search in
-      kept_below q.kind q.user q.last q.pattern _ (sym c.is_open_search.ensures ∙ not-false c.is_open_search.result c.if-not-is_open_search.false) (passed [] c).lent.state.kept) in
-    let l = (passed [] c).lent in
+    kept_below q.kind q.user q.last q.pattern _ (sym c.is_open_search.ensures ∙ not-false c.is_open_search.result (ap not c.if-not-is_open_search.false)) (passed []).lent.state.kept) in
+    let l = (passed []).lent in
     (l.state.law, (l.volume, (l.buffer, omega (arith, below))))
 
 pub hit_reply-requires : goal.hit_reply-requires
-hit_reply-requires c = (passed [] c).lent.state.law
+hit_reply-requires c =
+    let passed : (held : List ℕ) → Next (joined c.args.self held) c.args.volume.now c.args.buffer.now = λ (held : List ℕ). next_passed _ _ _ (c.lent_why-why.ensures held) c.is_none.ensures (ap not c.if-not-is_none.false) in
+    (passed []).lent.state.law
 
 pub returns : goal.returns
 unfolding search_next_act next_tests
-returns c = λ (held : List ℕ).
+returns c =
+    let passed : (held : List ℕ) → Next (joined c.args.self held) c.args.volume.now c.args.buffer.now = λ (held : List ℕ). next_passed _ _ _ (c.lent_why-why.ensures held) c.is_none.ensures (ap not c.if-not-is_none.false) in
+    λ (held : List ℕ).
     let a = c.args in
     let d = joined a.self held in
     let v = a.volume.now in
     let b = a.buffer.now in
     let i = hit d.geometry v d.search (d.search.last + 1) in
-    let e : not (is_kept d.search.kind) ≡ false = ap not (sym c.is_open_search.ensures) ∙ c.if-not-is_open_search.false in
-    rw (passes (next_lent d v b) (test NoMatch (not (is_kept d.search.kind) || leb (slots d.geometry) i) ∷ []) (hit_act d v [] d.search i) (passed held c).none, e)
+    let e : not (is_kept d.search.kind) ≡ false = ap not (sym c.is_open_search.ensures) ∙ (ap not c.if-not-is_open_search.false) in
+    rw (passes (next_lent d v b) (test NoMatch (not (is_kept d.search.kind) || leb (slots d.geometry) i) ∷ []) (hit_act d v [] d.search i) (passed held).none, e)
     (c.hit_reply.ensures held v [] b _ (d.search.last + 1) c.hit-slot.ensures.value c.hit-slot.ensures.buffer_after)

@@ -12,14 +12,11 @@ use Rattle.call_write.specs.Rewrite.{bytes_of}
 use Rattle.filecalls.specs.CodeFront.{joined}
 use Rattle.filecalls.proofs.Front.write_at.Goals as goal
 
--- the bytes that are written
-abbrev bytes : (s : tie.Start) → List ℕ
-bytes s = let a = s.args in bytes_of a.self.geometry a.volume.now a.self.user (name_of a.fcb.now) a.n a.buffer.now a.again a.low a.high
-
 pub returns-then-self : goal.returns-then-self
 returns-then-self c =
     let a = c.args in
-    cut_no (joined a.self a.held.now) a.volume.now a.fcb.now (bytes s) a.left.now (stops_here Protected _ _ _ c.if-self.true refl) (c.refused.ensures a.held.now)
+    let bytes = bytes_of a.self.geometry a.volume.now a.self.user (name_of a.fcb.now) a.n a.buffer.now a.again a.low a.high in
+    cut_no (joined a.self a.held.now) a.volume.now a.fcb.now bytes a.left.now (stops_here Protected _ _ _ c.if-self.true refl) (c.refused.ensures a.held.now)
 
 pub write_record-why-requires : goal.write_record-why-requires
 write_record-why-requires c =
@@ -32,5 +29,6 @@ write_record-why-requires c =
 pub returns : goal.returns
 returns c =
     let a = c.args in
+    let bytes = bytes_of a.self.geometry a.volume.now a.self.user (name_of a.fcb.now) a.n a.buffer.now a.again a.low a.high in
     let w = c.write_record-why.ensures in
-    write_decided (joined a.self a.held.now) a.volume.now a.fcb.now a.n a.cr a.fills (bytes s) a.left.now c.if-self.false w (c.answered.ensures _)
+    write_decided (joined a.self a.held.now) a.volume.now a.fcb.now a.n a.cr a.fills bytes a.left.now c.if-self.false w (c.answered.ensures _)

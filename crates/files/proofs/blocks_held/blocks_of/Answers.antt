@@ -1,10 +1,7 @@
 -- The entries seen so far gave m, so what is left to be seen gives the whole.
 use mathlib.Core.Path.{sym}
-use Prim.Native.Nat.{◌≤◌, ◌-◌, ◌*◌}
-use Rattle.files.specs.Files.{more_blocks, blocks_of}
-use Rattle.disk_geometry.specs.Geometry.{slots}
-use Rattle.disk_volume.specs.Name.{strip}
-use Rattle.lists.proofs.FoldLaws.{Folded, folded_start, folded_next, folded_end}
+use Rattle.files.specs.Files.{blocks_of}
+use Rattle.lists.proofs.FoldLaws.{folded_start, folded_next, folded_end}
 use borrow.Author.Rules.{rules}
 use Rattle.files.proofs.blocks_held.blocks_of.Goals as goal
 

@@ -1,7 +1,6 @@
 -- The branches are the definition's.
 use native.Mathlib.Omega.{arith}
 use borrow.Author.Tests.{eq-eqb, ne_eqb}
-use borrow.Author.Rules.{rules}
 use Rattle.files.proofs.blocks_held.used_at.Goals as goal
 
 pub returns-then-block_in-ne0 : goal.returns-then-block_in-ne0

@@ -1,8 +1,6 @@
 -- The places seen so far and those still to be seen give the count.
-use Prim.Native.Nat.{◌≤◌, ◌-◌}
-use Rattle.files.proofs.CountedLaws.{Counted, counted_start, counted_next, counted_end}
-use Rattle.files.specs.Files.{is_used, used_places}
-use Rattle.disk_geometry.specs.Geometry.{places}
+use Rattle.files.proofs.CountedLaws.{counted_start, counted_next, counted_end}
+use Rattle.files.specs.Files.{used_places}
 use borrow.Author.Rules.{rules}
 use Rattle.files.proofs.blocks_held.used_places.Goals as goal
 

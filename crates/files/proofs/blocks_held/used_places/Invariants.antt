@@ -1,9 +1,8 @@
 -- The places seen so far and those still to be seen give the count.
 use Prim.Native.Nat.{◌≤◌, ◌-◌}
-use Rattle.files.proofs.CountedLaws.{Counted, counted_start, counted_next, counted_end}
-use Rattle.files.specs.Files.{is_used, used_places}
+use Rattle.files.proofs.CountedLaws.{Counted}
+use Rattle.files.specs.Files.{is_used}
 use Rattle.disk_geometry.specs.Geometry.{places}
-use borrow.Author.Rules.{rules}
 use Rattle.files.proofs.blocks_held.used_places.Given as goal
 
 abbrev pub invariant-loop-p : goal.invariant-loop-p

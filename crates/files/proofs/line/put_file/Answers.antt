@@ -1,6 +1,5 @@
 -- The entry that is lent is the one in slot i.
 use Rattle.disk_volume.proofs.EntryLaws.{lent_slot}
-use borrow.Author.Rules.{rules}
 use Rattle.files.proofs.line.put_file.Goals as goal
 
 pub returns : goal.returns

@@ -2,7 +2,6 @@
 use Rattle.files.specs.Line.{file_bytes}
 use Rattle.disk_volume.specs.Name.{name_at}
 use Rattle.lists.specs.Bytes.{part}
-use borrow.Author.Rules.{rules}
 use Rattle.files.proofs.line.put_file_of.Goals as goal
 
 pub returns : goal.returns

@@ -2,7 +2,6 @@
 use Rattle.files.proofs.LineLaws.{name_bytes_lem}
 use Rattle.files.specs.Line.{line_bytes}
 use Rattle.numbers.specs.Numbers.{bytes_of}
-use borrow.Author.Rules.{rules}
 use Rattle.files.proofs.line.put_line.Goals as goal
 
 pub returns : goal.returns

@@ -6,7 +6,6 @@ use Rattle.text.proofs.TextLaws.{wrote, then}
 use lib.ListN.{replicate}
 use Prim.Native.Nat.{ℕ}
 use mathlib.Core.Path.{ap, ◌∙◌}
-use borrow.Author.Rules.{rules}
 use Rattle.gencmd_file.proofs.header.lay_header.Goals as goal
 
 pub returns : goal.returns

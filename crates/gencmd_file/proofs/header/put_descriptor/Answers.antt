@@ -5,7 +5,6 @@ use Rattle.text.specs.Text.{puts}
 use Rattle.numbers.specs.Numbers.{bytes_of}
 use Prim.Native.Nat.{◌%◌}
 use borrow.Author.Tests.{eq-eqb, ne_eqb}
-use borrow.Author.Rules.{rules}
 use Rattle.gencmd_file.proofs.header.put_descriptor.Goals as goal
 
 pub returns-then-n-eq0 : goal.returns-then-n-eq0

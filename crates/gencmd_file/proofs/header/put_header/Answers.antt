@@ -1,6 +1,5 @@
 -- The header takes the place of the part that was lent.
 use Rattle.lists.specs.Bytes.{put}
-use borrow.Author.Rules.{rules}
 use Rattle.gencmd_file.proofs.header.put_header.Goals as goal
 
 pub returns : goal.returns

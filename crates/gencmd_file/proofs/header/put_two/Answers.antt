@@ -2,7 +2,6 @@
 use Rattle.text.proofs.TextLaws.{wrote_byte, then}
 use Rattle.numbers.specs.Numbers.{bytes_of}
 use Prim.Native.Nat.{◌/◌, ◌%◌}
-use borrow.Author.Rules.{rules}
 use Rattle.gencmd_file.proofs.header.put_two.Goals as goal
 
 pub returns : goal.returns

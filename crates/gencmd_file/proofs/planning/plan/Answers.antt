@@ -1,7 +1,6 @@
 -- By what measuring tells.
 use Rattle.gencmd_file.proofs.PlanLaws.{reach_within, refused_plan, reached_plan}
 use mathlib.Core.Path.{sym, ◌∙◌}
-use borrow.Author.Rules.{rules}
 use Rattle.gencmd_file.proofs.planning.plan.Goals as goal
 
 pub plan_for-requires : goal.plan_for-requires

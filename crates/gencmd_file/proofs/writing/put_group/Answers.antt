@@ -2,7 +2,6 @@
 use Rattle.gencmd_lines.specs.Lines.{lines_in}
 use Rattle.gencmd_groups.specs.Groups.{group_bytes}
 use Rattle.gencmd_file.proofs.FileLaws.{lent_put}
-use borrow.Author.Rules.{rules}
 use Rattle.gencmd_file.proofs.writing.put_group.Goals as goal
 
 pub returns : goal.returns

@@ -7,7 +7,6 @@ use Rattle.gencmd_groups.specs.Groups.{byte_at, group_bytes}
 use lib.ListN.{length}
 use Prim.Native.Nat.{◌≤◌}
 use native.Mathlib.Omega.{arith}
-use borrow.Author.Rules.{rules}
 use Rattle.gencmd_file.proofs.writing.put_image.Goals as goal
 
 pub returns : goal.returns

@@ -1,7 +1,6 @@
 -- Zeros take the place of the part that was lent.
 use lib.ListN.{replicate}
 use Rattle.gencmd_file.proofs.FileLaws.{lent_put}
-use borrow.Author.Rules.{rules}
 use Rattle.gencmd_file.proofs.writing.put_zeros.Goals as goal
 
 pub returns : goal.returns

@@ -6,7 +6,6 @@ use lib.ListN.{replicate, length-replicate}
 use Rattle.memory_spans.specs.Span.{paragraph_bytes}
 use Rattle.gencmd_lines.specs.Lines.{lines_in}
 use Rattle.gencmd_file.proofs.FileLaws.{put_one, and_put, length_header, length_image, sized, file_is}
-use borrow.Author.Rules.{rules}
 use Rattle.gencmd_file.proofs.writing.write.Goals as goal
 
 pub returns : goal.returns

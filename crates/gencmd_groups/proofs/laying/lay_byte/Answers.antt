@@ -1,7 +1,6 @@
 -- A byte beyond the end changes nothing.
 use lib.Seq.{set_out}
 use mathlib.Core.Path.{sym}
-use borrow.Author.Rules.{rules}
 use Rattle.gencmd_groups.proofs.laying.lay_byte.Goals as goal
 
 pub returns-else-a-part : goal.returns-else-a-part

@@ -1,11 +1,8 @@
 -- Data byte by data byte.
-use Rattle.gencmd_groups.specs.CodeLaying.{lay_byte, laid}
-use Rattle.gencmd_lines.specs.Line.{count_of}
-use Rattle.lists.proofs.FoldLaws.{Folded, folded_start, folded_next, folded_end}
+use Rattle.gencmd_groups.specs.CodeLaying.{laid}
+use Rattle.lists.proofs.FoldLaws.{folded_start, folded_next, folded_end}
 use borrow.Author.Tests.{eq-eqb, ne_eqb}
-use lib.ListN.{length}
-use Prim.Native.Nat.{◌-◌}
-use mathlib.Core.Path.{◌≡◌, refl, sym, ◌∙◌}
+use mathlib.Core.Path.{refl, sym, ◌∙◌}
 use borrow.Author.Rules.{rules}
 use Rattle.gencmd_groups.proofs.laying.lay_line.Goals as goal
 
@@ -19,7 +16,7 @@ loop-i-init c = (refl, folded_start)
 pub loop-i-preserved : goal.loop-i-preserved
 loop-i-preserved c =
     let l = c.loop-i in
-    (c.lay_byte.auto.0 ∙ l.invariant.0, folded_next l.invariant.1 (search rules) (c.lay_byte.ensures ∙ rw (c.address_of-address.ensures.0, c.data_of.ensures)))
+    (c.lay_byte.auto.part ∙ l.invariant.0, folded_next l.invariant.1 (search rules) (c.lay_byte.ensures ∙ rw (c.address_of-address.ensures.0, c.data_of.ensures)))
 
 pub returns : goal.returns
 unfolding laid

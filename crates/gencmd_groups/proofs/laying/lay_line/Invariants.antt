@@ -1,12 +1,10 @@
 -- Data byte by data byte.
-use Rattle.gencmd_groups.specs.CodeLaying.{lay_byte, laid}
+use Rattle.gencmd_groups.specs.CodeLaying.{lay_byte}
 use Rattle.gencmd_lines.specs.Line.{count_of}
-use Rattle.lists.proofs.FoldLaws.{Folded, folded_start, folded_next, folded_end}
-use borrow.Author.Tests.{eq-eqb, ne_eqb}
+use Rattle.lists.proofs.FoldLaws.{Folded}
 use lib.ListN.{length}
 use Prim.Native.Nat.{◌-◌}
-use mathlib.Core.Path.{◌≡◌, refl, sym, ◌∙◌}
-use borrow.Author.Rules.{rules}
+use mathlib.Core.Path.{◌≡◌}
 use Rattle.gencmd_groups.proofs.laying.lay_line.Given as goal
 
 abbrev pub invariant-loop-i : goal.invariant-loop-i

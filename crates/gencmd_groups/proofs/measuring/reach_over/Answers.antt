@@ -1,5 +1,4 @@
 -- Group by group.
-use borrow.Author.Rules.{rules}
 use Rattle.gencmd_groups.proofs.measuring.reach_over.Goals as goal
 
 pub returns : goal.returns

@@ -1,7 +1,6 @@
 -- By the two tests.
 use borrow.Author.Tests.{eq-eqb, ne_eqb}
 use native.Mathlib.Omega.{arith}
-use borrow.Author.Rules.{rules}
 use Rattle.gencmd_groups.proofs.sizing.paragraphs_of.Goals as goal
 
 pub returns-then-reach-eq0 : goal.returns-then-reach-eq0

@@ -1,6 +1,5 @@
 -- Group by group.
 use Rattle.gencmd_groups.specs.Groups.{sizes_of}
-use borrow.Author.Rules.{rules}
 use Rattle.gencmd_groups.proofs.sizing.sizes.Goals as goal
 
 pub returns : goal.returns

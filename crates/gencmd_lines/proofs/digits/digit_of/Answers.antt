@@ -1,5 +1,5 @@
 -- Each range of digits is one of the definition's cases.
-use Rattle.std.proofs.Common.{sym, ◌∙◌, arith, rules}
+use Rattle.std.proofs.Common.{sym, ◌∙◌, arith}
 use Prim.Native.Char.{code}
 use Rattle.gencmd_lines.specs.Digits.{digit_of}
 use Rattle.gencmd_lines.proofs.LineLaws.{in_range}

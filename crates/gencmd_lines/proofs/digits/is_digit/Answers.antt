@@ -1,5 +1,4 @@
 -- By the two ranges.
-use Rattle.std.proofs.Common.{rules}
 use Rattle.gencmd_lines.proofs.digits.is_digit.Goals as goal
 
 pub returns : goal.returns

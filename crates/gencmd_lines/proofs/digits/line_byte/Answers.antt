@@ -1,6 +1,5 @@
 -- Two digits.
 use Rattle.gencmd_lines.specs.Digits.{line_byte}
-use Rattle.std.proofs.Common.{rules}
 use Rattle.gencmd_lines.proofs.digits.line_byte.Goals as goal
 
 pub returns : goal.returns

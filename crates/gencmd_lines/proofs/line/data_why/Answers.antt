@@ -1,5 +1,5 @@
 -- Each return is one rung of the ladder.
-use Rattle.std.proofs.Common.{rules, le-ltb, lt-ltb, eq-eqb, ne_eqb}
+use Rattle.std.proofs.Common.{le-ltb, lt-ltb, eq-eqb, ne_eqb}
 use Rattle.gencmd_lines.specs.Line.{data_refusal}
 use Rattle.gencmd_lines.proofs.line.data_why.Goals as goal
 

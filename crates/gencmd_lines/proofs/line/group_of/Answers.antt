@@ -1,5 +1,4 @@
 -- By the fourth byte.
-use Rattle.std.proofs.Common.{rules}
 use Rattle.gencmd_lines.proofs.line.group_of.Goals as goal
 
 pub returns : goal.returns

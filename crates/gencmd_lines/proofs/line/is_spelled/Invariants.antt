@@ -1,9 +1,7 @@
 -- The digits passed so far are digits, so what is left to be looked at decides.
-use Rattle.gencmd_lines.proofs.LineLaws.{short_not_spelled, spelled_by}
 use Rattle.gencmd_lines.specs.Line.{digit_at, digits_in}
-use Rattle.lists.proofs.BoundedLaws.{Passed, passed_start, passed_next, passed_fails, passed_all}
-use borrow.Author.Tests.{not-true, not-false}
-use Rattle.std.proofs.Common.{◌≡◌, ◌-◌, ◌≤◌, true, false, length, sym, ◌∙◌, rules}
+use Rattle.lists.proofs.BoundedLaws.{Passed}
+use Rattle.std.proofs.Common.{◌≡◌, ◌-◌, ◌≤◌, length}
 use Rattle.gencmd_lines.proofs.line.is_spelled.Given as goal
 
 abbrev pub invariant-loop-i : goal.invariant-loop-i

@@ -1,5 +1,5 @@
 -- Each return is one rung of the ladder.
-use Rattle.std.proofs.Common.{rules, eq-eqb, ne_eqb}
+use Rattle.std.proofs.Common.{eq-eqb, ne_eqb}
 use Rattle.gencmd_lines.specs.Line.{line_refusal}
 use Rattle.gencmd_lines.proofs.line.line_why.Goals as goal
 

@@ -2,7 +2,7 @@
 use Rattle.gencmd_lines.proofs.LineLaws.{sum_next, sum_end, mod_next}
 use Rattle.gencmd_lines.specs.Line.{sum_from, sum_of, bytes_in}
 use Rattle.gencmd_lines.specs.Digits.{line_byte}
-use Rattle.std.proofs.Common.{◌≡◌, ℕ, ◌+◌, ◌-◌, ◌%◌, ◌<◌, ◌≤◌, ap, ◌∙◌, arith, rules}
+use Rattle.std.proofs.Common.{◌≡◌, ℕ, ◌+◌, ◌-◌, ◌<◌, ◌≤◌, ap, ◌∙◌, arith, rules}
 use Rattle.gencmd_lines.proofs.line.sum_of.Goals as goal
 
 pub loop-i-init : goal.loop-i-init
@@ -21,6 +21,7 @@ loop-i-preserved c =
     let n = 5 + c.count_of-n.result in
     let h : l.i < n = search rules in
     let k = sum_next (line_byte line) n l.i h in
+    let e = c.wrapping_add_u8-sum.ensures.value in
     let p = c.line_byte.ensures in
     (l.invariant.0, (l.invariant.1.0, (omega (arith, e), mod_next c.wrapping_add_u8-sum.result l.sum (line_byte line l.i) (sum_from (line_byte line) (l.i + 1) (n - (l.i + 1))) (sum_of line) (e ∙ rw p) (rw (← k) l.invariant.1.1.1))))
 

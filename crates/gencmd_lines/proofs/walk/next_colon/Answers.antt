@@ -1,7 +1,7 @@
 -- A search: what is still to be looked at gives the whole.
-use Rattle.gencmd_lines.specs.CodeWalk.{is_colon, next_colon}
-use Rattle.lists.proofs.BoundedLaws.{Searched, searched_start, searched_next, searched_hit, searched_none}
-use Rattle.std.proofs.Common.{◌-◌, length, sym, rules, eq-eqb, ne_eqb}
+use Rattle.gencmd_lines.specs.CodeWalk.{next_colon}
+use Rattle.lists.proofs.BoundedLaws.{searched_start, searched_next, searched_hit, searched_none}
+use Rattle.std.proofs.Common.{sym, rules, eq-eqb, ne_eqb}
 use Rattle.gencmd_lines.proofs.walk.next_colon.Goals as goal
 
 pub loop-i-init : goal.loop-i-init

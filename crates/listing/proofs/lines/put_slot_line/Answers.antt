@@ -9,21 +9,20 @@ use Rattle.disk_volume.specs.Directory.{slot_at}
 use borrow.Author.Rules.{rules}
 use Rattle.listing.proofs.lines.put_slot_line.Goals as goal
 
--- TODO place After-is_listed 
--- what `is_listed` answered is the test of slot i
-seen : (c : goal.After-is_listed) → (let a = c.args in is_listed a.g a.volume.now (slot_at a.g a.volume.now a.i) a.i ≡ c.is_listed.result)
-seen c =
-    let a = c.args in
-    let at = c.slot_start-s in
-    rw (← lent_slot a.g a.volume.now a.i at.result at.ensures.0, c.is_listed.ensures)
-
 pub returns-then-not-is_listed : goal.returns-then-not-is_listed
 unfolding line_at puts
-returns-then-not-is_listed c = rw (seen c, not-true c.is_listed.result c.if-not-is_listed.true)
+returns-then-not-is_listed c =
+    let seen : (let a = c.args in is_listed a.g a.volume.now (slot_at a.g a.volume.now a.i) a.i ≡ c.is_listed.result) = (let a = c.args in
+      let at = c.slot_start-s in
+      rw (← lent_slot a.g a.volume.now a.i at.result at.ensures.0, c.is_listed.ensures)) in
+    rw (seen, c.if-not-is_listed.true)
 
 pub returns : goal.returns
 unfolding line_at
 returns c =
+    let seen : (let a = c.args in is_listed a.g a.volume.now (slot_at a.g a.volume.now a.i) a.i ≡ c.is_listed.result) = (let a = c.args in
+      let at = c.slot_start-s in
+      rw (← lent_slot a.g a.volume.now a.i at.result at.ensures.0, c.is_listed.ensures)) in
     let a = c.args in
     let at = c.slot_start-s in
-    rw (seen c, not-false c.is_listed.result c.if-not-is_listed.false, ← lent_slot a.g a.volume.now a.i at.result at.ensures.0) c.put_line.ensures
+    rw (seen, c.if-not-is_listed.false, ← lent_slot a.g a.volume.now a.i at.result at.ensures.0) c.put_line.ensures

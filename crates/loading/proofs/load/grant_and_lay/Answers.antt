@@ -30,7 +30,7 @@ slice_bounds-put_page-end c =
     let b = c.grant_all-next.ensures in
     let all = all_given c.args.h.now c.args.t c.args.n b c.if-count-m.false in
     let f = page_fits w b all c.page_start-paragraph.ensures.0 in
-    omega (arith, f, c.lay_groups.auto.1.1.1.1.1.1.1.0)
+    omega (arith, f, c.lay_groups.auto.memory)
 
 pub put_page-requires : goal.put_page-requires
 put_page-requires c = (search rules, (search rules, c.requires.number))

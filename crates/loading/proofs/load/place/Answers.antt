@@ -9,33 +9,33 @@ use borrow.Author.Rules.{rules}
 use Rattle.loading.proofs.load.place.Goals as goal
 
 pub returns-then-not-is_within_rules : goal.returns-then-not-is_within_rules
-returns-then-not-is_within_rules c = no_rules _ _ _ _ _ (sym c.is_within_rules.ensures ∙ not-true c.is_within_rules.result c.if-not-is_within_rules.true) c.refuse.ensures
+returns-then-not-is_within_rules c = no_rules _ _ _ _ _ (sym c.is_within_rules.ensures ∙ c.if-not-is_within_rules.true) c.refuse.ensures
 
 pub returns-then-not-is_good : goal.returns-then-not-is_good
-returns-then-not-is_good c = no_header _ _ _ _ _ (sym c.is_within_rules.ensures ∙ not-false c.is_within_rules.result c.if-not-is_within_rules.false) (sym c.is_good.ensures ∙ not-true c.is_good.result c.if-not-is_good.true) c.refuse-then-not-is_good.ensures
+returns-then-not-is_good c = no_header _ _ _ _ _ (sym c.is_within_rules.ensures ∙ c.if-not-is_within_rules.false) (sym c.is_good.ensures ∙ c.if-not-is_good.true) c.refuse-then-not-is_good.ensures
 
 pub returns-then-image-image_start : goal.returns-then-image-image_start
 returns-then-image-image_start c =
-    let a = sym c.is_within_rules.ensures ∙ not-false c.is_within_rules.result c.if-not-is_within_rules.false in
-    let b = sym c.is_good.ensures ∙ not-false c.is_good.result c.if-not-is_good.false in
+    let a = sym c.is_within_rules.ensures ∙ c.if-not-is_within_rules.false in
+    let b = sym c.is_good.ensures ∙ c.if-not-is_good.false in
     let x = c.less_one-image.ensures ∙ ap (λ (k : ℕ). k - 1) c.requires.1.0 in
     no_image _ _ _ _ _ a b c.groups-n.ensures.0 (rw (x, c.image_start.ensures.0) at c.if-image-image_start.true) c.refuse-then-image-image_start.ensures
 
 pub overflow_add-t : goal.overflow_add-t
-overflow_add-t c = let w = within_facts _ _ (sym c.is_within_rules.ensures ∙ not-false c.is_within_rules.result c.if-not-is_within_rules.false) in omega (arith, w.few_regions)
+overflow_add-t c = let w = within_facts _ _ (sym c.is_within_rules.ensures ∙ c.if-not-is_within_rules.false) in omega (arith, w.few_regions)
 
 pub returns-then-t-n-gt-PLACES : goal.returns-then-t-n-gt-PLACES
 returns-then-t-n-gt-PLACES c =
-    let a = sym c.is_within_rules.ensures ∙ not-false c.is_within_rules.result c.if-not-is_within_rules.false in
-    let b = sym c.is_good.ensures ∙ not-false c.is_good.result c.if-not-is_good.false in
+    let a = sym c.is_within_rules.ensures ∙ c.if-not-is_within_rules.false in
+    let b = sym c.is_good.ensures ∙ c.if-not-is_good.false in
     let x = c.less_one-image.ensures ∙ ap (λ (k : ℕ). k - 1) c.requires.1.0 in
     let whole = rw (x, c.image_start.ensures.0) at c.if-image-image_start.false in
     no_place _ _ _ _ _ a b c.groups-n.ensures.0 whole c.if-t-n-gt-PLACES.true c.refuse-then-t-n-gt-PLACES.ensures
 
 pub grant_and_lay-requires : goal.grant_and_lay-requires
 grant_and_lay-requires c =
-    let a = sym c.is_within_rules.ensures ∙ not-false c.is_within_rules.result c.if-not-is_within_rules.false in
-    let b = sym c.is_good.ensures ∙ not-false c.is_good.result c.if-not-is_good.false in
+    let a = sym c.is_within_rules.ensures ∙ c.if-not-is_within_rules.false in
+    let b = sym c.is_good.ensures ∙ c.if-not-is_good.false in
     let x = c.less_one-image.ensures ∙ ap (λ (k : ℕ). k - 1) c.requires.1.0 in
     let whole = rw (x, c.image_start.ensures.0) at c.if-image-image_start.false in
     let w = within_facts _ _ a in
@@ -43,8 +43,8 @@ grant_and_lay-requires c =
 
 pub returns : goal.returns
 returns c =
-    let a = sym c.is_within_rules.ensures ∙ not-false c.is_within_rules.result c.if-not-is_within_rules.false in
-    let b = sym c.is_good.ensures ∙ not-false c.is_good.result c.if-not-is_good.false in
+    let a = sym c.is_within_rules.ensures ∙ c.if-not-is_within_rules.false in
+    let b = sym c.is_good.ensures ∙ c.if-not-is_good.false in
     let x = c.less_one-image.ensures ∙ ap (λ (k : ℕ). k - 1) c.requires.1.0 in
     let whole = rw (x, c.image_start.ensures.0) at c.if-image-image_start.false in
     goes_on _ _ _ _ _ a b c.groups-n.ensures.0 whole c.if-t-n-gt-PLACES.false c.grant_and_lay.ensures

@@ -4,7 +4,7 @@ use borrow.Author.Rules.{rules}
 use Rattle.loading.proofs.page.span_at.Goals as goal
 
 pub returns-then-j-n : goal.returns-then-j-n
-returns-then-j-n c = let a = c.args in span_in a.t1 a.m a.n a.j c.if-j-n.true
+returns-then-j-n c = let a = c.args in span_in a.list a.m a.n a.j c.if-j-n.true
 
 pub returns : goal.returns
-returns c = let a = c.args in span_out a.t1 a.m a.n a.j c.if-j-n.false
+returns c = let a = c.args in span_out a.list a.m a.n a.j c.if-j-n.false

@@ -1,10 +1,9 @@
 -- After i turns the first i bytes are those from `from` on.
 use Rattle.replay_script.proofs.WindowLaws.{shift_step, shift_end, shift_not}
-use lib.Seq.{paste, paste-zero}
-use lib.ListN.{length, drop}
+use lib.Seq.{paste-zero}
+use lib.ListN.{drop}
 use native.Mathlib.Omega.{arith}
-use mathlib.Core.Path.{◌≡◌, refl}
-use Prim.Native.Nat.{◌≤◌, ◌-◌}
+use mathlib.Core.Path.{refl}
 use borrow.Author.Rules.{rules}
 use Rattle.replay_script.proofs.window.shift.Goals as goal
 

@@ -1,11 +1,8 @@
 -- After i turns the first i bytes are those from `from` on.
-use Rattle.replay_script.proofs.WindowLaws.{shift_step, shift_end, shift_not}
-use lib.Seq.{paste, paste-zero}
+use lib.Seq.{paste}
 use lib.ListN.{length, drop}
-use native.Mathlib.Omega.{arith}
-use mathlib.Core.Path.{◌≡◌, refl}
+use mathlib.Core.Path.{◌≡◌}
 use Prim.Native.Nat.{◌≤◌, ◌-◌}
-use borrow.Author.Rules.{rules}
 use Rattle.replay_script.proofs.window.shift.Given as goal
 
 abbrev pub invariant-loop-i : goal.invariant-loop-i

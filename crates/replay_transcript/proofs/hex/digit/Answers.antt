@@ -1,6 +1,5 @@
 -- The test is the definition's.
 use borrow.Author.Tests.{lt-ltb, le-ltb}
-use borrow.Author.Rules.{rules}
 use Rattle.replay_transcript.proofs.hex.digit.Goals as goal
 
 pub returns-then-n-lt10 : goal.returns-then-n-lt10

@@ -3,9 +3,9 @@ use native.Mathlib.Omega.{arith}
 use Rattle.replay_transcript.proofs.HexLaws.{hex_next, hex_end}
 use Rattle.replay_transcript.specs.Hex.{hex}
 use Rattle.text.specs.Text.{Text, text, puts}
-use lib.ListN.{length, drop}
-use mathlib.Core.Path.{◌≡◌, refl, sym, ap, ◌∙◌}
-use Prim.Native.Nat.{◌≤◌, ◌-◌, ◌+◌}
+use lib.ListN.{drop}
+use mathlib.Core.Path.{refl, sym, ap, ◌∙◌}
+use Prim.Native.Nat.{◌+◌}
 use borrow.Author.Rules.{rules}
 use Rattle.replay_transcript.proofs.hex.put_hex.Goals as goal
 
@@ -13,7 +13,7 @@ pub loop-i-init : goal.loop-i-init
 loop-i-init c = (search rules, (refl, refl))
 
 pub digit-requires : goal.digit-requires
-digit-requires c = omega (arith, c.shared_slice_known-in-loop-i-1.given c.loop-i.i)
+digit-requires c = omega (arith, c.type_inv.s c.loop-i.i)
 
 pub loop-i-preserved : goal.loop-i-preserved
 loop-i-preserved c =
@@ -21,7 +21,7 @@ loop-i-preserved c =
     let s = c.args.s.now in (
       search rules,
       (
-        c.put_byte-p.auto.0 ∙ c.put_byte-q.auto.0 ∙ l.invariant.1.0,
+        c.put_byte-p.auto.out ∙ c.put_byte-q.auto.out ∙ l.invariant.1.0,
         ap (λ (t : Text). puts t (hex (drop (l.i + 1) s))) (rw (c.put_byte-p.ensures, c.put_byte-q.ensures, c.digit.ensures, c.digit-in-loop-i.ensures)) ∙ sym (hex_next (text l.out l.p) s l.i (search rules)) ∙ l.invariant.1.1,
       ),
     )

@@ -1,12 +1,9 @@
 -- What is still to be appended from here gives the whole.
-use native.Mathlib.Omega.{arith}
-use Rattle.replay_transcript.proofs.HexLaws.{hex_next, hex_end}
 use Rattle.replay_transcript.specs.Hex.{hex}
-use Rattle.text.specs.Text.{Text, text, puts}
+use Rattle.text.specs.Text.{text, puts}
 use lib.ListN.{length, drop}
-use mathlib.Core.Path.{◌≡◌, refl, sym, ap, ◌∙◌}
-use Prim.Native.Nat.{◌≤◌, ◌-◌, ◌+◌}
-use borrow.Author.Rules.{rules}
+use mathlib.Core.Path.{◌≡◌}
+use Prim.Native.Nat.{◌≤◌, ◌-◌}
 use Rattle.replay_transcript.proofs.hex.put_hex.Given as goal
 
 abbrev pub invariant-loop-i : goal.invariant-loop-i

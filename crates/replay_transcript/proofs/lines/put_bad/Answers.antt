@@ -1,7 +1,6 @@
 -- The word, the number and the line feed, one after the other.
 use Rattle.replay_transcript.specs.Lines.{bad_word, bad_line}
 use Rattle.text.proofs.TextLaws.{wrote, wrote_byte, then}
-use borrow.Author.Rules.{rules}
 use Rattle.replay_transcript.proofs.lines.put_bad.Goals as goal
 
 pub returns : goal.returns

@@ -4,7 +4,6 @@ use Rattle.replay_transcript.specs.Lines.{call_line}
 use Rattle.replay_script.specs.Lends.{lends_fcb, lends_buffer}
 use Rattle.text.proofs.TextLaws.{wrote, wrote_byte, then}
 use Rattle.call_served.specs.Calls.{call_of}
-use borrow.Author.Rules.{rules}
 use Rattle.replay_transcript.proofs.lines.put_call.Goals as goal
 
 pub returns : goal.returns

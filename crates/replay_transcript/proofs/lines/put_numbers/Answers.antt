@@ -3,7 +3,6 @@ use Rattle.text.proofs.TextLaws.{wrote_number}
 use Rattle.text.proofs.TextLaws.{wrote_byte, then}
 use Rattle.call_answers.specs.Answer.{number_of, value_of}
 use mathlib.Core.Path.{◌∙◌}
-use borrow.Author.Rules.{rules}
 use Rattle.replay_transcript.proofs.lines.put_numbers.Goals as goal
 
 pub returns : goal.returns

@@ -1,7 +1,6 @@
 -- The word, the number, the bytes and the line feed, one after the other.
 use Rattle.replay_transcript.specs.Records.{record_word}
 use Rattle.text.proofs.TextLaws.{wrote, wrote_byte, then}
-use borrow.Author.Rules.{rules}
 use Rattle.replay_transcript.proofs.records.put_changed.Goals as goal
 
 pub returns : goal.returns

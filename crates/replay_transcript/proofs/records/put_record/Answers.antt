@@ -2,7 +2,6 @@
 use Rattle.replay_transcript.proofs.RecordLaws.{piece_is}
 use Rattle.replay_transcript.specs.Records.{record_line}
 use Rattle.text.specs.Text.{puts}
-use borrow.Author.Rules.{rules}
 use Rattle.replay_transcript.proofs.records.put_record.Goals as goal
 
 pub returns-then-same_bytes : goal.returns-then-same_bytes

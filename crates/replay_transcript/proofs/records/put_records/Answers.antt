@@ -1,10 +1,7 @@
 -- The lines that are still to be appended from here give the whole.
 use Rattle.replay_transcript.proofs.RecordLaws.{records_next, records_end}
-use Rattle.replay_transcript.specs.Records.{record_lines}
-use Rattle.text.specs.Text.{text, puts}
-use lib.ListN.{length}
-use mathlib.Core.Path.{◌≡◌, refl, sym, ◌∙◌}
-use Prim.Native.Nat.{◌-◌}
+use Rattle.text.specs.Text.{text}
+use mathlib.Core.Path.{refl, sym, ◌∙◌}
 use borrow.Author.Rules.{rules}
 use Rattle.replay_transcript.proofs.records.put_records.Goals as goal
 
@@ -15,7 +12,7 @@ pub loop-q-preserved : goal.loop-q-preserved
 loop-q-preserved c =
     let l = c.loop-q in
     let a = c.args in
-    (c.put_record-p.auto.0 ∙ l.invariant.0, records_next (text l.out l.p) _ a.given.now a.volume.now l.q a.to (search rules) c.put_record-p.ensures ∙ l.invariant.1)
+    (c.put_record-p.auto.out ∙ l.invariant.0, records_next (text l.out l.p) _ a.given.now a.volume.now l.q a.to (search rules) c.put_record-p.ensures ∙ l.invariant.1)
 
 pub returns : goal.returns
 returns c =

@@ -1,11 +1,9 @@
 -- The lines that are still to be appended from here give the whole.
-use Rattle.replay_transcript.proofs.RecordLaws.{records_next, records_end}
 use Rattle.replay_transcript.specs.Records.{record_lines}
 use Rattle.text.specs.Text.{text, puts}
 use lib.ListN.{length}
-use mathlib.Core.Path.{◌≡◌, refl, sym, ◌∙◌}
+use mathlib.Core.Path.{◌≡◌}
 use Prim.Native.Nat.{◌-◌}
-use borrow.Author.Rules.{rules}
 use Rattle.replay_transcript.proofs.records.put_records.Given as goal
 
 abbrev pub invariant-loop-q : goal.invariant-loop-q

@@ -1,9 +1,6 @@
 -- The bytes passed so far were the same, so what is left to be compared decides.
 use Rattle.replay_transcript.proofs.RecordLaws.{same_next, same_not, same_end, same_lengths}
-use Rattle.disk_volume.specs.Name.{same}
-use lib.ListN.{length, drop}
-use mathlib.Core.Path.{◌≡◌, refl, sym, ◌∙◌}
-use Prim.Native.Nat.{◌≤◌, ◌-◌}
+use mathlib.Core.Path.{refl, sym, ◌∙◌}
 use borrow.Author.Rules.{rules}
 use Rattle.replay_transcript.proofs.records.same_bytes.Goals as goal
 

@@ -8,25 +8,24 @@ use mathlib.Core.Path.{◌≡◌, sym, ◌∙◌}
 use borrow.Author.Rules.{rules}
 use Rattle.shelf_figures.proofs.Shelf.put.Goals as goal
 
--- TODO place Else-not-is_kept 
-self_kept : (c : goal.Else-not-is_kept) → is_kept c.args.self ≡ true
-self_kept c = sym c.is_kept.ensures ∙ not-false c.is_kept.result c.if-not-is_kept.false
-
--- TODO place After-look-looked 
-alone_kept : (c : goal.After-look-looked) → is_kept (one c.args.g c.args.volume.now) ≡ true
-alone_kept c = within_kept 1 _ (omega arith) (one_within _ _)
-
 pub returns-then-not-is_kept : goal.returns-then-not-is_kept
 unfolding put
 returns-then-not-is_kept c = rw (← c.is_kept.ensures, c.if-not-is_kept.true)
 
 pub returns-then-self-ge-VOLUMES : goal.returns-then-self-ge-VOLUMES
 unfolding put
-returns-then-self-ge-VOLUMES c = rw (self_kept c, le-leb _ _ c.if-self-ge-VOLUMES.true)
+returns-then-self-ge-VOLUMES c =
+    let self_kept : is_kept c.args.self ≡ true = sym c.is_kept.ensures ∙ c.if-not-is_kept.false in
+    rw (self_kept, le-leb _ _ c.if-self-ge-VOLUMES.true)
 
 pub plus-shelf-requires : goal.plus-shelf-requires
-plus-shelf-requires c = (self_kept c, rw c.look-looked.ensures.alone_value (alone_kept c))
+plus-shelf-requires c =
+    let self_kept : is_kept c.args.self ≡ true = sym c.is_kept.ensures ∙ c.if-not-is_kept.false in
+    let alone_kept : is_kept (one c.args.g c.args.volume.now) ≡ true = within_kept 1 _ (omega arith) (one_within _ _) in
+    (self_kept, rw c.look-looked.ensures.alone_value alone_kept)
 
 pub returns : goal.returns
 unfolding put
-returns c = rw (self_kept c, lt-leb _ _ c.if-self-ge-VOLUMES.false, c.plus-shelf.ensures, c.look-looked.ensures.said_value, c.look-looked.ensures.alone_value)
+returns c =
+    let self_kept : is_kept c.args.self ≡ true = sym c.is_kept.ensures ∙ c.if-not-is_kept.false in
+    rw (self_kept, lt-leb _ _ c.if-self-ge-VOLUMES.false, c.plus-shelf.ensures, c.look-looked.ensures.said_value, c.look-looked.ensures.alone_value)
