@@ -21,7 +21,7 @@ pub loop-more-init : goal.loop-more-init
 loop-more-init g c = record { long = search rules; of_volumes = search (rules, none_seen) }
 
 pub loop-more-smaller : goal.loop-more-smaller
-loop-more-smaller g c = rw c.loop-more-test.true (next_read _ _ _ c.after_read.ensures c.loop-more.invariant.of_volumes).fewer
+loop-more-smaller g c = rw c.loop-more-test.true (next_read _ _ _ c.after_read-reading.ensures c.loop-more.invariant.of_volumes).fewer
 
 pub loop-more-preserved : goal.loop-more-preserved
-loop-more-preserved g c = record { long = search rules; of_volumes = (next_read _ _ _ c.after_read.ensures c.loop-more.invariant.of_volumes).of_volumes }
+loop-more-preserved g c = record { long = search rules; of_volumes = (next_read _ _ _ c.after_read-reading.ensures c.loop-more.invariant.of_volumes).of_volumes }
