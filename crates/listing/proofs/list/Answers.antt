@@ -4,7 +4,6 @@ use Rattle.listing.proofs.ListingLaws.{listed, may_list, wrote_refused}
 use Rattle.listing.specs.Listing.{listing_for}
 use Rattle.text.proofs.TextLaws.{wrote, wrote_byte, then}
 use Rattle.text.specs.Text.{puts}
-use borrow.Author.Rules.{rules}
 use Rattle.listing.proofs.list.Goals as goal
 
 pub put_accepted-requires : goal.put_accepted-requires

@@ -8,7 +8,7 @@ use Rattle.shelf_figures.specs.declared.Shelf.{Shelf}
 use Rattle.shelf_figures.specs.Shelf.{bare}
 use Rattle.shelf_figures.proofs.OrderLaws.{bare_within}
 use Rattle.shelf_report.specs.Room.{OfVolumes}
-use Rattle.shelf.proofs.ReadingLaws.{left, Next, next_read}
+use Rattle.shelf.proofs.ReadingLaws.{next_read}
 use borrow.Author.Rules.{rules}
 use Rattle.shelf.proofs.read_volumes.Invariants.{SoFar}
 use Rattle.shelf.proofs.read_volumes.Goals as goal
@@ -18,13 +18,10 @@ none_seen : (s : Shelf) → s ≡ bare → OfVolumes s
 none_seen s e = rw e (record { many = 0; few = omega arith; within = bare_within })
 
 pub loop-more-init : goal.loop-more-init
-loop-more-init c = record { long = search rules; of_volumes = search (rules, none_seen) }
-
-next : (c : tie.After-after-read invariant-loop decreases-loop) → Next c.before.before.before.before.before.before.before.loop.shelf c.after_read.result
-next c = next_read _ _ _ c.after_read.ensures c.before.before.before.before.before.before.before.loop.invariant.of_volumes
+loop-more-init g c = record { long = search rules; of_volumes = search (rules, none_seen) }
 
 pub loop-more-smaller : goal.loop-more-smaller
-loop-more-smaller c = rw c.loop-more-test.true (next c).fewer
+loop-more-smaller g c = rw c.loop-more-test.true (next_read _ _ _ c.after_read-reading.ensures c.loop-more.invariant.of_volumes).fewer
 
 pub loop-more-preserved : goal.loop-more-preserved
-loop-more-preserved c = record { long = search rules; of_volumes = (next c).of_volumes }
+loop-more-preserved g c = record { long = search rules; of_volumes = (next_read _ _ _ c.after_read-reading.ensures c.loop-more.invariant.of_volumes).of_volumes }

@@ -17,7 +17,7 @@ pub record SoFar (volume₀ volume : List ℕ) (shelf : Shelf) : Type 0 where
   pub of_volumes : OfVolumes shelf
 
 abbrev pub invariant-loop-more : goal.invariant-loop-more
-invariant-loop-more l = SoFar l.initial.volume l.volume l.shelf
+invariant-loop-more g l = SoFar l.initial.volume l.volume l.shelf
 
 abbrev pub decreases-loop-more : goal.decreases-loop-more
-decreases-loop-more l = left l.shelf l.more
+decreases-loop-more g l = left l.shelf l.more

@@ -1,11 +1,9 @@
 -- The lines that are still to be appended from here give the whole.
 use mathlib.Core.Path.{◌≡◌, refl, sym, ◌∙◌}
-use Prim.Native.Nat.{◌≤◌, ◌-◌}
+use Prim.Native.Nat.{◌-◌}
 use native.Mathlib.Omega.{arith}
-use lib.ListN.{length}
 use Rattle.listing.proofs.ListingLaws.{lines_next, lines_end}
-use Rattle.listing.specs.Listing.{lines_from}
-use Rattle.text.specs.Text.{text, puts}
+use Rattle.text.specs.Text.{text}
 use Rattle.disk_geometry.specs.Geometry.{slots}
 use borrow.Author.Rules.{rules}
 use Rattle.listing.proofs.lines.put_lines.Goals as goal
