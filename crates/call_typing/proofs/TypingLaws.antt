@@ -1,13 +1,13 @@
 -- Laws of names that can be typed: a blank stands before a later non-blank exactly where one stands just before it, which is
 -- what the loop looks for.
-use mathlib.Core.Path.{◌≡◌, refl, ap, ◌∙◌}
+use mathlib.Core.Path.{◌≡◌, refl, ◌∙◌}
 use mathlib.Core.Bool.{Bool, true, false, not, cond, ◌&&◌, and-false}
 use mathlib.Core.List.{List, [], ◌∷◌}
 use Prim.Native.Nat.{ℕ, zero, suc, ◌-◌, ◌≤◌, ◌%◌}
 use native.Mathlib.Omega.{arith}
-use lib.ListN.{length, take, drop}
+use lib.ListN.{length}
 use Rattle.lists.specs.Bounded.{every_from}
-use Rattle.lists.specs.Bytes.{byte, part, all}
+use Rattle.lists.specs.Bytes.{byte, all}
 use Rattle.lists.proofs.BoundedLaws.{every_ext}
 use Rattle.disk_volume.specs.Name.{strip}
 use Rattle.call_typing.specs.Typing.{is_blank, blank_before}

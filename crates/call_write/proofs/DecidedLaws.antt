@@ -1,9 +1,9 @@
 -- What was decided is what is defined: a write that is refused alters nothing, one that is carried out leaves what the definitions
 -- say, and the record that its entry counts is the one that a read shows.
 use mathlib.Core.Path.{◌≡◌, refl, sym, ap, ◌∙◌}
-use mathlib.Core.Bool.{Bool, true, false, not, cond, ◌&&◌, true≢false, false≢true}
+use mathlib.Core.Bool.{Bool, true, false, not, cond, true≢false, false≢true}
 use mathlib.Core.List.{List, ◌++◌}
-use Prim.Native.Nat.{ℕ, ◌+◌, ◌/◌, ◌%◌, ◌≤◌, ◌<◌}
+use Prim.Native.Nat.{ℕ, ◌+◌, ◌/◌, ◌%◌, ◌<◌}
 use native.Mathlib.Omega.{arith}
 use lib.Dec.{ltb, eqb}
 use lib.ListN.{length, replicate}
@@ -13,7 +13,7 @@ use Rattle.lists.specs.Bytes.{byte, part}
 use Rattle.lists.proofs.PartLaws.{length_part}
 use Rattle.lists.proofs.BoolLaws.{and_right}
 use Rattle.disk_geometry.specs.declared.Geometry.{Geometry}
-use Rattle.disk_geometry.specs.Geometry.{lawful, bytes, slots, inside}
+use Rattle.disk_geometry.specs.Geometry.{lawful, bytes, slots}
 use Rattle.disk_geometry.proofs.InsideLaws.{is_inside}
 use Rattle.disk_volume.specs.declared.Wanted.TheVariants.{File}
 use Rattle.disk_volume.specs.Name.{name_of}

@@ -145,7 +145,7 @@ module _ {d : Drive} {v f h first second : List ℕ} (inspected : PassesInspecti
 
 -- ---- the request
 pub no_traces : NoTraces
-no_traces d v first second third inspected given there on direct back asks_there asks_on asks_direct asks_back = (
+no_traces d v first second third inspected given there on direct undone asks_there asks_on asks_direct asks_back = (
   by_third d v first second third given there on direct asks_there asks_on asks_direct,
   (λ typed. there_and_back inspected (to_second given asks_there) (then_first given asks_there typed asks_back)),
 )

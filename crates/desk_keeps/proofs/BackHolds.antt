@@ -2,7 +2,7 @@
 -- passes inspection record 0 shares no place with a body, so the second call finds the contents as they were.
 use mathlib.Core.Path.{◌≡◌, refl, sym, ap, ◌∙◌}
 use mathlib.Core.Bool.{Bool, true, false, ◌&&◌, ◌||◌, true≢false}
-use mathlib.Core.Logic.{◌≢◌, ◌⊎◌, inl, inr}
+use mathlib.Core.Logic.{◌⊎◌, inl, inr}
 use mathlib.Core.List.{List}
 use Prim.Native.Nat.{ℕ, zero, suc, ◌+◌, ◌*◌, ◌/◌, ◌%◌, ◌≤◌, ◌<◌}
 use native.Mathlib.Decide.{ℕ_discrete}
@@ -16,7 +16,7 @@ use Rattle.lists.specs.Bounded.{every_from}
 use Rattle.lists.proofs.BoundedLaws.{every_true, every_ext}
 use Rattle.lists.proofs.PartLaws.{byte_part}
 use Rattle.numbers.specs.Numbers.{Bytes, two}
-use Rattle.disk_geometry.specs.Geometry.{slots, record_start}
+use Rattle.disk_geometry.specs.Geometry.{slots}
 use Rattle.disk_volume.specs.Name.{name_of}
 use Rattle.disk_volume.specs.Record.{present, record_at}
 use Rattle.disk_volume.proofs.DirectoryLaws.{record_length}
@@ -26,15 +26,14 @@ use Rattle.call_read.specs.Read.{read_bytes}
 use Rattle.filecalls.specs.declared.Drive.{Drive}
 use Rattle.filecalls.specs.Change.{change_tests}
 use Rattle.desk_contents.specs.Contents.{first_at, total, chapter_place}
-use Rattle.desk.specs.declared.Why.{Why}
 use Rattle.desk.specs.declared.Plan.{Plan}
 use Rattle.desk.specs.declared.Plan.TheVariants.{No, Go}
 use Rattle.desk.specs.Records.{readable, record_shown, bears}
 use Rattle.desk.specs.Replace.{plan, rewrite_all, carried_out, replacement}
 use Rattle.desk.proofs.ReplaceLaws.{Goes, plan_goes, Body, goes_body, goes, told}
-use Rattle.desk_keeps.specs.Sigla.{stands_at, Matches, Altered, NotInChapter, ThereAndBack}
+use Rattle.desk_keeps.specs.Sigla.{stands_at, Altered, NotInChapter, ThereAndBack}
 use Rattle.desk_keeps.proofs.Rewritten.{File, file_clear, found, record_is}
-use Rattle.desk_keeps.proofs.Directory.{Alike, tests_same, readable_same}
+use Rattle.desk_keeps.proofs.Directory.{tests_same, readable_same}
 use Rattle.desk_keeps.proofs.OneRecord.{within, place_same}
 use Rattle.desk_keeps.proofs.OneByOne.{Rewrote, rewrote}
 use Rattle.desk_keeps.proofs.ReplacesHolds.{Hit, all_altered}

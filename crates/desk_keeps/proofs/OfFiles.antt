@@ -8,7 +8,7 @@ use native.Mathlib.Decide.{ℕ_discrete}
 use native.Mathlib.Omega.{arith}
 use lib.Dec.{ltb, eqb}
 use lib.ListN.{length}
-use borrow.Author.Tests.{not-false, not-true, ltb-true, eqb-true, eqb-false, ne_eqb}
+use borrow.Author.Tests.{not-true, ltb-true, eqb-true, eqb-false, ne_eqb}
 use Rattle.lists.specs.Bytes.{byte}
 use Rattle.lists.proofs.BoolLaws.{and_parts}
 use Rattle.lists.proofs.PartLaws.{byte_part}

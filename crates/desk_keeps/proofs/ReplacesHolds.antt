@@ -2,7 +2,7 @@
 use mathlib.Core.Path.{◌≡◌, refl, sym, ap, ◌∙◌}
 use mathlib.Core.Bool.{Bool, true, false, cond}
 use mathlib.Core.Logic.{◌≢◌, ◌⊎◌, inl, inr}
-use mathlib.Core.List.{List, [], ◌++◌}
+use mathlib.Core.List.{List, ◌++◌}
 use Prim.Native.Nat.{ℕ, zero, suc, ◌+◌, ◌-◌, ◌≤◌, ◌<◌}
 use native.Mathlib.Decide.{dec_le}
 use native.Mathlib.Omega.{arith}
@@ -20,7 +20,6 @@ use Rattle.call_answers.specs.declared.Answer.TheVariants.{Done}
 use Rattle.filecalls.specs.declared.Drive.{Drive}
 use Rattle.desk.specs.declared.Why.{Why}
 use Rattle.desk.specs.declared.Plan.{Plan}
-use Rattle.desk.specs.declared.Plan.TheVariants.{No, Go}
 use Rattle.desk.specs.declared.Answer.TheVariants.{Matching, Refused}
 use Rattle.desk.specs.Records.{readable, bears, rewritten}
 use Rattle.desk.specs.Replace.{rewrite_if, rewrite_all, carried_out, replacement}

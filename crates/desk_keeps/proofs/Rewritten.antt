@@ -1,10 +1,10 @@
 -- A record of the file rewritten by the desk, where the file's tests pass and the record can be read: the write succeeds,
 -- leaves the state as it is, and lays the siglum into the record where it stands.
 use mathlib.Core.Path.{◌≡◌, refl, sym, ap, ◌∙◌, subst}
-use mathlib.Core.Bool.{Bool, true, false, not, false≢true}
+use mathlib.Core.Bool.{Bool, true, false, false≢true}
 use mathlib.Core.Logic.{◌⊎◌}
 use mathlib.Core.List.{List, ◌++◌}
-use Prim.Native.Nat.{ℕ, ◌+◌, ◌/◌, ◌%◌, ◌≤◌, ◌<◌}
+use Prim.Native.Nat.{ℕ, ◌/◌, ◌%◌, ◌≤◌, ◌<◌}
 use native.Mathlib.Omega.{arith}
 use lib.Dec.{eqb}
 use lib.ListN.{length, set, replicate, length-set}
@@ -40,7 +40,6 @@ use Rattle.filecalls.proofs.LentLaws.{random_lent_lem}
 use Rattle.filecalls.proofs.StateLaws.{is_open_lem, both_clear}
 use Rattle.filecalls.proofs.WriteLaws.{leaves}
 use Rattle.filecalls.specs.Change.{change_tests}
-use Rattle.filecalls.specs.Stores.{direct_stores}
 use Rattle.numbers.specs.Numbers.{Bytes}
 use Rattle.call_write.specs.Write.{write_stores}
 use Rattle.desk.specs.Stores.{written_stores, rewritten_stores}

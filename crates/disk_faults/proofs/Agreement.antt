@@ -1,18 +1,17 @@
 -- The rules and log-in agree: a slot breaks none exactly where it is good.
-use mathlib.Core.Path.{◌≡◌, refl, sym, ap, ◌∙◌}
-use mathlib.Core.Bool.{Bool, true, false, not, cond, ◌&&◌, ◌||◌, and-true, and-false}
+use mathlib.Core.Path.{◌≡◌, refl}
+use mathlib.Core.Bool.{Bool, true, false, not, cond, ◌&&◌, ◌||◌}
 use mathlib.Core.List.{List}
-use Prim.Native.Nat.{ℕ, zero, suc, ◌+◌, ◌≤◌, ◌<◌}
-use lib.Dec.{leb, ltb, eqb}
+use Prim.Native.Nat.{ℕ, zero, suc, ◌<◌}
+use lib.Dec.{leb, eqb}
 use Rattle.lists.specs.Bounded.{any_from, every_from, every}
 use Rattle.lists.specs.Bytes.{byte}
 use Rattle.disk_geometry.specs.declared.Geometry.{Geometry}
-use Rattle.disk_geometry.specs.Geometry.{slots, group_of, inside, places}
-use Rattle.disk_volume.specs.declared.Wanted.TheVariants.{Group}
+use Rattle.disk_geometry.specs.Geometry.{slots, inside, places}
 use Rattle.disk_volume.specs.Fields.{USER, EX, S1, S2, RC}
 use Rattle.disk_volume.specs.Name.{name_of, good_name}
-use Rattle.disk_volume.specs.Entry.{Entry, is_empty, extent, block_in}
-use Rattle.disk_volume.specs.Directory.{slot_at, find_slot, slot_fits}
+use Rattle.disk_volume.specs.Entry.{Entry, is_empty, block_in}
+use Rattle.disk_volume.specs.Directory.{slot_at}
 use Rattle.disk_rules.specs.GoodSlot.{good_fields, good_top_bits, in_places, named_below, good_entry, good_place, seen_below, good_slot}
 use Rattle.disk_faults.specs.declared.MapRule.{MapRule}
 use Rattle.disk_faults.specs.declared.MapRule.TheVariants.{Outside, Twice, Lower}

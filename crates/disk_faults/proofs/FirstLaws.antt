@@ -1,5 +1,5 @@
 -- The rule that is told of is broken, and no rule before it is.
-use mathlib.Core.Path.{◌≡◌, refl, sym, ◌∙◌}
+use mathlib.Core.Path.{◌≡◌, refl, sym}
 use mathlib.Core.Bool.{Bool, true, false, cond, ◌&&◌, true≢false}
 use mathlib.Core.List.{List, [], ◌∷◌, ◌++◌}
 use Prim.Native.Nat.{ℕ, ◌≤◌, ◌<◌}
@@ -14,7 +14,7 @@ use Rattle.disk_faults.specs.declared.MapRule.TheVariants.{Outside, Twice, Lower
 use Rattle.disk_faults.specs.declared.Rule.{Rule}
 use Rattle.disk_faults.specs.declared.Rule.TheVariants.{None, UserByte, NameByte, TopBit, ExByte, S1Byte, S2Byte, RcByte, Map, Twin}
 use Rattle.disk_faults.specs.declared.Fault.{Fault}
-use Rattle.disk_faults.specs.Faults.{rules, breaks, alone, told, first_of, first_broken, rule_number, is_kept, First, IsFirst}
+use Rattle.disk_faults.specs.Faults.{rules, breaks, alone, told, first_of, first_broken, rule_number, is_kept, IsFirst}
 
 -- no rule of the list has a higher number than this one
 none_above : Rule → List Rule → Bool

@@ -20,7 +20,7 @@ use Rattle.disk_volume.specs.Directory.{slot_at, find_slot, slot_fits}
 use Rattle.disk_rules.specs.GoodSlot.{good_top_bits, seen_below}
 use Rattle.disk_faults.specs.declared.MapRule.{MapRule}
 use Rattle.disk_faults.specs.declared.MapRule.TheVariants.{Outside, Twice, Lower}
-use Rattle.disk_faults.specs.declared.Rule.TheVariants.{None, UserByte, NameByte, TopBit, ExByte, S1Byte, S2Byte, RcByte, Twin}
+use Rattle.disk_faults.specs.declared.Rule.TheVariants.{None, UserByte, NameByte, TopBit, ExByte, S1Byte, S2Byte, RcByte}
 use Rattle.disk_faults.specs.declared.Fault.{Fault}
 use Rattle.disk_faults.specs.Faults.{breaks_at, breaks, place_of, twin_slot, alone, told, first_of, first_broken, is_kept}
 use Rattle.disk_faults.specs.CodeLadder.{entry_rule, map_fault, twin_fault, found}

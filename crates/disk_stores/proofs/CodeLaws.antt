@@ -1,22 +1,19 @@
 -- How code makes stores one after another while it counts those that are left.
 use mathlib.Core.Path.{◌≡◌, refl, sym, ap, ◌∙◌}
-use mathlib.Core.Bool.{Bool, true, false, cond}
+use mathlib.Core.Bool.{Bool, true, false}
 use mathlib.Core.Logic.{◌≢◌}
 use mathlib.Core.List.{List, [], ◌∷◌, ◌++◌}
-use Prim.Native.Nat.{ℕ, zero, suc, ◌+◌, ◌-◌, ◌*◌, ◌/◌, ◌%◌, ◌≤◌, ◌<◌}
+use Prim.Native.Nat.{ℕ, zero, suc, ◌+◌, ◌-◌, ◌≤◌, ◌<◌}
 use native.Mathlib.Omega.{arith}
 use native.Mathlib.Decide.{dec_le}
-use lib.Dec.{eqb}
-use lib.ListN.{length, take, replicate, length-append}
-use Rattle.lists.specs.Bytes.{part, put}
+use lib.ListN.{length, length-append}
+use Rattle.lists.specs.Bytes.{put}
 use Rattle.disk_geometry.specs.declared.Geometry.{Geometry}
-use Rattle.disk_geometry.specs.Geometry.{lawful, bytes, records, start, record_of, slots}
+use Rattle.disk_geometry.specs.Geometry.{lawful, records, start}
 use Rattle.disk_geometry.proofs.GeometryLaws.{bounds}
 use Rattle.disk_volume.specs.Entry.{Entry}
-use Rattle.disk_volume.specs.Directory.{put_slot}
-use Rattle.disk_volume.specs.Record.{put_filled}
 use Rattle.disk_stores.specs.Stores.{Store, store, laid, cut, fill_store, fill_stores, record_stores, entry_stores}
-use Rattle.disk_stores.proofs.LaidLaws.{laid_append, cut_first, cut_second, cut_enough, fill_length, record_laid, entry_laid}
+use Rattle.disk_stores.proofs.LaidLaws.{cut_first, cut_second, cut_enough, fill_length}
 
 module _ (g : Geometry) (v : List ℕ) where
   pub cut_none : (k : ℕ) → cut g v k [] ≡ v

@@ -5,11 +5,10 @@ use mathlib.Core.Bool.{Bool, true}
 use mathlib.Core.Logic.{◌≢◌}
 use mathlib.Core.List.{List, [], ◌∷◌}
 use Prim.Native.Nat.{ℕ, zero, suc, ◌+◌, ◌-◌, ◌*◌, ◌/◌, ◌%◌, ◌≤◌, ◌<◌}
-use native.Mathlib.Decide.{ℕ_discrete}
 use native.Mathlib.Omega.{arith}
-use lib.ListN.{length, take}
+use lib.ListN.{length}
 use Rattle.lists.specs.Bytes.{part, put}
-use Rattle.lists.proofs.PartLaws.{length_put, part_apart}
+use Rattle.lists.proofs.PartLaws.{part_apart}
 use Rattle.lists.proofs.BoundedLaws.{from_zero}
 use Rattle.disk_geometry.specs.declared.Geometry.{Geometry}
 use Rattle.disk_geometry.specs.Geometry.{lawful, bytes, records, start, slots}
@@ -17,7 +16,7 @@ use Rattle.disk_geometry.proofs.GeometryLaws.{bounds, start_in, start_apart}
 use Rattle.disk_volume.specs.declared.Wanted.{Wanted}
 use Rattle.disk_volume.specs.Entry.{Entry}
 use Rattle.disk_volume.specs.Directory.{fits, slot_at, slot_fits, find_from, find_slot}
-use Rattle.disk_volume.proofs.FindLaws.{find_le, found_fits, from_low, from_first, from_fits}
+use Rattle.disk_volume.proofs.FindLaws.{find_le, from_low, from_first, from_fits}
 use Rattle.disk_stores.specs.Pieces.{map_pieces, meant_only}
 use Rattle.disk_stores.specs.Stores.{Store, store, laid, cut, sweep_stores}
 use Rattle.disk_stores.proofs.CodeLaws.{cut_cons, cut_none}

@@ -16,9 +16,9 @@ use Rattle.disk_geometry.specs.Geometry.{lawful, bytes, records, start, slots, s
 use Rattle.disk_volume.specs.Entry.{Entry}
 use Rattle.disk_volume.specs.Directory.{slot_at, put_slot, map_slot, map_slots}
 use Rattle.disk_volume.specs.Record.{record_at}
-use Rattle.disk_stores.specs.Pieces.{map_piece, map_pieces, map_record}
+use Rattle.disk_stores.specs.Pieces.{map_piece, map_record}
 use Rattle.disk_geometry.proofs.GeometryLaws.{bounds, start_in}
-use Rattle.disk_volume.proofs.DirectoryLaws.{slot_length, put_slot_same, put_slot_length, slot_put_slot, slot_put_slot_other, record_put_slot}
+use Rattle.disk_volume.proofs.DirectoryLaws.{slot_length, put_slot_length, slot_put_slot, slot_put_slot_other, record_put_slot}
 
 -- ---- slot by slot
 module _ (g : Geometry) (good : lawful g ≡ true) (f : Entry → Entry) (keeps : (e : Entry) → length e ≡ 32 → length (f e) ≡ 32) where

@@ -2,24 +2,24 @@
 -- a record that holds no entry that is meant is as it was, and needs no store.
 use mathlib.Core.Path.{◌≡◌, refl, sym, ap, ◌∙◌}
 use mathlib.Core.Bool.{Bool, true, false, cond}
-use mathlib.Core.Logic.{inl, inr, ◌≢◌}
-use mathlib.Core.List.{List, [], ◌∷◌}
-use Prim.Native.Nat.{ℕ, zero, suc, ◌+◌, ◌-◌, ◌*◌, ◌/◌, ◌%◌, ◌≤◌, ◌<◌}
+use mathlib.Core.Logic.{◌≢◌}
+use mathlib.Core.List.{List, ◌∷◌}
+use Prim.Native.Nat.{ℕ, zero, suc, ◌+◌, ◌-◌, ◌*◌, ◌≤◌, ◌<◌}
 use native.Mathlib.Omega.{arith}
-use lib.ListN.{length, take}
-use Rattle.lists.specs.Bounded.{fold, any}
+use lib.ListN.{length}
+use Rattle.lists.specs.Bounded.{fold}
 use Rattle.lists.specs.Bytes.{part, put}
 use Rattle.lists.proofs.FoldLaws.{fold_add}
 use Rattle.lists.proofs.BoundedLaws.{any_false, any_intro, any_none}
 use Rattle.lists.proofs.PartLaws.{length_part, length_put, put_part, part_apart}
 use Rattle.disk_geometry.specs.declared.Geometry.{Geometry}
-use Rattle.disk_geometry.specs.Geometry.{lawful, bytes, records, start, slots}
+use Rattle.disk_geometry.specs.Geometry.{lawful, bytes, records, start}
 use Rattle.disk_geometry.proofs.GeometryLaws.{bounds, start_in, start_apart}
 use Rattle.disk_volume.specs.Entry.{Entry}
 use Rattle.disk_volume.specs.Directory.{slot_at, map_slot, map_slots}
 use Rattle.disk_stores.specs.Pieces.{map_piece, map_pieces, map_record, meant_only, holds_meant}
 use Rattle.disk_stores.proofs.SweepLaws.{map_piece_length, piece_slot, record_is}
-use Rattle.disk_stores.specs.Stores.{Store, store, laid, cut, sweep_stores}
+use Rattle.disk_stores.specs.Stores.{store, laid, cut, sweep_stores}
 
 module _ (g : Geometry) (good : lawful g ≡ true) (meant : Entry → Bool) (f : Entry → Entry)
     (keeps : (e : Entry) → length e ≡ 32 → length (f e) ≡ 32) where

@@ -1,7 +1,7 @@
 -- "Each changing call shall store whole 128-byte records: data records first, then directory records in rising order.
 -- Wherever the run of stores is cut .." A store is a logical record and its 128 bytes; a run of stores is a list of them;
 -- a cut is the first k of them laid down.
-use Rattle.std.specs.Prelude.{Bool, cond, List, [], ◌∷◌, ℕ, zero, suc, ◌+◌, ◌*◌, ◌/◌, ◌%◌, eqb, take, replicate}
+use Rattle.std.specs.Prelude.{Bool, cond, List, [], ◌∷◌, ℕ, zero, suc, ◌*◌, ◌/◌, ◌%◌, eqb, take, replicate}
 use Rattle.lists.specs.Bytes.{part, put}
 use Rattle.disk_geometry.specs.declared.Geometry.{Geometry}
 use Rattle.disk_geometry.specs.Geometry.{record_bytes, entry_bytes, record_slots, records, directory_blocks_of, start, record_of}

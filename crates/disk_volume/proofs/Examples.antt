@@ -1,7 +1,6 @@
 -- The map evaluated, with numbers of one byte (T 256) and of two (T 257): a number written, and read back.
 use mathlib.Core.Path.{◌≡◌, refl}
-use mathlib.Core.List.{List, [], ◌∷◌}
-use Prim.Native.Nat.{ℕ}
+use mathlib.Core.List.{[], ◌∷◌}
 use lib.ListN.{replicate}
 use Rattle.lists.specs.Bytes.{part}
 use Rattle.disk_geometry.specs.declared.Geometry.{Geometry}

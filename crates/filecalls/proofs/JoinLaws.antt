@@ -9,7 +9,7 @@ use Rattle.filecalls.specs.declared.Drive.{Drive}
 use Rattle.filecalls.specs.declared.Reply.{Reply}
 use Rattle.filecalls.specs.CodeFront.{front_of, joined, joined_reply}
 use Rattle.filecalls.specs.Outcome.{Act, act_stores, Outcome, outcome, left}
-use Rattle.filecalls.specs.Stores.{Cut, cut_outcome, cut_left}
+use Rattle.filecalls.specs.Stores.{cut_outcome, cut_left}
 use Rattle.filecalls.proofs.CutLaws.{code_whole}
 
 module _ (d : Drive) {w : Front} {q : FrontReply} {r : Reply} {h : List ℕ} {v f b : List ℕ} (reply : r ≡ joined_reply q h) (front : w ≡ front_of d) where

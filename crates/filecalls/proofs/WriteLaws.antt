@@ -1,7 +1,7 @@
 -- What a write leaves, by what the write of the record hands back: why it is refused, the bytes, the held blocks, and the stores
 -- that are left.
 use mathlib.Core.Path.{◌≡◌, refl, sym, ap, ◌∙◌}
-use mathlib.Core.Bool.{Bool, true, false, cond}
+use mathlib.Core.Bool.{Bool, false, cond}
 use mathlib.Core.List.{List}
 use Prim.Native.Nat.{ℕ}
 use Rattle.disk_volume.specs.Name.{name_of}

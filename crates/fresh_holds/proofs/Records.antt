@@ -29,7 +29,7 @@ use Rattle.fresh_order.proofs.OrderLaws.{there_is, few_entries}
 use Rattle.fresh_volume.specs.Copy.{fresh}
 use Rattle.fresh_holds.specs.Holds.{file_record}
 use Rattle.fresh_holds.proofs.SameHead.{same_count}
-use Rattle.fresh_volume.proofs.Copied.{many, entry, place, is_entry_lem, entry_length, record_fresh}
+use Rattle.fresh_volume.proofs.Copied.{many, entry, is_entry_lem, entry_length, record_fresh}
 use Rattle.fresh_holds.proofs.Passes.{fresh_length, fresh_head, fresh_used, fresh_number, fresh_group, fresh_low, alike}
 
 -- an entry of a group: its user, its name and its group

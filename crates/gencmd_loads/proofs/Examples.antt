@@ -16,7 +16,6 @@ use Rattle.disk_volume.specs.Name.{strip, name_at, same, good_name}
 use Rattle.disk_volume.specs.Entry.{block_in, count_of, of_file, of_group}
 use Rattle.disk_volume.specs.Directory.{slot_at, find_slot}
 use Rattle.disk_volume.specs.Record.{record_slot, counted, present, record_at}
-use Rattle.disk_held.specs.Held.{none_held}
 use Rattle.call_fcb.specs.Fcb.{random, set_to, with_random}
 use Rattle.call_answers.specs.Refusal.{first_met}
 use Rattle.call_read.specs.Read.{read_block, read_tests, read_bytes}

@@ -1,22 +1,21 @@
 -- The header is within the rules: types 1 to 4, none twice, code among them, and 16 paragraphs for the base page.
-use mathlib.Core.Path.{◌≡◌, refl, sym, ap, ◌∙◌}
+use mathlib.Core.Path.{◌≡◌, refl, ap, ◌∙◌}
 use mathlib.Core.Bool.{Bool, true, false, cond}
-use mathlib.Core.List.{List, [], ◌∷◌, ◌++◌}
+use mathlib.Core.List.{List, ◌∷◌, ◌++◌}
 use Prim.Native.Nat.{ℕ, zero, suc, ◌+◌, ◌≤◌, ◌<◌, max}
 use native.Mathlib.Omega.{arith}
 use native.Mathlib.Decide.{dec_lt}
-use borrow.Author.Tests.{ne_eqb, eq-eqb, le-leb, lt-ltb, le-ltb, eqb-true, eqb-false}
-use lib.Dec.{eqb, ltb}
+use borrow.Author.Tests.{ne_eqb, le-leb, lt-ltb, le-ltb}
+use lib.Dec.{eqb}
 use lib.ListN.{length, get_or}
-use Rattle.lists.specs.Bounded.{any, every}
 use Rattle.lists.proofs.BoundedLaws.{low_is, low_no, any_none, every_intro}
-use Rattle.load_header.specs.Header.{CODE, DATA, LAST_AUX, page_paragraphs, length_at, least_at, groups, type_at, need, good_group, place_of, has, page_place, good_header}
+use Rattle.load_header.specs.Header.{CODE, DATA, LAST_AUX, page_paragraphs, groups, type_at, need, good_group, place_of, page_place, good_header}
 use Rattle.gencmd_groups.specs.declared.Groups.{Groups}
 use Rattle.gencmd_groups.specs.Groups.{rounded, sizes_of}
 use Rattle.gencmd_groups.specs.CodeMeasure.{SizeWithin}
 use Rattle.gencmd_file.specs.File.{header}
 use Rattle.gencmd_loads.specs.Loads.{Group, nobody, there, groups_of, Says}
-use Rattle.gencmd_loads.proofs.GroupLaws.{Rising, rising, rising_at, rising_less, others, others_rise}
+use Rattle.gencmd_loads.proofs.GroupLaws.{rising, rising_at, rising_less, others, others_rise}
 use Rattle.gencmd_loads.proofs.HeaderSays.{header_says}
 
 -- ---- code is there, and the base page's group has its 16 paragraphs

@@ -9,10 +9,9 @@ use lib.Dec.{eqb}
 use lib.ListN.{length, get_or, replicate, length-append, get_or-append}
 use lib.Seq.{get_or-append-add}
 use Rattle.lists.specs.Bytes.{byte}
-use Rattle.lists.specs.Bounded.{low_from}
 use Rattle.lists.proofs.BoundedLaws.{low_is}
 use Rattle.numbers.specs.Numbers.{bytes_of, two}
-use Rattle.load_header.specs.Header.{CODE, DATA, EXTRA, STACK, SHARED_CODE, descriptors as places, descriptor_bytes, form_at, length_at, base_at, least_at, most_at, groups, type_at}
+use Rattle.load_header.specs.Header.{CODE, DATA, EXTRA, STACK, SHARED_CODE, descriptors as places, descriptor_bytes, form_at, length_at, groups, type_at}
 use Rattle.gencmd_groups.specs.declared.Groups.{Groups}
 use Rattle.gencmd_groups.specs.CodeMeasure.{SizeWithin}
 use Rattle.gencmd_file.specs.File.{header_bytes, descriptor, descriptors, header}

@@ -1,13 +1,12 @@
 -- The memory after a load has the image of each group at the start of its region, but for the base page.
-use mathlib.Core.Path.{◌≡◌, refl, sym, ap, ◌∙◌}
+use mathlib.Core.Path.{◌≡◌, refl, ap, ◌∙◌}
 use mathlib.Core.Logic.{◌⊎◌, inl, inr}
 use mathlib.Core.List.{List}
-use Prim.Native.Nat.{ℕ, zero, suc, ◌+◌, ◌*◌, ◌≤◌, ◌<◌}
+use Prim.Native.Nat.{ℕ, ◌+◌, ◌*◌, ◌≤◌, ◌<◌}
 use native.Mathlib.Omega.{arith}
 use native.Mathlib.Decide.{ℕ_discrete}
 use lib.ListN.{length, get_or}
-use Rattle.lists.specs.Bytes.{byte, part, put}
-use Rattle.lists.specs.Bounded.{fold}
+use Rattle.lists.specs.Bytes.{byte}
 use Rattle.lists.proofs.PartLaws.{length_part, byte_part, byte_out}
 use Rattle.memory_spans.specs.declared.Span.{Span}
 use Rattle.memory_spans.specs.Span.{paragraph_bytes, none, end}

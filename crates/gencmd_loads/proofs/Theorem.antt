@@ -1,22 +1,22 @@
 -- The theorem: the file that gencmd writes loads.
 use mathlib.Core.Path.{◌≡◌, refl, sym, ap, ◌∙◌}
-use mathlib.Core.Bool.{Bool, true, false, cond, false≢true}
+use mathlib.Core.Bool.{Bool, true, false, false≢true}
 use mathlib.Core.List.{List, ◌++◌, append_assoc}
 use Prim.Native.Nat.{ℕ, ◌+◌, ◌*◌, ◌-◌, ◌≤◌, ◌<◌}
 use native.Mathlib.Omega.{arith}
 use borrow.Author.Tests.{le-ltb, eqb-false}
 use lib.Dec.{eqb, ltb}
-use lib.ListN.{length, get_or, replicate, length-append}
+use lib.ListN.{length, replicate, length-append}
 use lib.Seq.{take_at, drop_at}
 use lib.ListN.{take, drop}
 use Rattle.lists.specs.Bytes.{byte}
 use Rattle.disk_geometry.specs.Geometry.{record_bytes}
 use Rattle.filecalls.specs.declared.Drive.{Drive}
-use Rattle.memory_spans.specs.Span.{places, paragraph_bytes, none}
+use Rattle.memory_spans.specs.Span.{places, paragraph_bytes}
 use Rattle.memory_calls.specs.declared.Table.{Table}
 use Rattle.memory_calls.specs.Table.{pieces_of, regions_of}
 use Rattle.memory_calls.proofs.CallLaws.{within_facts}
-use Rattle.load_header.specs.Header.{CODE, length_at, least_at, most_at, need, groups, page_place, image_start, good_header}
+use Rattle.load_header.specs.Header.{CODE, length_at, groups, image_start, good_header}
 use Rattle.load_records.specs.Records as records
 use Rattle.load_records.proofs.RecordLaws.{record_length}
 use Rattle.load_records.proofs.ImageLaws.{image_length}

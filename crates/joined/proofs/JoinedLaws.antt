@@ -1,10 +1,10 @@
 -- Laws of lists laid one behind the other: one more, their length, a part within one of them, and the loop that lays them.
-use mathlib.Core.Path.{◌≡◌, refl, sym, ap, ◌∙◌}
+use mathlib.Core.Path.{◌≡◌, sym, ap, ◌∙◌}
 use mathlib.Core.List.{List, ◌++◌, append_assoc, append-nil}
 use Prim.Native.Nat.{ℕ, zero, suc, ◌+◌, ◌*◌, ◌≤◌, ◌<◌}
 use native.Mathlib.Numerals.{add-one}
 use native.Mathlib.Omega.{arith}
-use lib.ListN.{length, take, drop, length-append, length-take, length-drop}
+use lib.ListN.{length, take, drop, length-append, length-drop}
 use lib.Seq.{take-add, take_at, take_all, drop-drop, drop-append-le, drop-append-add, take-append-le, length-take-le}
 use Rattle.lists.specs.Bytes.{byte, part}
 use Rattle.joined.specs.Joined.{joined}

@@ -1,7 +1,7 @@
 -- Volumes put on a shelf, evaluated: V after 01's writes, a disk of another geometry beside it, volumes that log-in refuses, the 65,535th
 -- and the 65,536th.
 use mathlib.Core.Path.{◌≡◌, refl, ap}
-use mathlib.Core.List.{List, [], ◌∷◌}
+use mathlib.Core.List.{[], ◌∷◌}
 use Prim.Native.Nat.{ℕ}
 use Rattle.disk_geometry.specs.Geometry.{lawful, geometry_of, bytes}
 use Rattle.call_answers.specs.Refusal.{first_met}

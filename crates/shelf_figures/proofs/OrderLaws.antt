@@ -1,13 +1,11 @@
 -- Why the order makes no difference: up to 65,535 volumes the shelf is the sum over its volumes, and sums may be taken in
 -- any order.
 use mathlib.Core.Path.{◌≡◌, refl, sym, ap, ◌∙◌}
-use mathlib.Core.Bool.{Bool, true, false}
 use mathlib.Core.List.{List, [], ◌∷◌, ◌++◌}
-use Prim.Native.Nat.{ℕ, suc, ◌+◌, ◌*◌, ◌≤◌, ◌<◌}
+use Prim.Native.Nat.{ℕ, suc, ◌+◌, ◌≤◌, ◌<◌}
 use native.Mathlib.Omega.{arith}
 use borrow.Author.Tests.{le-leb, lt-leb}
 use lib.ListN.{length}
-use Rattle.disk_geometry.specs.declared.Geometry.{Geometry}
 use Rattle.shelf_figures.specs.declared.Shelf.{Shelf}
 use Rattle.shelf_figures.specs.declared.Shelved.TheVariants.{Full}
 use Rattle.shelf_figures.specs.Shelf.{bare, plus, one, most_volumes, shelved_number, put}

@@ -6,7 +6,6 @@ use native.Mathlib.Omega.{arith}
 use lib.ListN.{length, take, drop, length-append}
 use lib.Seq.{take_at}
 use Rattle.text.specs.Text.{Text, text, puts}
-use Rattle.text.specs.Decimal.{decimal}
 use Rattle.text.proofs.TextLaws.{puts_room}
 use Rattle.text.proofs.DecimalLaws.{decimal_short}
 use Rattle.shelf_figures.specs.declared.Shelf.{Shelf}

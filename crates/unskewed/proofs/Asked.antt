@@ -1,7 +1,7 @@
 -- What the calls ask of the directory is answered alike on the unskewed volume: which slot is meant, which tests are met, which
 -- block a record has or is given, and which blocks a delete frees.
-use mathlib.Core.Path.{◌≡◌, refl, sym, ap, ◌∙◌}
-use mathlib.Core.Bool.{Bool, true, not, cond, ◌&&◌}
+use mathlib.Core.Path.{◌≡◌, refl, ap, ◌∙◌}
+use mathlib.Core.Bool.{true, not, cond, ◌&&◌}
 use mathlib.Core.List.{List, [], ◌∷◌}
 use Prim.Native.Nat.{ℕ, zero, suc, ◌+◌, ◌/◌, ◌≤◌, ◌<◌, max}
 use native.Mathlib.Omega.{arith}
@@ -11,17 +11,16 @@ use Rattle.lists.specs.Bounded.{fold}
 use Rattle.lists.specs.Bytes.{byte}
 use Rattle.disk_geometry.specs.declared.Geometry.{Geometry}
 use Rattle.disk_geometry.specs.Geometry.{lawful, bytes, slots, blocks, directory_blocks_of, group_of, places, place_of, inside}
-use Rattle.disk_volume.specs.declared.Wanted.{Wanted}
 use Rattle.disk_volume.specs.declared.Wanted.TheVariants.{Empty, File, ReadOnlyFile, Group, Match, ReadOnlyMatch, MatchGroup}
 use Rattle.disk_volume.specs.Fields.{EX}
 use Rattle.disk_volume.specs.Name.{name_of, name_at}
 use Rattle.disk_volume.specs.Entry.{Entry, extent, block_in, with_block, of_file, matches}
-use Rattle.disk_volume.specs.Directory.{slot_at, find_slot}
+use Rattle.disk_volume.specs.Directory.{slot_at}
 use Rattle.disk_volume.specs.Record.{record_slot, record_block, counted, present, record_at}
 use Rattle.disk_held.specs.Held.{lowest_free}
 use Rattle.call_answers.specs.declared.Refusal.{Refusal}
-use Rattle.call_answers.specs.declared.Refusal.TheVariants.{NoMatch, NoFile, ReadOnly, Exists, Absent, Outside, NoSlot, NoRoom, NoBlock}
-use Rattle.call_answers.specs.Refusal.{Test, test}
+use Rattle.call_answers.specs.declared.Refusal.TheVariants.{NoMatch, NoFile, ReadOnly, Exists, Absent, Outside, NoSlot, NoBlock}
+use Rattle.call_answers.specs.Refusal.{test}
 use Rattle.call_open.specs.Open.{open_slot, close_slot}
 use Rattle.call_search.specs.declared.SearchKind.{SearchKind}
 use Rattle.call_search.specs.declared.SearchKind.TheVariants.{Nothing, Pattern, Everything}

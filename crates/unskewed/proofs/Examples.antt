@@ -2,7 +2,7 @@
 -- from the table of request (i).
 use mathlib.Core.Path.{◌≡◌, refl}
 use mathlib.Core.List.{List, [], ◌∷◌, ◌++◌}
-use Prim.Native.Nat.{ℕ, zero, suc, ◌+◌, ◌*◌}
+use Prim.Native.Nat.{ℕ, zero, suc}
 use lib.ListN.{replicate}
 use Rattle.lists.specs.Bytes.{part}
 use Rattle.disk_geometry.specs.declared.Geometry.{Geometry}

@@ -1,14 +1,12 @@
 -- The directory and the records of blocks are the same on the unskewed volume: so is every search, and what inspection says.
 use mathlib.Core.Path.{◌≡◌, refl, sym, ap, ◌∙◌}
-use mathlib.Core.Bool.{Bool, true, false, not, ◌&&◌, ◌||◌}
+use mathlib.Core.Bool.{true, not, ◌&&◌}
 use mathlib.Core.List.{List}
-use Prim.Native.Nat.{ℕ, zero, suc, ◌+◌, ◌-◌, ◌*◌, ◌/◌, ◌%◌, ◌≤◌, ◌<◌}
+use Prim.Native.Nat.{ℕ, suc, ◌+◌, ◌-◌, ◌*◌, ◌/◌, ◌%◌, ◌≤◌, ◌<◌}
 use native.Mathlib.Nat.{mul-le-mul_right}
 use native.Mathlib.Omega.{arith}
-use lib.Dec.{eqb}
 use lib.ListN.{length}
-use Rattle.lists.specs.Bounded.{low_from, any_from, every_from, fold, any, every, lowest}
-use Rattle.lists.specs.Bytes.{byte, part}
+use Rattle.lists.specs.Bytes.{part}
 use Rattle.lists.proofs.PartLaws.{part_part}
 use Rattle.lists.proofs.BoundedLaws.{low_ext, any_ext, every_ext}
 use Rattle.disk_geometry.specs.declared.Geometry.{Geometry}
@@ -16,14 +14,12 @@ use Rattle.disk_geometry.specs.Geometry.{lawful, bytes, records, start, slots, s
 use Rattle.disk_geometry.proofs.GeometryLaws.{bounds, start_in, record_below}
 use Rattle.disk_volume.specs.declared.Wanted.{Wanted}
 use Rattle.disk_volume.specs.declared.Wanted.TheVariants.{Any, Empty, File, ReadOnlyFile, Group, Match, ReadOnlyMatch, MatchGroup}
-use Rattle.disk_volume.specs.Fields.{USER}
-use Rattle.disk_volume.specs.Name.{name_of}
-use Rattle.disk_volume.specs.Entry.{Entry, is_empty, extent, block_in, of_group}
+use Rattle.disk_volume.specs.Entry.{Entry, block_in, of_group}
 use Rattle.disk_volume.specs.Directory.{slot_at, fits, slot_fits, find_from, find_slot}
-use Rattle.disk_volume.specs.Record.{record_at, slot_record, record_slot}
+use Rattle.disk_volume.specs.Record.{record_at, slot_record}
 use Rattle.disk_volume.proofs.FindLaws.{find_le}
 use Rattle.disk_held.specs.Held.{words_of}
-use Rattle.disk_rules.specs.GoodSlot.{good_entry, in_places, names_block, named_below, good_place, twin, seen_below, good_slot, lowest_bad}
+use Rattle.disk_rules.specs.GoodSlot.{in_places, names_block, named_below, good_place, twin, seen_below, good_slot, lowest_bad}
 use Rattle.disk_rules.specs.Named.{named, held_of}
 use Rattle.unskewed.specs.Unskewed.{straightened, unskewed}
 use Rattle.unskewed.proofs.Logical.{straight_good, unskewed_size, record_seen}

@@ -1,6 +1,6 @@
 -- Each call that asks is done by its method, and what the method is not lent is kept; no other comes here.
-use mathlib.Core.Path.{◌≡◌, refl, sym, ap, ◌∙◌}
-use mathlib.Core.Bool.{true, false≢true}
+use mathlib.Core.Path.{refl, sym, ap, ◌∙◌}
+use mathlib.Core.Bool.{false≢true}
 use mathlib.Core.List.{List}
 use Prim.Native.Nat.{ℕ}
 use Rattle.disk_geometry.specs.declared.Geometry.{Geometry}
@@ -9,7 +9,6 @@ use Rattle.filecalls.specs.Outcome.{outcome}
 use Rattle.filecalls.proofs.JoinLaws.{reply_left}
 use Rattle.bdos.specs.Step.{keeps_buffer, keeps_fcb, keeps_volume, does}
 use Rattle.bdos.specs.CodeWay.{way_of, asks}
-use borrow.Author.Rules.{rules}
 use Rattle.bdos.proofs.ask.Goals as goal
 
 pub returns-in-Open : goal.returns-in-Open

@@ -1,6 +1,6 @@
 -- Each call that changes the volume stores as its method promises, and a buffer that it is not lent is kept; no other comes here.
-use mathlib.Core.Path.{◌≡◌, sym, ap, ◌∙◌}
-use mathlib.Core.Bool.{true, false≢true}
+use mathlib.Core.Path.{sym, ap, ◌∙◌}
+use mathlib.Core.Bool.{false≢true}
 use mathlib.Core.List.{[]}
 use Rattle.disk_geometry.specs.declared.Geometry.{Geometry}
 use Rattle.call_served.specs.declared.Call.{Call}
@@ -10,7 +10,6 @@ use Rattle.bdos.specs.Step.{does}
 use Rattle.bdos.specs.Stores.{call_stores}
 use Rattle.bdos.specs.CodeWay.{way_of, changes}
 use Rattle.bdos.proofs.DoorLaws.{own_stores, buffer_kept}
-use borrow.Author.Rules.{rules}
 use Rattle.bdos.proofs.change.Goals as goal
 
 pub returns-in-Delete : goal.returns-in-Delete

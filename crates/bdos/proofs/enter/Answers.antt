@@ -7,7 +7,6 @@ use Rattle.filecalls.proofs.JoinLaws.{joined_left}
 use Rattle.bdos.specs.Step.{does, step}
 use Rattle.bdos.specs.CodeWay.{way_of, asks, changes, logs}
 use Rattle.bdos.proofs.DoorLaws.{logs_in_lem, call_enough}
-use borrow.Author.Rules.{rules}
 use Rattle.bdos.proofs.enter.Goals as goal
 
 pub returns-in-LogsIn : goal.returns-in-LogsIn

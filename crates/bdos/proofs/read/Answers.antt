@@ -1,12 +1,11 @@
 -- A read is done by its method; no write comes here.
-use mathlib.Core.Path.{◌≡◌, sym, ap, ◌∙◌}
-use mathlib.Core.Bool.{true, false≢true}
+use mathlib.Core.Path.{sym, ap, ◌∙◌}
+use mathlib.Core.Bool.{false≢true}
 use mathlib.Core.List.{List}
 use Prim.Native.Nat.{ℕ}
 use Rattle.call_served.specs.declared.Transfer.{Transfer}
 use Rattle.bdos.specs.Step.{carries}
 use Rattle.bdos.specs.CodeWay.{way_moved, asks}
-use borrow.Author.Rules.{rules}
 use Rattle.bdos.proofs.read.Goals as goal
 
 pub returns-in-ReadSequential : goal.returns-in-ReadSequential

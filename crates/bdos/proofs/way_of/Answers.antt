@@ -1,5 +1,4 @@
 -- Each arm is the way of its call.
-use borrow.Author.Rules.{rules}
 use Rattle.bdos.proofs.way_of.Goals as goal
 
 pub returns-in-Moves : goal.returns-in-Moves

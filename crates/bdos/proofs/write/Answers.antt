@@ -1,5 +1,5 @@
 -- Each write stores as its method promises; no read comes here.
-use mathlib.Core.Path.{◌≡◌, sym, ap, ◌∙◌}
+use mathlib.Core.Path.{sym, ap, ◌∙◌}
 use mathlib.Core.Bool.{true, false, false≢true}
 use Rattle.call_served.specs.declared.Transfer.{Transfer}
 use Rattle.filecalls.specs.Write.{write_sequential_act, write_direct_act, write_random_act, write_zero_fill_act}
@@ -8,7 +8,6 @@ use Rattle.bdos.specs.Step.{carries}
 use Rattle.bdos.specs.Stores.{transfer_stores}
 use Rattle.bdos.specs.CodeWay.{way_moved, changes}
 use Rattle.bdos.proofs.DoorLaws.{own_stores}
-use borrow.Author.Rules.{rules}
 use Rattle.bdos.proofs.write.Goals as goal
 
 pub returns-in-WriteSequential : goal.returns-in-WriteSequential

@@ -1,5 +1,4 @@
 -- The first refuses, or the second is asked.
-use borrow.Author.Rules.{rules}
 use Rattle.call_answers.proofs.first_of.Goals as goal
 
 pub returns-then-is_none : goal.returns-then-is_none

@@ -1,5 +1,4 @@
 -- No refusal is the one whose number is 0.
-use borrow.Author.Rules.{rules}
 use Rattle.call_answers.proofs.is_none.Goals as goal
 
 pub returns : goal.returns

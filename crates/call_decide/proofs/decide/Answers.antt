@@ -56,9 +56,12 @@ returns c =
     let name = strip a.name.now in
     let e : is_none c.file_why-why.result ≡ true = sym c.is_none.ensures ∙ not-false c.is_none.result (ap not c.if-not-is_none.false) in
     let b = entry_is in
-    let s = slot_here in record { why_value = c.room.ensures.why_value ∙ rw (b, s) (sym (passed_file a.g a.held.now a.volume.now a.user name a.n (ap is_none (sym why_is) ∙ e))); decided = λ h. record {
+    let s = slot_here in record {
+      why_value = c.room.ensures.why_value ∙ rw (b, s) (sym (passed_file a.g a.held.now a.volume.now a.user name a.n (ap is_none (sym why_is) ∙ e)));
+      decided = λ h. record {
         slot_is = c.room.ensures.slot_value ∙ s ∙ sym (slot_is a.g a.volume.now a.user name a.n);
         block_is = c.room.ensures.block_value ∙ rw b (sym (block_is a.g a.held.now a.volume.now a.user name a.n));
         fresh_is = c.room.ensures.fresh_value ∙ rw b;
         entry_is = b;
-      } }
+      };
+    }

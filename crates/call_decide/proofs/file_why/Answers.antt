@@ -1,7 +1,6 @@
 -- Where the first test is not met, the second decides.
 use mathlib.Core.Path.{sym, ◌∙◌}
 use native.Mathlib.Omega.{arith}
-use borrow.Author.Rules.{rules}
 use Rattle.call_decide.proofs.WriteLaws.{no_file, some_file}
 use Rattle.call_decide.proofs.file_why.Goals as goal
 

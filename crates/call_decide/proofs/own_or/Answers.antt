@@ -2,7 +2,6 @@
 use mathlib.Core.Path.{◌∙◌}
 use native.Mathlib.Omega.{arith}
 use borrow.Author.Tests.{lt-ltb, le-ltb}
-use borrow.Author.Rules.{rules}
 use Rattle.disk_geometry.specs.Geometry.{slots}
 use Rattle.call_decide.specs.CodePlan.{own_or}
 use Rattle.call_decide.proofs.own_or.Goals as goal

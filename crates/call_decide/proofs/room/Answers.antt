@@ -3,7 +3,6 @@ use mathlib.Core.Path.{◌≡◌, refl, sym, ap, ◌∙◌}
 use mathlib.Core.Bool.{true, false}
 use lib.Dec.{eqb}
 use borrow.Author.Tests.{eq-eqb, ne_eqb}
-use borrow.Author.Rules.{rules}
 use Rattle.disk_volume.specs.Entry.{block_in}
 use Rattle.disk_volume.specs.Record.{record_block}
 use Rattle.call_decide.specs.CodePlan.{block_for}

@@ -1,8 +1,6 @@
 -- An earlier refusal or one of the directory's alters nothing; else blocks and entries go as the definitions say.
 use Rattle.call_answers.specs.Refusal.{first}
-use borrow.Author.Tests.{not-true, not-false}
 use mathlib.Core.Path.{sym, ap, ◌∙◌}
-use borrow.Author.Rules.{rules}
 use Rattle.call_delete.proofs.delete_matches.Goals as goal
 
 pub returns-then-not-is_none : goal.returns-then-not-is_none

@@ -1,7 +1,6 @@
 -- The tests are asked in the ladder's order, the second from the first match on.
 use mathlib.Core.Path.{refl}
 use lib.Dec.{leb, ltb}
-use borrow.Author.Rules.{rules}
 use Rattle.disk_volume.specs.Directory.{find_slot}
 use Rattle.disk_volume.specs.Name.{strip}
 use Rattle.disk_geometry.specs.Geometry.{slots}

@@ -1,10 +1,8 @@
 -- The places passed are freed, so what is still to be freed gives the whole.
-use mathlib.Core.Path.{◌≡◌, sym, ◌∙◌}
-use Prim.Native.Nat.{◌-◌, ◌≤◌}
-use lib.ListN.{length}
+use mathlib.Core.Path.{sym, ◌∙◌}
+use Prim.Native.Nat.{◌-◌}
 use borrow.Author.Rules.{rules}
-use Rattle.lists.proofs.FoldLaws.{Folded, folded_start, folded_next, folded_end}
-use Rattle.disk_held.specs.Held.{held_words}
+use Rattle.lists.proofs.FoldLaws.{folded_start, folded_next, folded_end}
 use Rattle.call_delete.specs.Delete.{free_place, free_entry}
 use Rattle.call_delete.proofs.free_entry.Goals as goal
 

@@ -1,11 +1,10 @@
 -- The places passed are freed, so what is still to be freed gives the whole.
-use mathlib.Core.Path.{◌≡◌, sym, ◌∙◌}
+use mathlib.Core.Path.{◌≡◌}
 use Prim.Native.Nat.{◌-◌, ◌≤◌}
 use lib.ListN.{length}
-use borrow.Author.Rules.{rules}
-use Rattle.lists.proofs.FoldLaws.{Folded, folded_start, folded_next, folded_end}
+use Rattle.lists.proofs.FoldLaws.{Folded}
 use Rattle.disk_held.specs.Held.{held_words}
-use Rattle.call_delete.specs.Delete.{free_place, free_entry}
+use Rattle.call_delete.specs.Delete.{free_place}
 use Rattle.call_delete.proofs.free_entry.Given as goal
 
 abbrev pub invariant-loop-p : goal.invariant-loop-p

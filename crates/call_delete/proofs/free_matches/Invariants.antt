@@ -1,16 +1,12 @@
 -- No slot below the first match is one; the slots passed from there on are freed, so what is still to be freed gives the whole.
-use Rattle.disk_volume.proofs.FindLaws.{folded_from_found, from_low, folded_to_next}
-use Rattle.disk_volume.specs.declared.Wanted.TheVariants.{Match}
-use Rattle.lists.proofs.FoldLaws.{Folded, folded_next, folded_end}
-use mathlib.Core.Path.{◌≡◌, sym, ◌∙◌}
-use Prim.Native.Nat.{◌+◌, ◌-◌, ◌≤◌}
-use native.Mathlib.Omega.{arith}
+use Rattle.lists.proofs.FoldLaws.{Folded}
+use mathlib.Core.Path.{◌≡◌}
+use Prim.Native.Nat.{◌-◌, ◌≤◌}
 use lib.ListN.{length}
-use borrow.Author.Rules.{rules}
 use Rattle.disk_volume.specs.Name.{strip}
 use Rattle.disk_geometry.specs.Geometry.{slots}
 use Rattle.disk_held.specs.Held.{held_words}
-use Rattle.call_delete.specs.Delete.{free_slot, free_matches}
+use Rattle.call_delete.specs.Delete.{free_slot}
 use Rattle.call_delete.proofs.free_matches.Given as goal
 
 abbrev pub invariant-loop-i : goal.invariant-loop-i

@@ -3,7 +3,6 @@ use mathlib.Core.Bool.{not}
 use mathlib.Core.Path.{sym, ◌∙◌, ap}
 use native.Mathlib.Omega.{arith}
 use borrow.Author.Tests.{not-true, not-false}
-use borrow.Author.Rules.{rules}
 use Rattle.disk_geometry.proofs.InsideLaws.{inside_low}
 use Rattle.call_delete.specs.Delete.{free_place}
 use Rattle.call_delete.proofs.free_place.Goals as goal

@@ -1,10 +1,8 @@
 -- Above the block in the nearest lower used place where one is free there, and else the lowest: a lawful geometry's D and T
 -- are within the bounds of the search.
 use mathlib.Core.Path.{◌≡◌, sym, ◌∙◌}
-use mathlib.Core.Logic.{⊎_elim}
 use Prim.Native.Nat.{◌≤◌, ◌<◌}
 use native.Mathlib.Omega.{arith}
-use borrow.Author.Rules.{rules}
 use Rattle.disk_geometry.proofs.GeometryLaws.{bounds}
 use Rattle.call_entry.specs.Alloc.{alloc}
 use Rattle.call_entry.proofs.AllocLaws.{lowest}

@@ -2,7 +2,6 @@
 use mathlib.Core.Path.{◌∙◌}
 use native.Mathlib.Omega.{arith}
 use borrow.Author.Tests.{lt-ltb, le-ltb}
-use borrow.Author.Rules.{rules}
 use Rattle.lists.specs.Bytes.{part, put}
 use Rattle.disk_volume.specs.Directory.{slot_at}
 use Rattle.disk_geometry.specs.Geometry.{slots}

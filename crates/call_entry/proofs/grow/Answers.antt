@@ -1,7 +1,6 @@
 -- Three ways: a later extent, the own one where rc rises, and all else, which leaves the entry as it was.
 use mathlib.Core.Path.{sym}
 use native.Mathlib.Omega.{arith}
-use borrow.Author.Rules.{rules}
 use Rattle.call_entry.proofs.GrowLaws.{grown_later, grown_rises, grown_stays}
 use Rattle.call_entry.proofs.grow.Goals as goal
 

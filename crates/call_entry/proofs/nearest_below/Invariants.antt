@@ -1,10 +1,7 @@
 -- The places passed so far are not used, so what is nearest below q is nearest below p.
-use mathlib.Core.Path.{◌≡◌, refl, sym, ◌∙◌}
+use mathlib.Core.Path.{◌≡◌}
 use Prim.Native.Nat.{◌≤◌}
-use native.Mathlib.Omega.{arith}
-use borrow.Author.Rules.{rules}
 use Rattle.call_entry.specs.Alloc.{nearest_below}
-use Rattle.call_entry.proofs.TogetherLaws.{nearest_used, nearest_passed, nearest_none}
 use Rattle.call_entry.proofs.nearest_below.Given as goal
 
 abbrev pub invariant-loop-q : goal.invariant-loop-q

@@ -1,5 +1,4 @@
 -- Growing, and then the block in its place, is the definition's order.
-use borrow.Author.Rules.{rules}
 use Rattle.call_entry.specs.Grown.{written_entry}
 use Rattle.call_entry.proofs.write_entry.Goals as goal
 

@@ -1,6 +1,5 @@
 -- The extent and cr are read as the definition has them, and are small.
 use native.Mathlib.Omega.{arith}
-use borrow.Author.Rules.{rules}
 use Rattle.call_fcb.specs.Fcb.{position}
 use Rattle.call_fcb.proofs.position_of.Goals as goal
 

@@ -1,6 +1,5 @@
 -- The two bytes are the definition's.
 use native.Mathlib.Omega.{arith}
-use borrow.Author.Rules.{rules}
 use Rattle.call_fcb.specs.Fcb.{random}
 use Rattle.call_fcb.proofs.random_of.Goals as goal
 

@@ -3,7 +3,6 @@ use mathlib.Core.Path.{◌≡◌}
 use native.Mathlib.Omega.{arith}
 use lib.ListN.{length}
 use borrow.Rule.Slice.PartMut.{put_mid, mid_of, mid_len}
-use borrow.Author.Rules.{rules}
 use Rattle.lists.specs.Bytes.{put}
 use Rattle.call_fcb.specs.Fcb.{made}
 use Rattle.call_fcb.proofs.set_made.Goals as goal

@@ -2,7 +2,6 @@
 use mathlib.Core.Path.{◌∙◌}
 use native.Mathlib.Omega.{arith}
 use lib.ListN.{length-set}
-use borrow.Author.Rules.{rules}
 use Rattle.lists.specs.Bytes.{part, put}
 use Rattle.call_fcb.specs.Fcb.{set_to}
 use Rattle.call_fcb.proofs.set_to.Goals as goal

@@ -1,5 +1,4 @@
 -- User, name and twenty zeros, by computation.
-use borrow.Author.Rules.{rules}
 use Rattle.call_make.specs.Make.{fresh_entry}
 use Rattle.call_make.proofs.fresh_entry.Goals as goal
 

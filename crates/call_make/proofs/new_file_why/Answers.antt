@@ -7,7 +7,6 @@ use Rattle.disk_volume.specs.Name.{name_at, name_of}
 use Rattle.call_typing.specs.Typing.{typeable}
 use Rattle.call_answers.specs.declared.Refusal.TheVariants.{Untypeable, Position}
 use Rattle.call_answers.proofs.Ladder.{ladder_two}
-use borrow.Author.Rules.{rules}
 use Rattle.call_make.proofs.new_file_why.Goals as goal
 
 pub returns : goal.returns

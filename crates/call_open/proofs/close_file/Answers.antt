@@ -1,5 +1,4 @@
 -- The slot that is meant, and what refuses it.
-use borrow.Author.Rules.{rules}
 use Rattle.call_open.proofs.close_file.Goals as goal
 
 pub returns : goal.returns

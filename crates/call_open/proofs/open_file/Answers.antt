@@ -1,7 +1,6 @@
 -- Where nothing refuses, the entry that is lent from the slot is the slot's.
 use Rattle.disk_volume.proofs.EntryLaws.{lent_slot}
 use mathlib.Core.Path.{sym, ◌∙◌}
-use borrow.Author.Rules.{rules}
 use Rattle.call_open.proofs.open_file.Goals as goal
 
 pub slot_start-at-requires : goal.slot_start-at-requires

@@ -1,5 +1,4 @@
 -- The search is the definition's, with the group of s2 and ex.
-use borrow.Author.Rules.{rules}
 use Rattle.lists.specs.Bytes.{part}
 use Rattle.disk_volume.specs.Name.{name_at}
 use Rattle.call_open.specs.Open.{close_slot}

@@ -8,7 +8,6 @@ use lib.Dec.{leb}
 use mathlib.Core.List.{[], ◌∷◌}
 use mathlib.Core.Bool.{not}
 use mathlib.Core.Path.{◌≡◌, refl, sym, ap, ◌∙◌}
-use borrow.Author.Rules.{rules}
 use Rattle.call_open.proofs.slot_why.Goals as goal
 
 pub returns : goal.returns

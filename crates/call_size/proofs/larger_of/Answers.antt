@@ -1,8 +1,5 @@
 -- The branches are the definition's.
-use mathlib.Core.Bool.{not}
-use mathlib.Core.Path.{◌≡◌, ap}
-use native.Mathlib.Omega.{arith}
-use borrow.Author.Tests.{not-true, not-false}
+use mathlib.Core.Path.{◌≡◌}
 use borrow.Author.Rules.{rules}
 use Rattle.disk_volume.specs.Directory.{slot_at}
 use Rattle.disk_volume.specs.Entry.{of_file}

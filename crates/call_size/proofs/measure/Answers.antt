@@ -10,7 +10,6 @@ use Rattle.lists.specs.Bytes.{part}
 use lib.Dec.{leb}
 use mathlib.Core.List.{[], ◌∷◌}
 use mathlib.Core.Path.{◌≡◌, refl, sym, ◌∙◌}
-use borrow.Author.Rules.{rules}
 use Rattle.call_size.proofs.measure.Goals as goal
 
 pub returns-then-is_none : goal.returns-then-is_none

@@ -1,13 +1,10 @@
 -- The loop stands at an entry of the file; those seen so far gave m, and no other below it is the file's.
-use mathlib.Core.Path.{◌≡◌, sym, ◌∙◌}
-use mathlib.Core.Bool.{true}
-use Prim.Native.Nat.{◌+◌, ◌≤◌, ◌<◌, ◌-◌}
+use mathlib.Core.Path.{sym, ◌∙◌}
+use Prim.Native.Nat.{◌+◌, ◌-◌}
 use native.Mathlib.Omega.{arith}
 use borrow.Author.Rules.{rules}
-use Rattle.lists.proofs.FoldLaws.{Folded, folded_next, folded_end}
-use Rattle.disk_geometry.specs.Geometry.{slots}
+use Rattle.lists.proofs.FoldLaws.{folded_next, folded_end}
 use Rattle.disk_volume.specs.declared.Wanted.TheVariants.{File}
-use Rattle.disk_volume.specs.Directory.{slot_fits}
 use Rattle.disk_volume.specs.Name.{strip}
 use Rattle.disk_volume.proofs.FindLaws.{find_le, found_fits, folded_from_found, from_low, from_fits, folded_to_next}
 use Rattle.call_size.specs.Size.{larger, size_of}

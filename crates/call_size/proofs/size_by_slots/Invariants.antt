@@ -1,13 +1,9 @@
 -- No entry below the first is the file's; the entries seen from there on gave m, so what is left to be seen gives the size.
-use Rattle.call_size.specs.Size.{larger, size_of}
+use Rattle.call_size.specs.Size.{larger}
 use Rattle.disk_geometry.specs.Geometry.{slots}
-use Rattle.disk_volume.proofs.FindLaws.{find_le, folded_from_found}
-use Rattle.disk_volume.specs.declared.Wanted.TheVariants.{File}
 use Rattle.disk_volume.specs.Name.{strip}
-use Rattle.lists.proofs.FoldLaws.{Folded, folded_next, folded_end}
+use Rattle.lists.proofs.FoldLaws.{Folded}
 use Prim.Native.Nat.{◌≤◌, ◌<◌, ◌-◌}
-use mathlib.Core.Path.{sym}
-use borrow.Author.Rules.{rules}
 use Rattle.call_size.proofs.size_by_slots.Given as goal
 
 abbrev pub invariant-loop-i : goal.invariant-loop-i

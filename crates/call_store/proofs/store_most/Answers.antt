@@ -1,8 +1,6 @@
 -- The data, and then the entry on the volume that they left; where none is left for it, what it is made of does not matter.
-use mathlib.Core.Path.{◌≡◌, ap, ◌∙◌}
+use mathlib.Core.Path.{ap, ◌∙◌}
 use Prim.Native.Nat.{ℕ, ◌-◌}
-use native.Mathlib.Omega.{arith}
-use borrow.Author.Rules.{rules}
 use Rattle.disk_stores.specs.Stores.{laid, record_stores}
 use Rattle.disk_stores.proofs.CodeLaws.{then_entry, then_length}
 use Rattle.call_store.proofs.store_most.Goals as goal

@@ -1,5 +1,4 @@
 -- The two stores are those of the definition.
-use borrow.Author.Rules.{rules}
 use Rattle.call_sweep.specs.Sweep.{attributed}
 use Rattle.call_sweep.proofs.attribute_entry.Goals as goal
 

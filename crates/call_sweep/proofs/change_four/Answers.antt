@@ -1,13 +1,12 @@
 -- Each piece passed is changed, so what is still to be changed gives the whole.
-use Prim.Native.Nat.{◌-◌, ◌≤◌}
-use mathlib.Core.Path.{◌≡◌, sym, ap, ◌∙◌}
+use Prim.Native.Nat.{◌-◌}
+use mathlib.Core.Path.{sym, ap, ◌∙◌}
 use Rattle.call_sweep.proofs.EditLaws.{edited_length, lent_piece}
 use native.Mathlib.Omega.{arith}
 use lib.ListN.{length-take, length-drop, length}
 use borrow.Author.Rules.{rules}
-use Rattle.lists.proofs.FoldLaws.{Folded, folded_start, folded_next, folded_end}
+use Rattle.lists.proofs.FoldLaws.{folded_start, folded_next, folded_end}
 use Rattle.disk_stores.proofs.SweepLaws.{map_piece_length}
-use Rattle.disk_stores.specs.Pieces.{map_piece}
 use Rattle.disk_stores.proofs.SweptLaws.{meant_keeps}
 use Rattle.call_sweep.specs.CodeEdit.{edited, lent_meant, lent_change}
 use Rattle.call_sweep.proofs.change_four.Goals as goal

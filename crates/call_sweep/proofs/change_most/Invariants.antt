@@ -1,16 +1,11 @@
 -- The records that hold a meant entry are stored up to here as long as a store was left, so what is still to be done with what is
 -- left gives the whole.
-use mathlib.Core.Path.{◌≡◌, sym, ◌∙◌}
-use Prim.Native.Nat.{◌+◌, ◌*◌, ◌/◌, ◌-◌, ◌≤◌, ◌<◌}
-use native.Mathlib.Omega.{arith}
+use mathlib.Core.Path.{◌≡◌}
+use Prim.Native.Nat.{◌-◌, ◌≤◌}
 use lib.ListN.{length}
-use borrow.Author.Rules.{rules}
 use Rattle.disk_geometry.specs.Geometry.{bytes, slots}
-use Rattle.disk_volume.specs.Name.{strip}
-use Rattle.disk_volume.proofs.FindLaws.{find_le, from_low}
-use Rattle.disk_stores.proofs.LoopLaws.{Swept, swept_first, swept_next, swept_end}
-use Rattle.call_sweep.specs.CodeEdit.{meant, edited, lent_meant}
-use Rattle.call_sweep.proofs.EditLaws.{edited_length}
+use Rattle.disk_stores.proofs.LoopLaws.{Swept}
+use Rattle.call_sweep.specs.CodeEdit.{edited, lent_meant}
 use Rattle.call_sweep.proofs.change_most.Given as goal
 
 abbrev pub invariant-loop-i : goal.invariant-loop-i

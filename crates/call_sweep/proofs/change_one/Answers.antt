@@ -1,5 +1,4 @@
 -- An edit is made where it is meant, and else nothing changes.
-use borrow.Author.Rules.{rules}
 use Rattle.call_sweep.proofs.change_one.Goals as goal
 
 pub returns-then-has : goal.returns-then-has

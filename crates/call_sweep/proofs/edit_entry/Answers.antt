@@ -1,5 +1,4 @@
 -- Each arm is the definition's case of the same name.
-use borrow.Author.Rules.{rules}
 use Rattle.call_sweep.proofs.edit_entry.Goals as goal
 
 pub returns-in-Erase : goal.returns-in-Erase

@@ -1,14 +1,8 @@
 -- The bytes passed so far are those of the name without top bits.
-use mathlib.Core.List.{List, append-nil}
-use mathlib.Core.Path.{◌≡◌, refl, sym, ap, ◌∙◌}
-use Prim.Native.Nat.{ℕ, ◌+◌, ◌-◌, ◌%◌, ◌≤◌, ◌<◌}
-use native.Mathlib.Omega.{arith}
-use native.Mathlib.Numerals.{add-one}
-use native.Mathlib.Nat.{zero-add}
-use lib.Seq.{paste, paste-zero, paste-suc, take_all}
-use lib.ListN.{length, get_or, set, drop_of_length-le}
-use borrow.Author.Rules.{rules}
-use Rattle.disk_volume.proofs.NameLaws.{length_strip, byte_strip}
+use mathlib.Core.Path.{◌≡◌}
+use Prim.Native.Nat.{◌-◌, ◌≤◌}
+use lib.Seq.{paste}
+use lib.ListN.{length}
 use Rattle.disk_volume.specs.Name.{strip}
 use Rattle.call_sweep.proofs.lay_name.Given as goal
 

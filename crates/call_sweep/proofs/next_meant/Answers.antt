@@ -1,5 +1,4 @@
 -- Each search is for what its edit is meant for.
-use borrow.Author.Rules.{rules}
 use Rattle.call_sweep.proofs.next_meant.Goals as goal
 
 pub returns-in-Erase : goal.returns-in-Erase

@@ -1,11 +1,10 @@
 -- No blank passed so far stands just before a non-blank, so what is left decides.
 use mathlib.Core.Path.{sym, ap, ◌∙◌}
 use mathlib.Core.Bool.{not}
-use Prim.Native.Nat.{◌≤◌, ◌-◌}
-use lib.ListN.{length}
+use Prim.Native.Nat.{◌-◌}
 use borrow.Author.Rules.{rules}
-use Rattle.lists.proofs.BoundedLaws.{Passed, passed_start, passed_next, passed_fails, passed_all}
-use Rattle.call_typing.proofs.TypingLaws.{last_at, last_places}
+use Rattle.lists.proofs.BoundedLaws.{passed_start, passed_next, passed_fails, passed_all}
+use Rattle.call_typing.proofs.TypingLaws.{last_places}
 use Rattle.call_typing.proofs.blanks_last.Goals as goal
 
 pub loop-k-init : goal.loop-k-init

@@ -2,7 +2,6 @@
 use Rattle.lists.specs.Bytes.{part}
 use Rattle.call_typing.specs.Typing.{typeable}
 use Rattle.disk_volume.proofs.NameLaws.{strip_part}
-use borrow.Author.Rules.{rules}
 use Rattle.call_typing.proofs.typeable_name.Goals as goal
 
 pub returns : goal.returns

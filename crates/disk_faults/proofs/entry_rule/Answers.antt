@@ -2,7 +2,6 @@
 use Rattle.disk_faults.specs.CodeLadder.{entry_rule}
 use Rattle.disk_volume.specs.Name.{name_at}
 use Rattle.lists.specs.Bytes.{part}
-use borrow.Author.Rules.{rules}
 use Rattle.disk_faults.proofs.entry_rule.Goals as goal
 
 pub returns : goal.returns

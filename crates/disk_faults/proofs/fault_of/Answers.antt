@@ -1,7 +1,6 @@
 -- The definition's ladder from its last rule up.
 use Rattle.disk_faults.specs.CodeLadder.{found}
 use borrow.Author.Tests.{eq-eqb, ne_eqb}
-use borrow.Author.Rules.{rules}
 use Rattle.disk_faults.proofs.fault_of.Goals as goal
 
 pub returns-then-e : goal.returns-then-e

@@ -5,7 +5,6 @@ use Rattle.disk_volume.specs.Directory.{slot_at}
 use Rattle.disk_volume.specs.Entry.{block_in}
 use borrow.Author.Tests.{eq-eqb, ne_eqb}
 use mathlib.Core.Path.{◌≡◌}
-use borrow.Author.Rules.{rules}
 use Rattle.disk_faults.proofs.is_broken.Goals as goal
 
 pub returns-then-b-eq0 : goal.returns-then-b-eq0

@@ -1,7 +1,6 @@
 -- The place that was found decides; block and other slot are those of that place.
 use Rattle.disk_faults.specs.CodeLadder.{map_fault}
 use borrow.Author.Tests.{lt-ltb, le-ltb}
-use borrow.Author.Rules.{rules}
 use Rattle.disk_faults.proofs.map_fault.Goals as goal
 
 pub returns-then-places-p : goal.returns-then-places-p

@@ -1,7 +1,6 @@
 -- An empty slot has no block; any other has what its map has.
 use Rattle.disk_rules.specs.GoodSlot.{names_block}
 use borrow.Author.Tests.{eq-eqb, ne_eqb}
-use borrow.Author.Rules.{rules}
 use Rattle.disk_faults.proofs.names_block.Goals as goal
 
 pub returns-then-e : goal.returns-then-e

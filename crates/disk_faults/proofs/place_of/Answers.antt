@@ -1,9 +1,9 @@
 -- No place passed so far breaks the rule, so what is still to be searched gives the whole.
 use Rattle.disk_faults.specs.Faults.{breaks_at, place_of}
 use Rattle.disk_geometry.specs.Geometry.{places}
-use Rattle.lists.proofs.BoundedLaws.{Searched, searched_start, searched_next, searched_hit, searched_none, from_zero}
+use Rattle.lists.proofs.BoundedLaws.{searched_start, searched_next, searched_hit, searched_none, from_zero}
 use Rattle.lists.specs.Bounded.{low_from}
-use Prim.Native.Nat.{◌≤◌, ◌-◌}
+use Prim.Native.Nat.{◌-◌}
 use mathlib.Core.Path.{◌≡◌, sym, ◌∙◌}
 use borrow.Author.Rules.{rules}
 use Rattle.disk_faults.proofs.place_of.Goals as goal

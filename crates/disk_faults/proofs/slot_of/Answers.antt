@@ -2,12 +2,8 @@
 use Rattle.disk_faults.specs.Faults.{slot_of}
 use Rattle.disk_rules.specs.GoodSlot.{names_block}
 use Rattle.disk_volume.proofs.EntryLaws.{lent_slot}
-use Rattle.disk_volume.specs.Directory.{slot_at}
-use Rattle.disk_geometry.specs.declared.Geometry.{Geometry}
-use Rattle.lists.proofs.BoundedLaws.{Searched, searched_start, searched_next, searched_hit, searched_none, from_zero}
-use Prim.Native.Nat.{ℕ, ◌≤◌, ◌-◌}
-use mathlib.Core.List.{List}
-use mathlib.Core.Bool.{Bool}
+use Rattle.lists.proofs.BoundedLaws.{searched_start, searched_next, searched_hit, searched_none, from_zero}
+use Prim.Native.Nat.{◌-◌}
 use Rattle.lists.specs.Bounded.{low_from}
 use mathlib.Core.Path.{◌≡◌, sym, ◌∙◌}
 use borrow.Author.Rules.{rules}

@@ -1,16 +1,11 @@
 -- No slot passed so far has the block, so what is still to be searched gives the whole.
-use Rattle.disk_faults.specs.Faults.{slot_of}
 use Rattle.disk_rules.specs.GoodSlot.{names_block}
-use Rattle.disk_volume.proofs.EntryLaws.{lent_slot}
 use Rattle.disk_volume.specs.Directory.{slot_at}
 use Rattle.disk_geometry.specs.declared.Geometry.{Geometry}
-use Rattle.lists.proofs.BoundedLaws.{Searched, searched_start, searched_next, searched_hit, searched_none, from_zero}
+use Rattle.lists.proofs.BoundedLaws.{Searched}
 use Prim.Native.Nat.{ℕ, ◌≤◌, ◌-◌}
 use mathlib.Core.List.{List}
 use mathlib.Core.Bool.{Bool}
-use Rattle.lists.specs.Bounded.{low_from}
-use mathlib.Core.Path.{◌≡◌, sym, ◌∙◌}
-use borrow.Author.Rules.{rules}
 use Rattle.disk_faults.proofs.slot_of.Given as goal
 
 -- the test of slot j

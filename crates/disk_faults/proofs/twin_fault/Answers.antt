@@ -5,7 +5,6 @@ use Rattle.disk_volume.specs.Name.{name_at}
 use Rattle.lists.specs.Bytes.{part}
 use borrow.Author.Tests.{lt-ltb, le-ltb}
 use mathlib.Core.Path.{◌≡◌}
-use borrow.Author.Rules.{rules}
 use Rattle.disk_faults.proofs.twin_fault.Goals as goal
 
 pub returns-then-slot-i : goal.returns-then-slot-i

@@ -1,10 +1,8 @@
 -- `disk_held::free_count` meets its contract: of the t - d blocks those are free that are not held.
 use native.Mathlib.Omega.{arith}
-use borrow.Author.Rules.{rules}
 use Rattle.disk_held.proofs.CountLaws.{HeldAndFree, held_and_free}
 use Rattle.disk_held.proofs.free_count.Goals as goal
 
--- TODO place After-held_below-below_d
 counts : (c : goal.After-held_below-below_d) → (let a = c.args in HeldAndFree a.held.now a.d a.t)
 counts c = held_and_free _ _ _ c.requires.0
 

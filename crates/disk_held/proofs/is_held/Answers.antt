@@ -1,6 +1,5 @@
 -- `disk_held::is_held` meets its contract: the bit read is the digit of the definition, by computation.
 use mathlib.Core.Path.{refl}
-use borrow.Author.Rules.{rules}
 use Rattle.disk_held.specs.Held.{digit, holds}
 use Rattle.disk_held.proofs.is_held.Goals as goal
 

@@ -2,11 +2,11 @@
 -- word is held, so the search may go on behind it.
 use mathlib.Core.Path.{sym, ap}
 use mathlib.Core.Bool.{not}
-use Prim.Native.Nat.{◌-◌, ◌≤◌}
+use Prim.Native.Nat.{◌-◌}
 use native.Mathlib.Omega.{arith}
 use borrow.Author.Rules.{rules}
-use Rattle.lists.proofs.BoundedLaws.{Searched, searched_start, searched_next, searched_hit, searched_none}
-use Rattle.disk_held.specs.Held.{is_free, lowest_free}
+use Rattle.lists.proofs.BoundedLaws.{searched_start, searched_next, searched_hit, searched_none}
+use Rattle.disk_held.specs.Held.{lowest_free}
 use Rattle.disk_held.proofs.FreeLaws.{full_word, searched_over}
 use Rattle.disk_held.proofs.lowest_free.Goals as goal
 

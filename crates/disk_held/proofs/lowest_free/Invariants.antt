@@ -1,13 +1,8 @@
 -- `disk_held::lowest_free` meets its contract. The loop has what the search still has to do from b on; every block of a full
 -- word is held, so the search may go on behind it.
-use mathlib.Core.Path.{sym, ap}
-use mathlib.Core.Bool.{not}
 use Prim.Native.Nat.{◌-◌, ◌≤◌}
-use native.Mathlib.Omega.{arith}
-use borrow.Author.Rules.{rules}
-use Rattle.lists.proofs.BoundedLaws.{Searched, searched_start, searched_next, searched_hit, searched_none}
-use Rattle.disk_held.specs.Held.{is_free, lowest_free}
-use Rattle.disk_held.proofs.FreeLaws.{full_word, searched_over}
+use Rattle.lists.proofs.BoundedLaws.{Searched}
+use Rattle.disk_held.specs.Held.{is_free}
 use Rattle.disk_held.proofs.lowest_free.Given as goal
 
 abbrev pub invariant-loop-b : goal.invariant-loop-b

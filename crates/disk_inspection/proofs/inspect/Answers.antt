@@ -1,7 +1,6 @@
 -- Where no slot is bad the blocks are those that entries name, and the free ones are counted over them.
 use mathlib.Core.Path.{◌≡◌, ap}
 use native.Mathlib.Omega.{arith}
-use borrow.Author.Rules.{rules}
 use lib.ListN.{length}
 use Rattle.disk_geometry.proofs.GeometryLaws.{bounds}
 use Rattle.disk_held.specs.Held.{held_words}

@@ -1,22 +1,16 @@
 -- The slots passed so far are good, exactly the blocks that they name are held, and their marks are set.
-use mathlib.Core.Path.{◌≡◌, sym, ap, ◌∙◌}
+use mathlib.Core.Path.{◌≡◌}
 use mathlib.Core.Bool.{Bool, true, not}
 use mathlib.Core.List.{List}
 use Prim.Native.Nat.{ℕ, ◌≤◌, ◌-◌}
-use native.Mathlib.Omega.{arith}
-use borrow.Author.Rules.{rules}
-use borrow.Author.Tests.{not-false}
 use lib.ListN.{length}
-use Rattle.lists.proofs.BoundedLaws.{Searched, searched_start, searched_next, searched_hit, searched_none, from_zero}
+use Rattle.lists.proofs.BoundedLaws.{Searched}
 use Rattle.disk_geometry.specs.declared.Geometry.{Geometry}
 use Rattle.disk_geometry.specs.Geometry.{slots}
-use Rattle.disk_held.specs.Held.{held_words, words_of}
-use Rattle.disk_held.proofs.WordsLaws.{length_words}
-use Rattle.disk_rules.specs.GoodSlot.{good_slot, lowest_bad}
+use Rattle.disk_held.specs.Held.{words_of}
+use Rattle.disk_rules.specs.GoodSlot.{good_slot}
 use Rattle.disk_maps.specs.CodeHeldBelow.{held_below}
 use Rattle.disk_marks.specs.CodeMarks.{all_marked}
-use Rattle.disk_maps.proofs.HeldLaws.{no_slots, all_slots}
-use Rattle.disk_marks.proofs.MarkLaws.{none_marked}
 use Rattle.disk_inspection.proofs.look.Given as goal
 
 abbrev pub bad : Geometry → List ℕ → ℕ → Bool

@@ -1,13 +1,12 @@
 -- The two tests are asked one after the other, and a block from D to T-1 has a bit.
 use mathlib.Core.Bool.{not}
-use mathlib.Core.Path.{◌≡◌, refl, sym, ◌∙◌, ap}
+use mathlib.Core.Path.{refl, sym, ◌∙◌, ap}
 use Prim.Native.Nat.{◌<◌}
 use native.Mathlib.Omega.{arith}
 use borrow.Author.Tests.{not-true, not-false}
 use Rattle.disk_held.specs.Held.{room}
 use Rattle.disk_geometry.proofs.GeometryLaws.{bounds}
 use Rattle.disk_geometry.proofs.InsideLaws.{inside_low}
-use borrow.Author.Rules.{rules}
 use Rattle.disk_maps.proofs.take_block.Goals as goal
 
 pub returns-then-not-is_inside : goal.returns-then-not-is_inside

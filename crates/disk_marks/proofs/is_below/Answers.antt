@@ -1,6 +1,5 @@
 -- The lowest slot that has the group is one of them, or none of them has it.
 use mathlib.Core.Path.{sym}
-use borrow.Author.Rules.{rules}
 use Rattle.disk_volume.specs.Name.{strip}
 use Rattle.disk_volume.specs.declared.Wanted.TheVariants.{Group}
 use Rattle.disk_volume.proofs.FindLaws.{any_below}

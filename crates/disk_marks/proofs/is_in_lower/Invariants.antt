@@ -1,15 +1,12 @@
 -- None of the slots passed so far has the group, so what is still to be asked gives the whole.
-use mathlib.Core.Path.{◌≡◌, sym, ◌∙◌}
 use mathlib.Core.Bool.{Bool}
 use mathlib.Core.List.{List}
 use Prim.Native.Nat.{ℕ, ◌≤◌, ◌-◌}
-use borrow.Author.Rules.{rules}
 use Rattle.disk_geometry.specs.declared.Geometry.{Geometry}
 use Rattle.disk_volume.specs.Name.{strip}
 use Rattle.disk_volume.specs.Entry.{of_group}
 use Rattle.disk_volume.specs.Directory.{slot_at}
-use Rattle.disk_volume.proofs.EntryLaws.{lent_slot}
-use Rattle.lists.proofs.AnyLaws.{AnySoFar, asked_start, asked_next, asked_hit, asked_none}
+use Rattle.lists.proofs.AnyLaws.{AnySoFar}
 use Rattle.disk_marks.proofs.is_in_lower.Given as goal
 
 -- the test of slot j

@@ -1,11 +1,10 @@
 -- The mark so far is what the bytes passed so far make of it.
 use mathlib.Core.Path.{sym, ap, ◌∙◌}
-use Prim.Native.Nat.{ℕ, ◌+◌, ◌*◌, ◌%◌, ◌≤◌, ◌<◌, ◌-◌}
+use Prim.Native.Nat.{ℕ, ◌+◌, ◌*◌, ◌%◌, ◌-◌}
 use borrow.Author.Rules.{rules}
-use Rattle.lists.proofs.FoldLaws.{Folded, folded_start, folded_next, folded_end}
-use Rattle.disk_volume.specs.Name.{strip}
+use Rattle.lists.proofs.FoldLaws.{folded_start, folded_next, folded_end}
 use Rattle.disk_volume.proofs.NameLaws.{byte_strip}
-use Rattle.disk_marks.specs.CodeMarks.{first_mark, next_mark, mark_of}
+use Rattle.disk_marks.specs.CodeMarks.{mark_of}
 use Rattle.disk_marks.proofs.mark_of.Goals as goal
 
 pub loop-p-init : goal.loop-p-init

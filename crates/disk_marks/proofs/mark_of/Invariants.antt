@@ -1,11 +1,8 @@
 -- The mark so far is what the bytes passed so far make of it.
-use mathlib.Core.Path.{sym, ap, ◌∙◌}
-use Prim.Native.Nat.{ℕ, ◌+◌, ◌*◌, ◌%◌, ◌≤◌, ◌<◌, ◌-◌}
-use borrow.Author.Rules.{rules}
-use Rattle.lists.proofs.FoldLaws.{Folded, folded_start, folded_next, folded_end}
+use Prim.Native.Nat.{◌≤◌, ◌<◌, ◌-◌}
+use Rattle.lists.proofs.FoldLaws.{Folded}
 use Rattle.disk_volume.specs.Name.{strip}
-use Rattle.disk_volume.proofs.NameLaws.{byte_strip}
-use Rattle.disk_marks.specs.CodeMarks.{first_mark, next_mark, mark_of}
+use Rattle.disk_marks.specs.CodeMarks.{first_mark, next_mark}
 use Rattle.disk_marks.proofs.mark_of.Given as goal
 
 abbrev pub invariant-loop-p : goal.invariant-loop-p

@@ -1,7 +1,5 @@
 -- Fields, name and top bits: the definition's three tests in its order.
 use mathlib.Core.Bool.{and-false}
-use borrow.Author.Rules.{rules}
-use borrow.Author.Tests.{not-true, not-false}
 use Rattle.lists.specs.Bytes.{part}
 use Rattle.disk_volume.specs.Name.{name_at}
 use Rattle.disk_rules.proofs.good_entry.Goals as goal

@@ -1,6 +1,5 @@
 -- The five tests in the definition's order.
 use mathlib.Core.Path.{refl}
-use borrow.Author.Rules.{rules}
 use Rattle.disk_rules.specs.GoodSlot.{good_fields}
 use Rattle.disk_rules.proofs.good_fields.Goals as goal
 

@@ -1,14 +1,10 @@
 -- The bytes passed so far carry no top bit, or are bytes 9 and 10, so what is left decides.
-use mathlib.Core.Path.{sym}
 use mathlib.Core.Bool.{Bool, ◌||◌}
 use mathlib.Core.List.{List}
 use Prim.Native.Nat.{ℕ, ◌+◌, ◌≤◌, ◌-◌}
-use borrow.Author.Rules.{rules}
-use borrow.Author.Tests.{not-true, not-false}
 use lib.Dec.{ltb, eqb}
 use Rattle.lists.specs.Bytes.{byte}
-use Rattle.lists.proofs.BoundedLaws.{Passed, passed_start, passed_next, passed_fails, passed_all}
-use Rattle.disk_rules.specs.GoodSlot.{good_top_bits}
+use Rattle.lists.proofs.BoundedLaws.{Passed}
 use Rattle.disk_rules.proofs.good_top_bits.Given as goal
 
 -- byte k of the name passes

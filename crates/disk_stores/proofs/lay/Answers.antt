@@ -2,7 +2,6 @@
 use mathlib.Core.Path.{◌≡◌}
 use Prim.Native.Nat.{◌+◌, ◌-◌}
 use native.Mathlib.Omega.{arith}
-use borrow.Author.Rules.{rules}
 use lib.Seq.{take_all}
 use Rattle.lists.specs.Bytes.{put}
 use Rattle.disk_stores.proofs.lay.Goals as goal

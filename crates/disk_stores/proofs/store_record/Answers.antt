@@ -1,5 +1,5 @@
 -- None is left, or the record is stored where it begins.
-use mathlib.Core.Path.{◌≡◌, sym, ◌∙◌}
+use mathlib.Core.Path.{◌≡◌}
 use Prim.Native.Nat.{◌+◌, ◌-◌}
 use native.Mathlib.Omega.{arith}
 use Rattle.lists.specs.Bytes.{put}

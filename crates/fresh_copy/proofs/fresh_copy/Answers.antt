@@ -5,8 +5,6 @@ use Prim.Native.Nat.{ℕ}
 use lib.ListN.{length}
 use lib.Dec.{eqb}
 use borrow.Author.Tests.{eq-eqb, ne_eqb}
-use borrow.Author.Rules.{rules}
-use Rattle.disk_geometry.specs.Geometry.{bytes}
 use Rattle.call_answers.specs.Answer.{succeeded}
 use Rattle.filecalls.specs.LogIn.{log_in}
 use Rattle.filecalls.specs.declared.Reply.{Reply}

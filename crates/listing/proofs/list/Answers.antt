@@ -4,7 +4,6 @@ use Rattle.listing.proofs.ListingLaws.{listed, may_list, wrote_refused}
 use Rattle.listing.specs.Listing.{listing_for}
 use Rattle.text.proofs.TextLaws.{wrote, wrote_byte, then}
 use Rattle.text.specs.Text.{puts}
-use borrow.Author.Rules.{rules}
 use Rattle.listing.proofs.list.Goals as goal
 
 pub put_accepted-requires : goal.put_accepted-requires
@@ -14,30 +13,38 @@ pub returns-in-Ready : goal.returns-in-Ready
 unfolding listing_for
 returns-in-Ready c =
     let a = c.args in
-    listed a.volume.now c.geometry-g.ensures c.log_in-r.ensures a.out.now _ c.in-Ready.is c.put_accepted.ensures
+    let l = listed a.volume.now c.geometry-g.ensures c.log_in-r.ensures a.out.now _ c.in-Ready.is c.put_accepted.ensures in
+    record { result_after = l.0; upper_bound = l.1 }
 
 pub returns-in-BadSlot : goal.returns-in-BadSlot
 unfolding listing_for
 returns-in-BadSlot c =
     let a = c.args in
-    let is = c.in-BadSlot.is in
-    listed a.volume.now c.geometry-g.ensures c.log_in-r.ensures a.out.now _ is
+    let l = listed a.volume.now c.geometry-g.ensures c.log_in-r.ensures a.out.now _ c.in-BadSlot.is
     (then (wrote _ c.put_refused-a.ensures)
     (then (wrote_byte 32 c.put_byte-b.ensures)
     (then (wrote _ c.put_decimal-c.ensures)
-    (wrote_byte 10 c.put_byte.ensures)))).is
+    (wrote_byte 10 c.put_byte.ensures)))).is in
+    record { result_after = l.0; upper_bound = l.1 }
 
 pub returns-in-Refused : goal.returns-in-Refused
 unfolding listing_for
 returns-in-Refused c =
     let a = c.args in
     let is = c.in-Refused.is in
-    listed a.volume.now c.geometry-g.ensures c.log_in-r.ensures a.out.now _ is (then (wrote_refused is c.put_refused-a-in-Refused.ensures) (wrote_byte 10 c.put_byte-in-Refused.ensures)).is
+    let l = listed a.volume.now c.geometry-g.ensures c.log_in-r.ensures a.out.now _ is (then (wrote_refused is c.put_refused-a-in-Refused.ensures) (wrote_byte 10 c.put_byte-in-Refused.ensures)).is in
+    record { result_after = l.0; upper_bound = l.1 }
 
 pub returns-in-Done : goal.returns-in-Done
 unfolding listing_for puts
-returns-in-Done c = let a = c.args in listed a.volume.now c.geometry-g.ensures c.log_in-r.ensures a.out.now _ c.in-Done.is refl
+returns-in-Done c =
+    let a = c.args in
+    let l = listed a.volume.now c.geometry-g.ensures c.log_in-r.ensures a.out.now _ c.in-Done.is refl in
+    record { result_after = l.0; upper_bound = l.1 }
 
 pub returns-in-Several : goal.returns-in-Several
 unfolding listing_for puts
-returns-in-Several c = let a = c.args in listed a.volume.now c.geometry-g.ensures c.log_in-r.ensures a.out.now _ c.in-Several.is refl
+returns-in-Several c =
+    let a = c.args in
+    let l = listed a.volume.now c.geometry-g.ensures c.log_in-r.ensures a.out.now _ c.in-Several.is refl in
+    record { result_after = l.0; upper_bound = l.1 }

@@ -4,7 +4,6 @@ use Rattle.call_answers.specs.Answer.{number_of}
 use Rattle.text.proofs.TextLaws.{wrote_number}
 use Rattle.listing.specs.Listing.{refused_word}
 use Rattle.text.proofs.TextLaws.{wrote, then}
-use borrow.Author.Rules.{rules}
 use Rattle.listing.proofs.put_refused.Goals as goal
 
 pub returns : goal.returns

@@ -1,13 +1,8 @@
 -- After i turns the first i bytes of dst are those of src.
-use Prim.Native.Nat.{◌<◌, ℕ, ◌≤◌, ◌-◌, ◌+◌}
-use native.Mathlib.Nat.{zero-add}
-use native.Mathlib.Numerals.{add-one}
-use native.Mathlib.Omega.{arith}
-use lib.ListN.{drop_of_length-le, length, set, get_or}
-use lib.Seq.{paste-zero, paste-suc, paste, take_all}
-use mathlib.Core.List.{List, append-nil}
-use mathlib.Core.Path.{◌≡◌, refl, sym, ap, ◌∙◌}
-use borrow.Author.Rules.{rules}
+use Prim.Native.Nat.{◌≤◌, ◌-◌}
+use lib.ListN.{length}
+use lib.Seq.{paste}
+use mathlib.Core.Path.{◌≡◌}
 use Rattle.lists.proofs.copy.Given as goal
 
 abbrev pub invariant-loop-i : goal.invariant-loop-i

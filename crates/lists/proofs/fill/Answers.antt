@@ -1,8 +1,8 @@
 -- After i turns the first i bytes are b.
-use lib.ListN.{length, drop, set, replicate, length-set, drop_of_length-le}
+use lib.ListN.{length, set, replicate, length-set, drop_of_length-le}
 use native.Mathlib.Omega.{arith}
 use Prim.Native.Nat.{ℕ, ◌≤◌, ◌-◌}
-use mathlib.Core.List.{List, ◌++◌, append-nil}
+use mathlib.Core.List.{List, append-nil}
 use mathlib.Core.Path.{◌≡◌, refl, ap, ◌∙◌}
 use borrow.Author.Fill.{fill_none, fill_more}
 use borrow.Author.Rules.{rules}

@@ -1,6 +1,5 @@
 -- Laid where the file was loaded.
 use mathlib.Core.Path.{sym, ◌∙◌}
-use borrow.Author.Rules.{rules}
 use Rattle.load_bytes.proofs.lay_table.Goals as goal
 
 pub put_table-requires : goal.put_table-requires

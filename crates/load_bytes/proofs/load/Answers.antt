@@ -2,7 +2,6 @@
 use Rattle.load_bytes.proofs.LoadOverLaws.{table_lent, left_over}
 use mathlib.Core.List.{List, []}
 use Prim.Native.Nat.{ℕ}
-use borrow.Author.Rules.{rules}
 use Rattle.load_bytes.proofs.load.Goals as goal
 
 pub lay_table-requires : goal.lay_table-requires

@@ -1,7 +1,6 @@
 -- A byte past the end counts as 0.
 use lib.ListN.{get_or-eq_default}
 use mathlib.Core.Path.{sym}
-use borrow.Author.Rules.{rules}
 use Rattle.numbers.proofs.byte_at.Goals as goal
 
 pub returns-else-i-s : goal.returns-else-i-s

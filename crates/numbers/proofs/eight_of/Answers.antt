@@ -1,7 +1,6 @@
 -- Four pairs are a word, low byte first.
 use Rattle.numbers.proofs.NumberLaws.{number_eight}
 use mathlib.Core.Path.{sym}
-use borrow.Author.Rules.{rules}
 use Rattle.numbers.proofs.eight_of.Goals as goal
 
 pub returns : goal.returns

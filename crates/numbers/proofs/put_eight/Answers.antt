@@ -1,6 +1,5 @@
 -- The eight bytes are the definition's.
 use Rattle.numbers.specs.Numbers.{bytes_of}
-use borrow.Author.Rules.{rules}
 use Rattle.numbers.proofs.put_eight.Goals as goal
 
 pub returns : goal.returns

@@ -13,13 +13,21 @@ pub returns-in-End : goal.returns-in-End
 unfolding after
 returns-in-End c =
     let e = sym c.next_of-next.ensures.value ∙ c.in-End.is in
-    rw c.stopped.ensures ((c.next_of-next.ensures.value, (rw e, omega arith)), rw e)
+    rw c.stopped.ensures
+    record {
+      next_value = (c.next_of-next.ensures.value, (rw e, omega arith));
+      at_after = rw e;
+    }
 
 pub returns-in-Bad : goal.returns-in-Bad
 unfolding after
 returns-in-Bad c =
     let e = sym c.next_of-next.ensures.value ∙ c.in-Bad.is in
-    rw c.stopped-in-Bad.ensures ((c.next_of-next.ensures.value, (rw e, omega arith)), rw e)
+    rw c.stopped-in-Bad.ensures
+    record {
+      next_value = (c.next_of-next.ensures.value, (rw e, omega arith));
+      at_after = rw e;
+    }
 
 pub returns-in-Call : goal.returns-in-Call
 unfolding after

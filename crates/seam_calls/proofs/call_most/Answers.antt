@@ -1,5 +1,6 @@
 -- Bytes that are no drive's are refused; any others go their call's way, and its answer is told.
-use mathlib.Core.Path.{sym, ◌∙◌}
+use mathlib.Core.Path.{sym, ap, ◌∙◌}
+use mathlib.Core.Bool.{not}
 use borrow.Author.Tests.{not-false}
 use Rattle.seam_calls.proofs.SeamLaws.{way_shut, told_most, no_drive}
 use borrow.Author.Rules.{rules}
@@ -8,7 +9,7 @@ use Rattle.seam_calls.proofs.call_most.Goals as goal
 pub returns-then-not-is_drive : goal.returns-then-not-is_drive
 returns-then-not-is_drive c =
     let a = c.args in
-    told_most (way_shut a.function a.parameter a.drive.now a.volume.now a.fcb.now a.buffer.now a.left.now (no_drive a.drive.now c.is_drive.ensures c.if-not-is_drive.true)) c.tell.ensures
+    told_most (way_shut a.function a.parameter a.drive.now a.volume.now a.fcb.now a.buffer.now a.left.now (no_drive a.drive.now c.is_drive.ensures (ap not c.if-not-is_drive.true))) c.tell.ensures
 
 pub fields-front-requires : goal.fields-front-requires
 fields-front-requires c = sym c.is_drive.ensures ∙ c.if-not-is_drive.false

@@ -1,5 +1,6 @@
 -- A drive of another length, one that counts as closed, and the call.
 use mathlib.Core.Path.{ap, ◌∙◌}
+use mathlib.Core.Bool.{not}
 use Prim.Native.Nat.{ℕ}
 use native.Mathlib.Omega.{arith}
 use lib.ListN.{replicate}
@@ -10,20 +11,20 @@ use Rattle.seam_calls.proofs.cut.Goals as goal
 pub returns-then-not-has_length : goal.returns-then-not-has_length
 returns-then-not-has_length c =
     let a = c.args in
-    cut_other_length a.most a.function a.parameter a.drive.now a.volume.now a.fcb.now a.buffer.now c.has_length.ensures c.if-not-has_length.true (c.seal.ensures.1 (omega arith))
+    cut_other_length a.most a.function a.parameter a.drive.now a.volume.now a.fcb.now a.buffer.now c.has_length.ensures (ap not c.if-not-has_length.true) (c.seal.ensures.1 (omega arith))
 
 pub returns-then-not-is_open : goal.returns-then-not-is_open
 returns-then-not-is_open c =
     let a = c.args in
-    cut_refused a.most a.function a.parameter a.drive.now a.volume.now a.fcb.now a.buffer.now c.has_length.ensures c.if-not-has_length.false c.front-d.ensures c.is_open.ensures c.fill.ensures c.if-not-is_open.true (c.seal-then-not-is_open.ensures.1 (omega arith))
+    cut_refused a.most a.function a.parameter a.drive.now a.volume.now a.fcb.now a.buffer.now c.has_length.ensures (ap not c.if-not-has_length.false) c.front-d.ensures c.is_open.ensures c.fill.ensures (ap not c.if-not-is_open.true) (c.seal-then-not-is_open.ensures.1 (omega arith))
 
 pub cut_open-r-requires : goal.cut_open-r-requires
-cut_open-r-requires c = opens_by _ c.front-d.ensures c.is_open.ensures c.if-not-is_open.false
+cut_open-r-requires c = opens_by _ c.front-d.ensures c.is_open.ensures (ap not c.if-not-is_open.false)
 
 pub returns : goal.returns
 returns c =
     let a = c.args in
     let o = c.cut_open-r in
     let most = c.size.ensures in
-    cut_done a.most a.function a.parameter a.drive.now a.volume.now a.fcb.now a.buffer.now c.has_length.ensures c.if-not-has_length.false c.front-d.ensures c.is_open.ensures (c.fill-2.ensures ∙ ap (λ (n : ℕ). replicate n 0) o.auto.1.1.1.0) c.if-not-is_open.false
-    (rw most at o.ensures.0) (rw most at o.ensures.1)
+    cut_done a.most a.function a.parameter a.drive.now a.volume.now a.fcb.now a.buffer.now c.has_length.ensures (ap not c.if-not-has_length.false) c.front-d.ensures c.is_open.ensures (c.fill-2.ensures ∙ ap (λ (n : ℕ). replicate n 0) (search rules)) (ap not c.if-not-is_open.false)
+    (rw most at o.ensures.volume_after) (rw most at o.ensures.value)

@@ -12,7 +12,7 @@ use Rattle.seam_looks.proofs.fault.Goals as goal
 pub returns-then-fault-ne-FAULT_BYTES : goal.returns-then-fault-ne-FAULT_BYTES
 returns-then-fault-ne-FAULT_BYTES c =
     let a = c.args in
-    fault_refused (with_placing (geometry_of a.block-bytes a.blocks a.directory-blocks) a.placing) a.volume.now a.fault.now c.if-fault-ne-FAULT_BYTES.true (c.seal.ensures.1 (omega arith))
+    fault_refused (with_placing (geometry_of a.block_bytes a.blocks a.directory_blocks) a.placing) a.volume.now a.fault.now c.if-fault-ne-FAULT_BYTES.true (c.seal.ensures.1 (omega arith))
 
 pub put_fault_for-requires : goal.put_fault_for-requires
 put_fault_for-requires c = (search rules, ap (λ (r : Reply). r.answer) c.log_in-reply.ensures)

@@ -4,7 +4,6 @@ use mathlib.Core.Path.{sym, ◌∙◌, ap}
 use Rattle.filecalls.specs.Leaves.{read_sequential_leaves}
 use Rattle.several.proofs.SeveralLent.{lent_pieces}
 use Rattle.several.proofs.SeveralLaws.{several_passed, code_refused, code_passed}
-use borrow.Author.Rules.{rules}
 use Prim.Native.Nat.{ℕ}
 use mathlib.Core.List.{List, []}
 use Rattle.filecalls.specs.CodeFront.{joined}

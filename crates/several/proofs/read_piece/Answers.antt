@@ -5,7 +5,6 @@ use native.Mathlib.Omega.{arith}
 use Rattle.lists.specs.Bytes.{part, put}
 use Rattle.filecalls.specs.Leaves.{read_sequential_leaves}
 use Rattle.several.proofs.PieceLaws.{piece_done}
-use borrow.Author.Rules.{rules}
 use mathlib.Core.List.{List}
 use Rattle.filecalls.specs.CodeFront.{joined}
 use Rattle.several.proofs.read_piece.Goals as goal

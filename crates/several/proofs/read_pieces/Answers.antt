@@ -1,16 +1,12 @@
 -- What is still to be read from piece i on gives the whole; a refused read ends it.
 use mathlib.Core.Bool.{not}
-use mathlib.Core.Path.{◌∙◌, ◌≡◌, refl, sym, ap}
-use Prim.Native.Nat.{ℕ, ◌-◌, ◌≤◌}
-use lib.ListN.{length}
+use mathlib.Core.Path.{◌∙◌, refl, sym, ap}
+use Prim.Native.Nat.{ℕ, ◌-◌}
 use borrow.Author.Tests.{not-true, not-false}
-use Rattle.filecalls.specs.Leaves.{read_sequential_leaves}
-use Rattle.several.specs.Several.{singles}
-use Rattle.several.proofs.PieceLaws.{Left, left_start, left_next, left_stop, left_end}
+use Rattle.several.proofs.PieceLaws.{left_start, left_next, left_stop, left_end}
 use borrow.Author.Rules.{rules}
 use mathlib.Core.List.{List}
 use Rattle.filecalls.proofs.JoinLaws.{reply_left}
-use Rattle.filecalls.specs.CodeFront.{joined}
 use Rattle.several.proofs.read_pieces.Goals as goal
 
 pub loop-i-init : goal.loop-i-init

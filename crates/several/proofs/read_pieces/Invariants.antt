@@ -1,14 +1,11 @@
 -- What is still to be read from piece i on gives the whole; a refused read ends it.
-use mathlib.Core.Path.{◌∙◌, ◌≡◌, refl, sym}
+use mathlib.Core.Path.{◌≡◌}
 use Prim.Native.Nat.{ℕ, ◌-◌, ◌≤◌}
 use lib.ListN.{length}
-use borrow.Author.Tests.{not-true, not-false}
 use Rattle.filecalls.specs.Leaves.{read_sequential_leaves}
 use Rattle.several.specs.Several.{singles}
-use Rattle.several.proofs.PieceLaws.{Left, left_start, left_next, left_stop, left_end}
-use borrow.Author.Rules.{rules}
+use Rattle.several.proofs.PieceLaws.{Left}
 use mathlib.Core.List.{List}
-use Rattle.filecalls.proofs.JoinLaws.{reply_left}
 use Rattle.filecalls.specs.CodeFront.{joined}
 use Rattle.several.proofs.read_pieces.Given as goal
 

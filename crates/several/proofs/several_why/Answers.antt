@@ -13,7 +13,6 @@ use Rattle.call_answers.proofs.Ladder.{ladder_pass, ladder_four}
 use Rattle.filecalls.specs.Tests.{closed_state}
 use Rattle.filecalls.proofs.StateLaws.{is_open_lem}
 use Rattle.several.specs.Several.{several_tests}
-use borrow.Author.Rules.{rules}
 use Rattle.filecalls.specs.CodeFront.{joined}
 use Rattle.several.proofs.several_why.Goals as goal
 

@@ -5,7 +5,6 @@ use Rattle.filecalls.specs.Leaves.{write_sequential_leaves}
 use Rattle.several.proofs.SeveralLent.{lent_pieces}
 use Rattle.several.proofs.SeveralLaws.{code_passed}
 use Rattle.several.proofs.SeveralCutLaws.{several_cut_refused, several_cut_passed}
-use borrow.Author.Rules.{rules}
 use mathlib.Core.List.{[]}
 use Rattle.filecalls.specs.CodeFront.{joined}
 use Rattle.several.proofs.write_most.Goals as goal

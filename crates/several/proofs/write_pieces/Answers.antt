@@ -1,11 +1,11 @@
 -- What is still to be written from piece i on with the stores that are left gives the whole; a refused write ends it.
 use mathlib.Core.Bool.{not}
-use mathlib.Core.Path.{◌≡◌, refl, sym, ◌∙◌, ap}
+use mathlib.Core.Path.{refl, sym, ◌∙◌, ap}
 use Prim.Native.Nat.{◌+◌, ◌-◌, ◌*◌, ◌≤◌, ◌<◌}
 use native.Mathlib.Omega.{arith}
 use lib.ListN.{length}
 use borrow.Author.Tests.{not-true, not-false}
-use Rattle.several.proofs.SinglesCutLaws.{CutLeft, cut_start, cut_next, cut_stop, cut_end}
+use Rattle.several.proofs.SinglesCutLaws.{cut_start, cut_next, cut_stop, cut_end}
 use borrow.Author.Rules.{rules}
 use Rattle.filecalls.specs.CodeFront.{joined}
 use Rattle.several.proofs.write_pieces.Goals as goal

@@ -1,11 +1,8 @@
 -- What is still to be written from piece i on with the stores that are left gives the whole; a refused write ends it.
-use mathlib.Core.Path.{◌≡◌, refl, sym, ◌∙◌}
-use Prim.Native.Nat.{◌+◌, ◌-◌, ◌*◌, ◌≤◌, ◌<◌}
-use native.Mathlib.Omega.{arith}
+use mathlib.Core.Path.{◌≡◌}
+use Prim.Native.Nat.{◌-◌, ◌≤◌}
 use lib.ListN.{length}
-use borrow.Author.Tests.{not-true, not-false}
-use Rattle.several.proofs.SinglesCutLaws.{CutLeft, cut_start, cut_next, cut_stop, cut_end}
-use borrow.Author.Rules.{rules}
+use Rattle.several.proofs.SinglesCutLaws.{CutLeft}
 use Rattle.filecalls.specs.CodeFront.{joined}
 use Rattle.several.proofs.write_pieces.Given as goal
 

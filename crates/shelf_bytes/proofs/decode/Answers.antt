@@ -1,6 +1,5 @@
 -- A figure from each place.
 use Rattle.shelf_bytes.specs.Layout.{decoded}
-use borrow.Author.Rules.{rules}
 use Rattle.shelf_bytes.proofs.decode.Goals as goal
 
 pub returns : goal.returns

@@ -1,11 +1,10 @@
 -- The figures of the places passed so far are laid.
 use mathlib.Core.Path.{◌≡◌, refl}
-use Prim.Native.Nat.{◌+◌, ◌-◌, ◌*◌, ◌≤◌}
+use Prim.Native.Nat.{◌+◌, ◌-◌, ◌*◌}
 use native.Mathlib.Omega.{arith}
-use lib.ListN.{length}
 use Rattle.lists.specs.Bytes.{put}
 use Rattle.shelf_bytes.specs.Layout.{encoded}
-use Rattle.shelf_bytes.proofs.LayoutLaws.{LaidTo, laid_start, laid_next, laid_end}
+use Rattle.shelf_bytes.proofs.LayoutLaws.{laid_start, laid_next, laid_end}
 use borrow.Author.Rules.{rules}
 use Rattle.shelf_bytes.proofs.encode.Goals as goal
 

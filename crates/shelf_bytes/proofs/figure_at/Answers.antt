@@ -2,7 +2,6 @@
 use mathlib.Core.Path.{◌∙◌}
 use Prim.Native.Nat.{◌*◌}
 use Rattle.shelf_bytes.proofs.LayoutLaws.{lent_part}
-use borrow.Author.Rules.{rules}
 use Rattle.shelf_bytes.proofs.figure_at.Goals as goal
 
 pub returns : goal.returns

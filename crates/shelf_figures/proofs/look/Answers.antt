@@ -1,8 +1,6 @@
 -- A volume that log-in accepts has the figures that were counted; any other is one refused volume.
 use mathlib.Core.Path.{◌≡◌, sym, ap, ◌∙◌}
 use mathlib.Core.Bool.{true, false}
-use borrow.Author.Rules.{rules}
-use borrow.Author.Tests.{not-true, not-false}
 use Rattle.call_answers.specs.Answer.{number_of, value_of, succeeded}
 use Rattle.filecalls.specs.declared.Reply.{Reply}
 use Rattle.filecalls.specs.LogIn.{log_in}

@@ -2,7 +2,6 @@
 use Rattle.shelf_report.specs.Report.{line}
 use Rattle.text.specs.Decimal.{decimal}
 use Rattle.text.proofs.TextLaws.{wrote, wrote_byte, then}
-use borrow.Author.Rules.{rules}
 use Rattle.shelf_report.proofs.put_line.Goals as goal
 
 pub returns : goal.returns

@@ -1,11 +1,8 @@
 -- One line after another, each appended to what the lines before it left.
 use Rattle.shelf_report.specs.Report.{line, report}
 use Rattle.text.proofs.TextLaws.{wrote, then, puts_within}
-use Rattle.text.specs.Text.{text, puts}
+use Rattle.text.specs.Text.{text}
 use native.Mathlib.Omega.{arith}
-use Prim.Native.Nat.{◌≤◌}
-use mathlib.Core.Path.{◌≡◌}
-use borrow.Author.Rules.{rules}
 use Rattle.shelf_report.proofs.put_report.Goals as goal
 
 pub returns : goal.returns

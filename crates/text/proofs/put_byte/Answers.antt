@@ -1,7 +1,6 @@
 -- The branches are the definition's.
 use Rattle.text.specs.Text.{put_byte}
 use borrow.Author.Tests.{lt-ltb, le-ltb}
-use borrow.Author.Rules.{rules}
 use Rattle.text.proofs.put_byte.Goals as goal
 
 pub returns-then-at-out : goal.returns-then-at-out

@@ -1,9 +1,9 @@
 -- What is still to be appended from here gives the whole.
 use Rattle.text.specs.Text.{Text, text, puts}
 use Rattle.text.proofs.TextLaws.{puts_next, puts_end}
-use lib.ListN.{length, drop}
-use mathlib.Core.Path.{◌≡◌, refl, sym, ap, ◌∙◌}
-use Prim.Native.Nat.{◌≤◌, ◌-◌, ◌+◌}
+use lib.ListN.{drop}
+use mathlib.Core.Path.{refl, sym, ap, ◌∙◌}
+use Prim.Native.Nat.{◌-◌, ◌+◌}
 use borrow.Author.Rules.{rules}
 use Rattle.text.proofs.put_bytes.Goals as goal
 

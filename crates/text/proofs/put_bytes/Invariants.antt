@@ -1,10 +1,8 @@
 -- What is still to be appended from here gives the whole.
-use Rattle.text.specs.Text.{Text, text, puts}
-use Rattle.text.proofs.TextLaws.{puts_next, puts_end}
+use Rattle.text.specs.Text.{text, puts}
 use lib.ListN.{length, drop}
-use mathlib.Core.Path.{◌≡◌, refl, sym, ap, ◌∙◌}
-use Prim.Native.Nat.{◌≤◌, ◌-◌, ◌+◌}
-use borrow.Author.Rules.{rules}
+use mathlib.Core.Path.{◌≡◌}
+use Prim.Native.Nat.{◌≤◌, ◌-◌}
 use Rattle.text.proofs.put_bytes.Given as goal
 
 abbrev pub invariant-loop-i : goal.invariant-loop-i

@@ -1,5 +1,4 @@
 -- The test is the definition's own text.
-use borrow.Author.Rules.{rules}
 use Rattle.disk_volume.specs.Record.{counted}
 use Rattle.call_read.proofs.read.is_counted.Goals as goal
 

@@ -1,7 +1,6 @@
 -- A group's slot that was found is one of the file, so each way is a rung of the ladder.
 use mathlib.Core.Path.{◌≡◌, ◌∙◌}
 use native.Mathlib.Omega.{arith}
-use borrow.Author.Rules.{rules}
 use Rattle.disk_volume.specs.Record.{record_slot}
 use Rattle.disk_volume.specs.Name.{strip}
 use Rattle.call_read.proofs.ReadLaws.{plan_in_lem, plan_missing, plan_none}

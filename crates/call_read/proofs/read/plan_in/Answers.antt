@@ -2,7 +2,6 @@
 use mathlib.Core.Bool.{not}
 use mathlib.Core.Path.{ap}
 use borrow.Author.Tests.{not-true, not-false}
-use borrow.Author.Rules.{rules}
 use Rattle.disk_volume.proofs.EntryLaws.{lent_slot}
 use Rattle.call_read.specs.CodePlan.{plan_in}
 use Rattle.call_read.proofs.read.plan_in.Goals as goal

@@ -1,6 +1,5 @@
 -- The plan is the ladder's answer; where it goes on, the slot and the block are the record's.
 use mathlib.Core.Path.{sym, ◌∙◌}
-use borrow.Author.Rules.{rules}
 use Rattle.lists.specs.Bytes.{part}
 use Rattle.disk_volume.specs.Name.{name_at, name_of}
 use Rattle.call_read.specs.Read.{read_bytes}

@@ -9,7 +9,6 @@ use Rattle.disk_volume.specs.declared.Wanted.TheVariants.{File}
 use mathlib.Core.List.{[], ◌∷◌}
 use lib.Dec.{leb}
 use mathlib.Core.Path.{◌≡◌, refl, sym, ◌∙◌}
-use borrow.Author.Rules.{rules}
 use Rattle.call_rename.proofs.rename.attribute_file.Goals as goal
 
 pub change_most-requires : goal.change_most-requires

@@ -7,7 +7,6 @@ use Rattle.call_typing.specs.Typing.{typeable}
 use Rattle.call_fcb.specs.Fcb.{new_name}
 use Rattle.call_answers.specs.declared.Refusal.TheVariants.{Name, Untypeable}
 use Rattle.call_answers.proofs.Ladder.{ladder_two}
-use borrow.Author.Rules.{rules}
 use Rattle.call_rename.proofs.rename.new_name_why.Goals as goal
 
 pub returns : goal.returns

@@ -1,7 +1,6 @@
 -- An earlier refusal or one of the directory's alters nothing; else the sweep renames the file's entries.
 use Rattle.call_answers.specs.Refusal.{first}
 use mathlib.Core.Path.{sym, ap, ◌∙◌}
-use borrow.Author.Rules.{rules}
 use Rattle.call_rename.proofs.rename.rename_file.Goals as goal
 
 pub change_most-requires : goal.change_most-requires

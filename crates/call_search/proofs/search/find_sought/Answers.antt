@@ -1,6 +1,5 @@
 -- Each arm is the definition's case of the same name.
 use borrow.Author.Tests.{eq-eqb, ne_eqb}
-use borrow.Author.Rules.{rules}
 use Rattle.call_search.proofs.search.find_sought.Goals as goal
 
 pub returns-in-Nothing : goal.returns-in-Nothing

@@ -2,7 +2,6 @@
 use Rattle.lists.specs.Bytes.{part}
 use Rattle.disk_volume.specs.Name.{name_at}
 use Rattle.call_search.specs.Search.{hit_from}
-use borrow.Author.Rules.{rules}
 use Rattle.call_search.proofs.search.hit_from.Goals as goal
 
 pub returns : goal.returns

@@ -1,5 +1,4 @@
 -- The twelve bytes are the control block's.
-use borrow.Author.Rules.{rules}
 use Rattle.lists.specs.Bytes.{part}
 use Rattle.call_search.specs.Search.{pattern_of}
 use Rattle.call_search.proofs.search.pattern_of.Goals as goal

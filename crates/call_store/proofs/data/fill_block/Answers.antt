@@ -1,10 +1,8 @@
 -- The records passed had their stores, so what is still to be stored with what is left gives the whole.
-use mathlib.Core.Path.{◌≡◌, sym, ◌∙◌}
-use Prim.Native.Nat.{◌-◌, ◌≤◌}
-use lib.ListN.{length}
+use mathlib.Core.Path.{◌∙◌}
+use Prim.Native.Nat.{◌-◌}
 use borrow.Author.Rules.{rules}
-use Rattle.disk_geometry.specs.Geometry.{bytes, records}
-use Rattle.disk_stores.proofs.CodeLaws.{CutFilled, filled_start, filled_next, filled_end}
+use Rattle.disk_stores.proofs.CodeLaws.{filled_start, filled_next, filled_end}
 use Rattle.call_store.proofs.data.fill_block.Goals as goal
 
 pub loop-k-init : goal.loop-k-init

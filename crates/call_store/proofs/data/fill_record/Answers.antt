@@ -4,7 +4,6 @@ use mathlib.Core.Logic.{◌≢◌}
 use Prim.Native.Nat.{◌%◌}
 use lib.Bits.{bit_and}
 use borrow.Author.Tests.{eq-eqb, ne_eqb}
-use borrow.Author.Rules.{rules}
 use Rattle.disk_geometry.specs.Geometry.{records}
 use Rattle.disk_geometry.proofs.ShiftLaws.{block_shift}
 use Rattle.call_store.proofs.data.fill_record.Goals as goal

@@ -1,5 +1,4 @@
 -- The whole block, or the record alone.
-use borrow.Author.Rules.{rules}
 use Rattle.disk_stores.specs.Stores.{record_stores}
 use Rattle.call_store.proofs.data.put_filled.Goals as goal
 

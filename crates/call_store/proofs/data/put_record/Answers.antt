@@ -1,6 +1,5 @@
 -- The record is stored as the logical record that it is.
-use mathlib.Core.Path.{◌≡◌, ◌∙◌}
-use borrow.Author.Rules.{rules}
+use mathlib.Core.Path.{◌∙◌}
 use Rattle.call_store.proofs.data.put_record.Goals as goal
 
 pub returns : goal.returns

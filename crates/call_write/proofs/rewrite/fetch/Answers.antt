@@ -4,7 +4,6 @@ use mathlib.Core.Path.{◌≡◌, ap}
 use Prim.Native.Nat.{◌+◌, ◌-◌}
 use native.Mathlib.Omega.{arith}
 use borrow.Author.Tests.{not-true, not-false}
-use borrow.Author.Rules.{rules}
 use Rattle.lists.specs.Bytes.{part}
 use Rattle.disk_volume.specs.Record.{record_at}
 use Rattle.call_write.proofs.rewrite.fetch.Goals as goal

@@ -1,10 +1,8 @@
 -- By the two ways of the test.
-use mathlib.Core.Path.{◌≡◌, ap, ◌∙◌}
+use mathlib.Core.Path.{ap, ◌∙◌}
 use mathlib.Core.Bool.{true, false}
 use mathlib.Core.List.{List}
 use Prim.Native.Nat.{ℕ}
-use borrow.Author.Tests.{not-true, not-false}
-use borrow.Author.Rules.{rules}
 use Rattle.call_write.specs.Rewrite.{with_first_two}
 use Rattle.call_write.proofs.rewrite.lay_bytes.Goals as goal
 

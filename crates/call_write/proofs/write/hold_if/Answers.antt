@@ -1,6 +1,4 @@
 -- By the two ways of the test.
-use borrow.Author.Tests.{not-true, not-false}
-use borrow.Author.Rules.{rules}
 use Rattle.call_write.proofs.write.hold_if.Goals as goal
 
 pub returns-then-not-fresh : goal.returns-then-not-fresh

@@ -3,7 +3,6 @@ use mathlib.Core.Path.{◌≡◌, sym, ap, ◌∙◌}
 use mathlib.Core.Bool.{true, false, cond}
 use mathlib.Core.List.{List}
 use Prim.Native.Nat.{ℕ}
-use borrow.Author.Tests.{not-true, not-false}
 use borrow.Author.Rules.{rules}
 use Rattle.lists.specs.Bytes.{part}
 use Rattle.disk_volume.specs.Name.{name_at, name_of}
@@ -30,13 +29,17 @@ write_decided-requires c =
     let bytes = bytes_of a.g a.volume.now a.user (name_of a.fcb.now) a.n a.buffer.now a.again a.low a.high in
     let w = c.decide-plan.ensures.why_value in
     let none = none_met in
-    let d = decided in record { volume = c.requires.volume; fcb = c.requires.fcb; entry = (
-          search rules,
-          (
-            slot_fits_lem a.g a.fills a.volume.now a.fcb.now bytes a.user a.held.now a.n a.cr a.left.now w none d,
-            block_fits a.g a.fills a.volume.now a.fcb.now bytes a.user a.held.now a.n a.cr a.left.now w none d,
-          ),
-        ) }
+    let d = decided in record {
+      volume = c.requires.volume;
+      fcb = c.requires.fcb;
+      entry = (
+        search rules,
+        (
+          slot_fits_lem a.g a.fills a.volume.now a.fcb.now bytes a.user a.held.now a.n a.cr a.left.now w none d,
+          block_fits a.g a.fills a.volume.now a.fcb.now bytes a.user a.held.now a.n a.cr a.left.now w none d,
+        ),
+      );
+    }
 
 pub returns : goal.returns
 unfolding name_at part

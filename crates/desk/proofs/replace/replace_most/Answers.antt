@@ -21,4 +21,4 @@ returns-in-Go c =
     let a = c.args in
     let w = c.rewrite_marked in
     code_done a.left.now a.drive a.volume.now a.fcb.now a.chapter a.old a.new c.front-front.ensures _
-    (c.plan.ensures a.drive.held) c.in-Go.is w.ensures.0 w.ensures.1
+    (c.plan.ensures a.drive.held) c.in-Go.is w.ensures.value w.ensures.stored

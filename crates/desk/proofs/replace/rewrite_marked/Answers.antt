@@ -15,8 +15,11 @@ pub loop-i-preserved : goal.loop-i-preserved
 loop-i-preserved c =
     let r = c.rewrite_if-count in
     let l = c.loop-i in
-    let g = going_next _ _ _ _ _ _ _ _ l.invariant.1.1.1 (search rules) r.ensures.0.0 r.ensures.0.1 r.ensures.1 in
-    (search rules, (r.auto.1.1.1.0 ∙ l.invariant.1.0, (g.few, g)))
+    let g = going_next _ _ _ _ _ _ _ _ l.invariant.1.1.1 (search rules) r.ensures.value.0 r.ensures.value.1 r.ensures.stored in
+    (search rules, (r.auto.volume ∙ l.invariant.1.0, (g.few, g)))
 
 pub returns : goal.returns
-returns c = going_end _ _ _ _ _ _ _ _ c.loop-i.invariant.1.1.1 (search rules)
+returns c =
+    let past : c.args.k ≤ c.loop-i.i = search rules in
+    let g = going_end _ _ _ _ _ _ _ _ c.loop-i.invariant.1.1.1 past in
+    record { value = g.0; stored = g.1 }

@@ -37,11 +37,11 @@ loop-n-preserved c =
       (
         search rules,
         (
-          m.auto.0 ∙ l.invariant.1.1.0,
+          m.auto.marks ∙ l.invariant.1.1.0,
           (
             search rules,
             λ (held : List ℕ). (
-              passed_next (l.invariant.1.1.1.1 held).0 (search rules) (ap is_none (sym (s.ensures held).0) ∙ sym i.ensures ∙ not-false i.result read),
+              passed_next (l.invariant.1.1.1.1 held).0 (search rules) (ap is_none (sym (s.ensures held).0) ∙ sym i.ensures ∙ read),
               marks_next _ _ _ _ {t = eqb two.result siglum} (l.invariant.1.1.1.1 held).1 (search rules) m.ensures (rw (two.ensures.0, (s.ensures held).1)),
             ),
           ),

@@ -1,5 +1,4 @@
 -- The quotient is the definition's own.
-use borrow.Author.Rules.{rules}
 use Rattle.disk_geometry.proofs.Geometry.extents.Goals as goal
 
 pub returns : goal.returns

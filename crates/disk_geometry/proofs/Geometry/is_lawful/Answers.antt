@@ -1,7 +1,6 @@
 -- A geometry that is not straight is lawful as an eight-inch disk alone. Of a straight one the tests are the rule's, with T's
 -- size asked by the most blocks that the block size allows.
 use mathlib.Core.Path.{sym, ◌∙◌}
-use borrow.Author.Rules.{rules}
 use Rattle.disk_geometry.proofs.GeometryLaws.{lawful_placed, lawful_straight}
 use Rattle.disk_geometry.proofs.MostLaws.{by_tests}
 use Rattle.disk_geometry.proofs.Geometry.is_lawful.Goals as goal

@@ -1,7 +1,6 @@
 -- The place is the definition's own, its quotient by R a shift, and the places of an entry hold all records of its extents.
 use mathlib.Core.Path.{refl}
 use native.Mathlib.Omega.{arith}
-use borrow.Author.Rules.{rules}
 use Rattle.disk_geometry.specs.Geometry.{place_of}
 use Rattle.disk_geometry.proofs.GeometryLaws.{bounds, place_lt}
 use Rattle.disk_geometry.proofs.ShiftLaws.{block_shift}

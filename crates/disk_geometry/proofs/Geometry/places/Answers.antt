@@ -1,7 +1,5 @@
 -- The quotient is the definition's own, and a number takes one byte or two.
 use mathlib.Core.Path.{refl}
-use native.Mathlib.Omega.{arith}
-use borrow.Author.Rules.{rules}
 use Rattle.disk_geometry.specs.Geometry.{places}
 use Rattle.disk_geometry.proofs.GeometryLaws.{map_sizes}
 use Rattle.disk_geometry.proofs.Geometry.places.Goals as goal

@@ -3,21 +3,18 @@
 use mathlib.Core.Path.{◌≡◌}
 use Prim.Native.Nat.{◌+◌, ◌*◌, ◌%◌, ◌^◌, ◌<◌}
 use native.Mathlib.Omega.{arith}
-use borrow.Author.Rules.{rules}
 use lib.Bits.{bit_and}
 use Rattle.disk_geometry.specs.Geometry.{records}
 use Rattle.disk_geometry.proofs.GeometryLaws.{bounds, record_below}
 use Rattle.disk_geometry.proofs.ShiftLaws.{block_shift}
 use Rattle.disk_geometry.proofs.Geometry.record_of.Goals as goal
 
--- TODO place After-blm
 inside : (c : goal.After-blm) → c.args.b * records c.args.self + c.args.n % records c.args.self < c.args.self.blocks * records c.args.self
 inside c =
     let a = c.args in
     let p = c.requires in
     record_below _ p.0 a.b a.n p.1
 
--- TODO place After-blm
 same_record : (c : goal.After-blm)
     → (c.args.b * 2 ^ c.bsh.result) % 2 ^ 64 + bit_and c.args.n c.blm.result
     ≡ c.args.b * records c.args.self + c.args.n % records c.args.self

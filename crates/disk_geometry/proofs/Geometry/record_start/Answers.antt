@@ -1,5 +1,4 @@
 -- Record n in block b is a logical record of the volume.
-use borrow.Author.Rules.{rules}
 use Rattle.disk_geometry.specs.Geometry.{record_start}
 use Rattle.disk_geometry.proofs.Geometry.record_start.Goals as goal
 

@@ -1,5 +1,4 @@
 -- The record that holds a slot is one of the volume.
-use borrow.Author.Rules.{rules}
 use Rattle.disk_geometry.proofs.GeometryLaws.{slot_record_below}
 use Rattle.disk_geometry.proofs.Geometry.slot_record.Goals as goal
 

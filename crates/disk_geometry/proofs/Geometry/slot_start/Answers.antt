@@ -1,7 +1,6 @@
 -- A slot of a straight volume is the i-th piece of 32 bytes; any other is one of four pieces of its record.
 use mathlib.Core.Path.{sym}
 use native.Mathlib.Omega.{arith}
-use borrow.Author.Rules.{rules}
 use Rattle.disk_geometry.specs.Geometry.{slot_start}
 use Rattle.disk_geometry.proofs.GeometryLaws.{bounds, slot_straight, slot_in}
 use Rattle.disk_geometry.proofs.Geometry.slot_start.Goals as goal

@@ -2,7 +2,6 @@
 -- disk, which has more records than its blocks.
 use mathlib.Core.Path.{sym, ◌∙◌}
 use native.Mathlib.Omega.{arith}
-use borrow.Author.Rules.{rules}
 use Rattle.disk_geometry.proofs.GeometryLaws.{bounds, placed_floppy, start_straight, start_floppy, start_in, floppy_record}
 use Rattle.disk_geometry.proofs.Geometry.start.Goals as goal
 

@@ -1,12 +1,11 @@
 -- No slot passed so far is empty, so what is still to be searched gives the whole.
 use mathlib.Core.Path.{◌≡◌, sym, ◌∙◌}
-use Prim.Native.Nat.{◌≤◌, ◌-◌}
+use Prim.Native.Nat.{◌-◌}
 use borrow.Author.Rules.{rules}
-use Rattle.lists.proofs.BoundedLaws.{Searched, searched_start, searched_next, searched_hit, searched_none}
+use Rattle.lists.proofs.BoundedLaws.{searched_start, searched_next, searched_hit, searched_none}
 use Rattle.disk_volume.specs.declared.Wanted.TheVariants.{Empty}
 use Rattle.disk_volume.specs.Directory.{slot_fits}
 use Rattle.disk_volume.specs.Name.{strip}
-use Rattle.disk_geometry.specs.Geometry.{slots}
 use Rattle.disk_volume.proofs.EntryLaws.{lent_slot}
 use Rattle.disk_volume.proofs.directory.empty_by_slots.Goals as goal
 

@@ -1,14 +1,9 @@
 -- No slot passed so far has what is wanted; a record is looked through from the slot that the search has come to.
-use mathlib.Core.Path.{◌≡◌, sym, ◌∙◌}
-use Prim.Native.Nat.{◌+◌, ◌*◌, ◌≤◌, ◌-◌, ◌/◌}
-use native.Mathlib.Omega.{arith}
-use borrow.Author.Rules.{rules}
-use Rattle.lists.proofs.BoundedLaws.{Searched, searched_start, searched_hit, searched_none}
+use Prim.Native.Nat.{◌≤◌, ◌-◌}
+use Rattle.lists.proofs.BoundedLaws.{Searched}
 use Rattle.disk_geometry.specs.Geometry.{floppy, slots}
 use Rattle.disk_volume.specs.Name.{strip}
 use Rattle.disk_volume.specs.Directory.{slot_fits}
-use Rattle.disk_volume.proofs.EntryLaws.{lent_part}
-use Rattle.disk_volume.proofs.RunLaws.{Looked, looked, searched_record}
 use Rattle.disk_volume.proofs.directory.find_by_record.Given as goal
 
 abbrev pub invariant-loop-i : goal.invariant-loop-i

@@ -1,5 +1,4 @@
 -- Each search is for what is wanted.
-use borrow.Author.Rules.{rules}
 use Rattle.disk_volume.proofs.directory.find_each.Goals as goal
 
 pub returns-in-Any : goal.returns-in-Any

@@ -1,6 +1,5 @@
 -- The search from slot 0, in two ways.
 use mathlib.Core.Path.{◌∙◌}
-use borrow.Author.Rules.{rules}
 use Rattle.lists.proofs.BoundedLaws.{from_zero}
 use Rattle.disk_geometry.specs.Geometry.{slots}
 use Rattle.disk_volume.specs.declared.Wanted.TheVariants.{Empty}

@@ -1,16 +1,10 @@
 -- No entry passed so far has what is wanted, so what is still to be searched gives the whole.
-use mathlib.Core.Path.{◌≡◌, sym, ap, ◌∙◌}
-use Prim.Native.Nat.{ℕ, ◌≤◌, ◌<◌, ◌-◌, ◌*◌, ◌+◌, ◌/◌, ◌%◌}
-use native.Mathlib.Omega.{arith}
-use borrow.Author.Rules.{rules}
+use mathlib.Core.Path.{◌≡◌}
+use Prim.Native.Nat.{◌≤◌, ◌-◌, ◌/◌, ◌%◌}
 use lib.ListN.{length}
-use Rattle.lists.specs.Bytes.{part}
-use Rattle.lists.proofs.BoundedLaws.{Searched, searched_start, searched_next, searched_hit, searched_none}
-use Rattle.disk_volume.specs.Directory.{fits}
+use Rattle.lists.proofs.BoundedLaws.{Searched}
 use Rattle.disk_volume.specs.Name.{strip}
 use Rattle.disk_volume.specs.CodeRun.{run_entries, run_fits}
-use Rattle.disk_volume.proofs.EntryLaws.{lent_part}
-use Rattle.disk_volume.proofs.RunLaws.{one_more}
 use Rattle.disk_volume.proofs.directory.find_in.Given as goal
 
 abbrev pub invariant-loop-at : goal.invariant-loop-at

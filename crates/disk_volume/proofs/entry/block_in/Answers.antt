@@ -2,7 +2,6 @@
 use mathlib.Core.Path.{◌≡◌, sym, ap, ◌∙◌}
 use Prim.Native.Nat.{◌+◌, ◌*◌, ◌≤◌}
 use native.Mathlib.Omega.{arith}
-use borrow.Author.Rules.{rules}
 use Rattle.lists.specs.Bytes.{byte}
 use Rattle.disk_geometry.specs.Geometry.{number_bytes}
 use Rattle.disk_volume.specs.Entry.{place_start}

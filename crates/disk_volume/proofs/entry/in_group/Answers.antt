@@ -1,7 +1,6 @@
 -- The user is asked first, then the group.
 use Rattle.lists.specs.Bytes.{byte}
 use borrow.Author.Tests.{eq-eqb, ne_eqb}
-use borrow.Author.Rules.{rules}
 use Rattle.disk_volume.proofs.entry.in_group.Goals as goal
 
 pub returns-then-e-user : goal.returns-then-e-user

@@ -1,6 +1,5 @@
 -- User first, then the name: the definition's two tests in its order.
 use borrow.Author.Tests.{eq-eqb, ne_eqb}
-use borrow.Author.Rules.{rules}
 use Rattle.lists.specs.Bytes.{byte, part}
 use Rattle.disk_volume.specs.Entry.{of_file}
 use Rattle.disk_volume.specs.Name.{name_at}

@@ -4,9 +4,9 @@ use Rattle.lists.specs.Bytes.{byte}
 use borrow.Author.Tests.{eq-eqb, ne_eqb}
 use mathlib.Core.Bool.{and-true, and-false}
 use mathlib.Core.Path.{sym, ◌∙◌}
-use Prim.Native.Nat.{◌≤◌, ◌-◌}
+use Prim.Native.Nat.{◌-◌}
 use borrow.Author.Rules.{rules}
-use Rattle.disk_volume.proofs.NameLaws.{printable_at, plain_at, good_places, Gathered, gathered_start, gathered_next, gathered_end}
+use Rattle.disk_volume.proofs.NameLaws.{good_places, gathered_start, gathered_next, gathered_end}
 use Rattle.disk_volume.proofs.names.good_name.Goals as goal
 
 pub returns-then-name-eq-BLANK : goal.returns-then-name-eq-BLANK

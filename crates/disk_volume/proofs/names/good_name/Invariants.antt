@@ -1,12 +1,6 @@
 -- The first byte may decide; else what was gathered of the bytes passed so far, with what is left.
-use Prim.Native.Nat.{◌%◌}
-use Rattle.lists.specs.Bytes.{byte}
-use borrow.Author.Tests.{eq-eqb, ne_eqb}
-use mathlib.Core.Bool.{and-true, and-false}
-use mathlib.Core.Path.{sym, ◌∙◌}
 use Prim.Native.Nat.{◌≤◌, ◌-◌}
-use borrow.Author.Rules.{rules}
-use Rattle.disk_volume.proofs.NameLaws.{printable_at, plain_at, good_places, Gathered, gathered_start, gathered_next, gathered_end}
+use Rattle.disk_volume.proofs.NameLaws.{printable_at, plain_at, Gathered}
 use Rattle.disk_volume.proofs.names.good_name.Given as goal
 
 abbrev pub invariant-loop-k : goal.invariant-loop-k

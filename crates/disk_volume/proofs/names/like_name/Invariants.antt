@@ -1,10 +1,7 @@
 -- The pattern matched the places passed so far, so what is left decides.
-use mathlib.Core.Path.{sym, ◌∙◌}
 use Prim.Native.Nat.{◌≤◌, ◌-◌}
-use borrow.Author.Rules.{rules}
-use borrow.Author.Tests.{not-true, not-false}
-use Rattle.lists.proofs.BoundedLaws.{Passed, passed_start, passed_next, passed_fails, passed_all}
-use Rattle.disk_volume.proofs.NameLaws.{like_at, like_places}
+use Rattle.lists.proofs.BoundedLaws.{Passed}
+use Rattle.disk_volume.proofs.NameLaws.{like_at}
 use Rattle.disk_volume.proofs.names.like_name.Given as goal
 
 abbrev pub invariant-loop-k : goal.invariant-loop-k

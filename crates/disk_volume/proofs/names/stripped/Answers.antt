@@ -4,7 +4,6 @@ use Prim.Native.Nat.{ℕ}
 use native.Mathlib.Omega.{arith}
 use lib.Bits.{bit_and}
 use lib.ListN.{replicate}
-use borrow.Author.Rules.{rules}
 use Rattle.numbers.specs.Numbers.{number}
 use Rattle.disk_volume.proofs.NameLaws.{strip_number}
 use Rattle.disk_volume.proofs.names.stripped.Goals as goal

@@ -4,7 +4,6 @@ use Rattle.filecalls.proofs.JoinLaws.{joined_whole}
 use Rattle.filecalls.specs.Names.{delete_act}
 use Rattle.filecalls.specs.declared.Drive.{Drive}
 use mathlib.Core.List.{[]}
-use borrow.Author.Rules.{rules}
 use Rattle.filecalls.proofs.Drive.delete.Goals as goal
 
 pub returns : goal.returns

@@ -2,7 +2,6 @@
 use Rattle.filecalls.proofs.JoinLaws.{joined_left}
 use Rattle.filecalls.specs.Leaves.{size_leaves}
 use Rattle.filecalls.specs.declared.Drive.{Drive}
-use borrow.Author.Rules.{rules}
 use Rattle.filecalls.proofs.Drive.file_size.Goals as goal
 
 pub returns : goal.returns

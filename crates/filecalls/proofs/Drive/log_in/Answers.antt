@@ -3,13 +3,12 @@ use Rattle.filecalls.specs.LogIn.{log_in_tests, refused_log_in, log_in}
 use Rattle.call_answers.specs.Refusal.{first_met}
 use Rattle.disk_rules.specs.GoodSlot.{lowest_bad}
 use Rattle.disk_geometry.specs.Geometry.{lawful, bytes, slots}
-use borrow.Author.Tests.{not-false, eqb-true, lt-ltb, le-ltb, ne_eqb, eq-eqb}
+use borrow.Author.Tests.{lt-ltb, le-ltb, ne_eqb, eq-eqb}
 use lib.ListN.{length}
 use native.Mathlib.Omega.{arith}
 use Prim.Native.Nat.{◌<◌, ◌≤◌}
-use mathlib.Core.Bool.{true, not}
-use mathlib.Core.Path.{refl, ◌≡◌, sym, ◌∙◌, ap}
-use borrow.Author.Rules.{rules}
+use mathlib.Core.Bool.{true}
+use mathlib.Core.Path.{refl, ◌≡◌, sym, ◌∙◌}
 use Rattle.filecalls.proofs.Drive.log_in.Goals as goal
 
 pub returns-then-not-is_lawful : goal.returns-then-not-is_lawful

@@ -4,7 +4,6 @@ use Rattle.filecalls.proofs.JoinLaws.{joined_whole}
 use Rattle.filecalls.specs.Names.{attributes_act}
 use Rattle.filecalls.specs.declared.Drive.{Drive}
 use mathlib.Core.List.{[]}
-use borrow.Author.Rules.{rules}
 use Rattle.filecalls.proofs.Drive.set_attributes.Goals as goal
 
 pub returns : goal.returns

@@ -2,7 +2,6 @@
 use Rattle.filecalls.proofs.JoinLaws.{joined_left}
 use Rattle.filecalls.specs.Leaves.{set_random_leaves}
 use Rattle.filecalls.specs.declared.Drive.{Drive}
-use borrow.Author.Rules.{rules}
 use Rattle.filecalls.proofs.Drive.set_random.Goals as goal
 
 pub returns : goal.returns

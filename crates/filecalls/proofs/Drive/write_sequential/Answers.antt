@@ -3,7 +3,6 @@ use Rattle.filecalls.proofs.EnoughLaws.{sequential_enough}
 use Rattle.filecalls.proofs.JoinLaws.{joined_whole}
 use Rattle.filecalls.specs.Write.{write_sequential_act}
 use Rattle.filecalls.specs.declared.Drive.{Drive}
-use borrow.Author.Rules.{rules}
 use Rattle.filecalls.proofs.Drive.write_sequential.Goals as goal
 
 pub returns : goal.returns

@@ -4,7 +4,6 @@ use Rattle.filecalls.proofs.JoinLaws.{joined_whole}
 use Rattle.filecalls.specs.Write.{write_direct_act, write_zero_fill_act}
 use Rattle.filecalls.specs.declared.Drive.{Drive}
 use mathlib.Core.Bool.{true}
-use borrow.Author.Rules.{rules}
 use Rattle.filecalls.proofs.Drive.write_zero_fill.Goals as goal
 
 pub returns : goal.returns

@@ -1,9 +1,7 @@
 -- The answer by what refuses.
 use mathlib.Core.Path.{sym, ◌∙◌}
-use borrow.Author.Rules.{rules}
 use Prim.Native.Nat.{ℕ}
 use mathlib.Core.List.{List}
-use Rattle.filecalls.specs.CodeFront.{joined}
 use Rattle.filecalls.proofs.Front.answered.Goals as goal
 
 pub returns-then-is_none : goal.returns-then-is_none

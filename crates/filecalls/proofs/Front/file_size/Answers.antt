@@ -13,7 +13,6 @@ use Rattle.filecalls.specs.Outcome.{keeps, changed_state}
 use Rattle.disk_volume.specs.Name.{name_of}
 use mathlib.Core.List.{List, []}
 use Prim.Native.Nat.{ℕ}
-use borrow.Author.Rules.{rules}
 use Rattle.filecalls.specs.CodeFront.{joined}
 use Rattle.filecalls.proofs.Front.file_size.Goals as goal
 

@@ -15,7 +15,6 @@ use Rattle.filecalls.specs.Search.{examined}
 use Rattle.filecalls.proofs.LentLaws.{LengthsLent, lengths_passed}
 use Rattle.filecalls.proofs.OutcomeLaws.{refuses}
 use Prim.Native.Nat.{ℕ}
-use borrow.Author.Rules.{rules}
 use Rattle.filecalls.specs.CodeFront.{joined}
 use Rattle.filecalls.proofs.Front.first_why.Goals as goal
 

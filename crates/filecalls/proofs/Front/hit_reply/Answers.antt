@@ -5,7 +5,6 @@ use native.Mathlib.Omega.{arith}
 use Rattle.disk_geometry.specs.Geometry.{slots}
 use Rattle.filecalls.specs.Search.{hit}
 use Rattle.filecalls.proofs.SearchLaws.{hits, misses}
-use borrow.Author.Rules.{rules}
 use Rattle.filecalls.specs.CodeFront.{joined}
 use Rattle.filecalls.proofs.Front.hit_reply.Goals as goal
 

@@ -1,7 +1,6 @@
 -- The geometry is asked first, since the number of slots rests on it; a search only where one is kept.
 use mathlib.Core.Bool.{not}
 use Rattle.filecalls.specs.State.{good_kept}
-use borrow.Author.Tests.{not-true, not-false}
 use mathlib.Core.Path.{sym, ap, ◌∙◌}
 use mathlib.Core.List.{List}
 use Prim.Native.Nat.{ℕ}

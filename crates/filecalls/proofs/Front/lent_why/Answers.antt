@@ -12,7 +12,6 @@ use Rattle.filecalls.specs.CodeLadder.{lent_tests}
 use borrow.Author.Tests.{not-false}
 use mathlib.Core.Path.{◌≡◌, refl, sym, ◌∙◌, ap}
 use Prim.Native.Nat.{ℕ}
-use borrow.Author.Rules.{rules}
 use Rattle.filecalls.specs.CodeFront.{joined}
 use Rattle.filecalls.proofs.Front.lent_why.Goals as goal
 

@@ -22,7 +22,6 @@ use Rattle.filecalls.proofs.StateLaws.{Named, named}
 use Rattle.disk_volume.specs.Name.{name_at, name_of}
 use mathlib.Core.List.{List, [], ◌∷◌}
 use mathlib.Core.Path.{◌≡◌, refl, ap, ◌∙◌}
-use borrow.Author.Rules.{rules}
 use Rattle.filecalls.specs.CodeFront.{joined}
 use Rattle.filecalls.proofs.Front.make_most.Goals as goal
 

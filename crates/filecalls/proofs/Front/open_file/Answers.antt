@@ -13,7 +13,6 @@ use Rattle.disk_stores.specs.Stores.{laid}
 use Rattle.filecalls.specs.Outcome.{keeps, changed_state}
 use mathlib.Core.List.{List, []}
 use mathlib.Core.Path.{◌≡◌, ◌∙◌, ap}
-use borrow.Author.Rules.{rules}
 use Rattle.filecalls.specs.CodeFront.{joined}
 use Rattle.filecalls.proofs.Front.open_file.Goals as goal
 

@@ -1,6 +1,6 @@
 -- State and length are asked first; then drive code and position.
 use Rattle.filecalls.specs.Small.{set_random_tests}
-use borrow.Author.Tests.{not-false, eqb-true, ne_eqb}
+use borrow.Author.Tests.{ne_eqb}
 use Rattle.filecalls.specs.Tests.{closed_state, fcb_length}
 use Rattle.call_answers.proofs.Ladder.{ladder_pass, ladder_two}
 use Rattle.call_answers.specs.Refusal.{first_met, test, is_none}
@@ -8,13 +8,12 @@ use Rattle.call_answers.specs.declared.Refusal.TheVariants.{DriveCode, Position}
 use Rattle.call_fcb.specs.Fcb.{position_fits}
 use Rattle.lists.specs.Bytes.{byte}
 use lib.ListN.{length}
-use lib.Dec.{ltb, eqb}
+use lib.Dec.{ltb}
 use native.Mathlib.Omega.{arith}
 use mathlib.Core.List.{List, [], ◌∷◌}
 use mathlib.Core.Bool.{true, not}
-use mathlib.Core.Path.{◌≡◌, refl, sym, ◌∙◌, ap}
+use mathlib.Core.Path.{◌≡◌, refl, sym, ◌∙◌}
 use Prim.Native.Nat.{ℕ}
-use borrow.Author.Rules.{rules}
 use Rattle.filecalls.specs.CodeFront.{joined}
 use Rattle.filecalls.proofs.Front.position_why.Goals as goal
 

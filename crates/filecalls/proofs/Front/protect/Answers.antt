@@ -4,10 +4,8 @@ use Rattle.disk_stores.specs.Stores.{laid}
 use Rattle.filecalls.specs.Outcome.{outcome, unless, changed_state}
 use Rattle.filecalls.proofs.JoinLaws.{reply_left}
 use Rattle.call_answers.specs.Refusal.{first_met}
-use borrow.Author.Rules.{rules}
 use Prim.Native.Nat.{ℕ}
-use mathlib.Core.List.{List, []}
-use Rattle.filecalls.specs.CodeFront.{joined}
+use mathlib.Core.List.{List}
 use Rattle.filecalls.proofs.Front.protect.Goals as goal
 
 pub returns-then-not-is_open : goal.returns-then-not-is_open

@@ -13,7 +13,6 @@ use mathlib.Core.List.{List, [], ◌∷◌}
 use mathlib.Core.Bool.{false, not}
 use mathlib.Core.Path.{refl, sym, ◌∙◌, ap}
 use Prim.Native.Nat.{ℕ}
-use borrow.Author.Rules.{rules}
 use Rattle.filecalls.specs.CodeFront.{joined}
 use Rattle.filecalls.proofs.Front.random_why.Goals as goal
 

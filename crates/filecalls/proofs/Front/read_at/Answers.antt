@@ -11,7 +11,6 @@ use Rattle.filecalls.specs.Outcome.{keeps, changed_state}
 use Rattle.filecalls.specs.Read.{read_done}
 use Rattle.filecalls.proofs.OutcomeLaws.{either, decided}
 use Prim.Native.Nat.{ℕ}
-use borrow.Author.Rules.{rules}
 use Rattle.filecalls.specs.CodeFront.{joined}
 use Rattle.filecalls.proofs.Front.read_at.Goals as goal
 

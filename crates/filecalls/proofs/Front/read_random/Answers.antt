@@ -11,7 +11,6 @@ use Rattle.filecalls.specs.Read.{random_tests, read_random_act, read_done}
 use Rattle.filecalls.specs.CodeLadder.{named_tests, random_lent}
 use Rattle.filecalls.proofs.LentLaws.{Random, random_passed}
 use Rattle.filecalls.proofs.OutcomeLaws.{passes, refused_at}
-use borrow.Author.Rules.{rules}
 use mathlib.Core.List.{List, []}
 use Rattle.filecalls.specs.CodeFront.{joined}
 use Rattle.filecalls.proofs.Front.read_random.Goals as goal

@@ -12,7 +12,6 @@ use Rattle.filecalls.specs.Read.{sequential_tests, read_sequential_act, read_don
 use Rattle.filecalls.specs.CodeLadder.{named_tests, sequential_lent}
 use Rattle.filecalls.proofs.LentLaws.{Sequential, sequential_passed}
 use Rattle.filecalls.proofs.OutcomeLaws.{passes, refused_at}
-use borrow.Author.Rules.{rules}
 use mathlib.Core.List.{List, []}
 use Rattle.filecalls.specs.CodeFront.{joined}
 use Rattle.filecalls.proofs.Front.read_sequential.Goals as goal

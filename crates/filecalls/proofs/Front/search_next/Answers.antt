@@ -13,7 +13,6 @@ use Rattle.call_answers.specs.Refusal.{test}
 use Rattle.filecalls.specs.Search.{search_next_act, next_tests, is_kept, hit, hit_act}
 use Rattle.filecalls.proofs.SearchLaws.{Next, next_passed, next_lent, no_block, kept_below}
 use Rattle.filecalls.proofs.OutcomeLaws.{passes, refused_at, stops_then, says_no}
-use borrow.Author.Rules.{rules}
 use Rattle.filecalls.specs.CodeFront.{joined}
 use Rattle.filecalls.proofs.Front.search_next.Goals as goal
 

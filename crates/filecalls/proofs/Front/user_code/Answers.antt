@@ -5,10 +5,8 @@ use Rattle.filecalls.specs.Outcome.{outcome, unless, changed_state}
 use Rattle.filecalls.proofs.JoinLaws.{reply_left}
 use Rattle.call_answers.specs.Refusal.{first_met}
 use borrow.Author.Tests.{eq-eqb, ne_eqb}
-use borrow.Author.Rules.{rules}
 use Prim.Native.Nat.{ℕ}
-use mathlib.Core.List.{List, []}
-use Rattle.filecalls.specs.CodeFront.{joined}
+use mathlib.Core.List.{List}
 use Rattle.filecalls.proofs.Front.user_code.Goals as goal
 
 pub returns-then-not-is_open : goal.returns-then-not-is_open

@@ -5,8 +5,6 @@ use Rattle.filecalls.proofs.CutLaws.{cut_no}
 use Rattle.call_answers.specs.declared.Refusal.TheVariants.{Protected}
 use mathlib.Core.Path.{refl}
 use borrow.Author.Rules.{rules}
-use Prim.Native.Nat.{ℕ}
-use mathlib.Core.List.{List}
 use Rattle.disk_volume.specs.Name.{name_of}
 use Rattle.call_write.specs.Rewrite.{bytes_of}
 use Rattle.filecalls.specs.CodeFront.{joined}

@@ -7,7 +7,6 @@ use Rattle.call_answers.specs.Refusal.{first_met, is_none}
 use mathlib.Core.Path.{◌≡◌, sym, ap, ◌∙◌}
 use mathlib.Core.Bool.{true, not}
 use lib.ListN.{length}
-use borrow.Author.Rules.{rules}
 use Prim.Native.Nat.{ℕ}
 use mathlib.Core.List.{List, []}
 use Rattle.filecalls.specs.CodeFront.{joined}

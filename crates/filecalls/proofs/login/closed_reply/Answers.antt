@@ -1,5 +1,4 @@
 -- The closed state is the one that `Drive::closed` hands out.
-use borrow.Author.Rules.{rules}
 use Rattle.filecalls.proofs.login.closed_reply.Goals as goal
 
 pub returns : goal.returns

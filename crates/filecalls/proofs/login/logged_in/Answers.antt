@@ -1,5 +1,4 @@
 -- The closed state, with its geometry and words replaced, is the state after log-in.
-use borrow.Author.Rules.{rules}
 use Rattle.filecalls.proofs.login.logged_in.Goals as goal
 
 pub returns : goal.returns

@@ -1,6 +1,4 @@
 -- Outside the rules none is good; within them each arm is the definition's case of the same name.
-use borrow.Author.Rules.{rules}
-use borrow.Author.Tests.{not-true, not-false}
 use mathlib.Core.Path.{sym, ◌∙◌}
 use Rattle.filecalls.proofs.SearchLaws.{kept_outside, pattern_within, all_within}
 use Rattle.filecalls.proofs.state.is_kept.Goals as goal

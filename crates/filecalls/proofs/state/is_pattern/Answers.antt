@@ -1,7 +1,6 @@
 -- Name and ex, as the rule has them.
 use Rattle.disk_volume.specs.Name.{name_at}
 use Rattle.lists.specs.Bytes.{part}
-use borrow.Author.Rules.{rules}
 use Rattle.filecalls.proofs.state.is_pattern.Goals as goal
 
 pub returns : goal.returns

@@ -1,5 +1,5 @@
 -- Each arm of the match is one of the definition's cases, and `_` is none of them.
-use Rattle.std.proofs.Common.{ne_eqb}
+use Rattle.std.proofs.Common.{rules, ne_eqb}
 use Rattle.gencmd_lines.specs.Line.{group_of_type}
 use Rattle.gencmd_lines.proofs.line.group_of_type.Goals as goal
 
@@ -25,6 +25,4 @@ returns-in-132 c = rw c.in-132.is
 
 pub returns-in_default : goal.returns-in_default
 unfolding group_of_type
-returns-in_default c =
-    let (((((_, h0), h81), h82), h83), h84) = c.in_default.in_default-own.rest in
-    simp ne_eqb
+returns-in_default c = search (rules, ne_eqb)

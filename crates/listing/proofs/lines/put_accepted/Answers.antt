@@ -3,7 +3,6 @@ use Rattle.listing.specs.Listing.{header, free_word, lines_from, accepted}
 use Rattle.text.proofs.TextLaws.{wrote, wrote_byte, then}
 use Rattle.text.specs.Decimal.{decimal}
 use Rattle.disk_geometry.specs.Geometry.{slots}
-use borrow.Author.Rules.{rules}
 use Rattle.listing.proofs.lines.put_accepted.Goals as goal
 
 pub returns : goal.returns

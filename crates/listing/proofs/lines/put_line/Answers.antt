@@ -6,7 +6,6 @@ use Rattle.text.proofs.TextLaws.{wrote, wrote_byte, then}
 use Rattle.call_size.specs.Size.{size_of}
 use Rattle.disk_volume.specs.Name.{name_at, name_of}
 use Rattle.lists.specs.Bytes.{byte, part}
-use borrow.Author.Rules.{rules}
 use Rattle.listing.proofs.lines.put_line.Goals as goal
 
 pub returns : goal.returns

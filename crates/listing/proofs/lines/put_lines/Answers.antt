@@ -1,11 +1,9 @@
 -- The lines that are still to be appended from here give the whole.
 use mathlib.Core.Path.{◌≡◌, refl, sym, ◌∙◌}
-use Prim.Native.Nat.{◌≤◌, ◌-◌}
+use Prim.Native.Nat.{◌-◌}
 use native.Mathlib.Omega.{arith}
-use lib.ListN.{length}
 use Rattle.listing.proofs.ListingLaws.{lines_next, lines_end}
-use Rattle.listing.specs.Listing.{lines_from}
-use Rattle.text.specs.Text.{text, puts}
+use Rattle.text.specs.Text.{text}
 use Rattle.disk_geometry.specs.Geometry.{slots}
 use borrow.Author.Rules.{rules}
 use Rattle.listing.proofs.lines.put_lines.Goals as goal
@@ -17,7 +15,7 @@ pub loop-i-preserved : goal.loop-i-preserved
 loop-i-preserved c =
     let l = c.loop-i in
     let a = c.args in
-    (search rules, (c.put_slot_line-p.auto.1.1.1.0 ∙ l.invariant.1.0, lines_next a.g a.volume.now (slots a.g) l.i (text l.out l.p) _ (search rules) c.put_slot_line-p.ensures ∙ l.invariant.1.1))
+    (search rules, (c.put_slot_line-p.auto.out ∙ l.invariant.1.0, lines_next a.g a.volume.now (slots a.g) l.i (text l.out l.p) _ (search rules) c.put_slot_line-p.ensures ∙ l.invariant.1.1))
 
 pub returns : goal.returns
 returns c =

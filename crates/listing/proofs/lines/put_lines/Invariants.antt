@@ -1,13 +1,10 @@
 -- The lines that are still to be appended from here give the whole.
-use mathlib.Core.Path.{◌≡◌, refl, sym, ◌∙◌}
+use mathlib.Core.Path.{◌≡◌}
 use Prim.Native.Nat.{◌≤◌, ◌-◌}
-use native.Mathlib.Omega.{arith}
 use lib.ListN.{length}
-use Rattle.listing.proofs.ListingLaws.{lines_next, lines_end}
 use Rattle.listing.specs.Listing.{lines_from}
 use Rattle.text.specs.Text.{text, puts}
 use Rattle.disk_geometry.specs.Geometry.{slots}
-use borrow.Author.Rules.{rules}
 use Rattle.listing.proofs.lines.put_lines.Given as goal
 
 abbrev pub invariant-loop-i : goal.invariant-loop-i

@@ -3,7 +3,6 @@ use Rattle.listing.specs.Listing.{name_text}
 use Rattle.text.proofs.TextLaws.{wrote, wrote_byte, then}
 use Rattle.disk_volume.specs.Name.{strip}
 use Rattle.lists.specs.Bytes.{part}
-use borrow.Author.Rules.{rules}
 use Rattle.listing.proofs.lines.put_name.Goals as goal
 
 pub returns : goal.returns

@@ -1,12 +1,9 @@
 -- What is still to be appended from here gives the whole.
-use Prim.Native.Nat.{◌≤◌, ◌<◌, ◌-◌, ◌+◌}
-use mathlib.Core.Path.{◌≡◌, refl, sym, ap, ◌∙◌}
-use native.Mathlib.Omega.{arith}
+use Prim.Native.Nat.{◌≤◌, ◌-◌}
+use mathlib.Core.Path.{◌≡◌}
 use lib.ListN.{length, drop}
-use Rattle.listing.proofs.ListingLaws.{strip_next, strip_end}
-use Rattle.text.specs.Text.{Text, text, puts}
+use Rattle.text.specs.Text.{text, puts}
 use Rattle.disk_volume.specs.Name.{strip}
-use borrow.Author.Rules.{rules}
 use Rattle.listing.proofs.lines.put_stripped.Given as goal
 
 abbrev pub invariant-loop-i : goal.invariant-loop-i

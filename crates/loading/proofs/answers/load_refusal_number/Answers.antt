@@ -1,5 +1,4 @@
 -- A refusal of the file calls has their number.
-use borrow.Author.Rules.{rules}
 use Rattle.loading.proofs.answers.load_refusal_number.Goals as goal
 
 pub returns-in-File : goal.returns-in-File

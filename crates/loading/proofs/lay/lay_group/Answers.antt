@@ -3,7 +3,6 @@ use Rattle.loading.proofs.LaidLaws.{lent_part}
 use Rattle.memory_spans.specs.Span.{paragraph_bytes}
 use Prim.Native.Nat.{ℕ, ◌*◌}
 use mathlib.Core.Path.{refl, ap}
-use borrow.Author.Rules.{rules}
 use Rattle.loading.proofs.lay.lay_group.Goals as goal
 
 pub returns : goal.returns

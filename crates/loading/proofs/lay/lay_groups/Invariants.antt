@@ -1,15 +1,12 @@
 -- What is still to be laid gives the whole.
-use Rattle.lists.proofs.FoldLaws.{Folded, folded_start, folded_next, folded_end}
-use Rattle.loading.proofs.LaidLaws.{start_in}
+use Rattle.lists.proofs.FoldLaws.{Folded}
 use Rattle.loading.specs.Laid.{group_laid}
 use Rattle.loading.specs.CodeLoad.{granted_in}
 use Rattle.load_records.specs.Records.{image}
 use Rattle.load_records.specs.CodeReading.{bare}
-use native.Mathlib.Omega.{arith}
 use lib.ListN.{length}
 use Prim.Native.Nat.{◌-◌, ◌≤◌}
-use mathlib.Core.Path.{◌≡◌, refl, sym}
-use borrow.Author.Rules.{rules}
+use mathlib.Core.Path.{◌≡◌}
 use Rattle.loading.proofs.lay.lay_groups.Given as goal
 
 abbrev pub invariant-loop-i : goal.invariant-loop-i

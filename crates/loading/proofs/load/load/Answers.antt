@@ -1,10 +1,8 @@
 -- The file is read, and then its groups are placed.
 use Rattle.loading.proofs.LoadLaws.{not_read, was_read, load_any}
-use borrow.Author.Tests.{not-true, not-false}
 use mathlib.Core.Path.{sym, ◌∙◌}
 use mathlib.Core.List.{List}
 use Prim.Native.Nat.{ℕ}
-use borrow.Author.Rules.{rules}
 use Rattle.loading.proofs.load.load.Goals as goal
 
 pub returns-then-not-is_none : goal.returns-then-not-is_none

@@ -1,11 +1,9 @@
 -- 65, 60, 61 and 63, one after the other.
 use Rattle.loading.proofs.LoadLaws.{no_rules, no_header, no_image, no_place, goes_on}
 use Rattle.memory_calls.proofs.CallLaws.{within_facts}
-use borrow.Author.Tests.{not-true, not-false}
 use native.Mathlib.Omega.{arith}
 use Prim.Native.Nat.{ℕ, ◌-◌}
 use mathlib.Core.Path.{sym, ap, ◌∙◌}
-use borrow.Author.Rules.{rules}
 use Rattle.loading.proofs.load.place.Goals as goal
 
 pub returns-then-not-is_within_rules : goal.returns-then-not-is_within_rules

@@ -1,7 +1,6 @@
 -- The start of the region that has the base page.
 use Rattle.loading.specs.Page.{page_start}
 use mathlib.Core.Path.{◌∙◌}
-use borrow.Author.Rules.{rules}
 use Rattle.loading.proofs.page.page_start.Goals as goal
 
 pub returns : goal.returns

@@ -1,7 +1,6 @@
 -- The six bytes are the definition's.
 use Rattle.loading.specs.Page.{field_of}
 use Rattle.numbers.specs.Numbers.{bytes_of}
-use borrow.Author.Rules.{rules}
 use Rattle.loading.proofs.page.put_field.Goals as goal
 
 pub returns : goal.returns

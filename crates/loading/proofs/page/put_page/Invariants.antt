@@ -1,15 +1,11 @@
 -- The fields of the types passed so far are laid.
-use Rattle.loading.proofs.PageLaws.{field_length, field_is}
-use Rattle.loading.specs.Page.{field_bytes, page_bytes, field, base_page}
+use Rattle.loading.specs.Page.{field_bytes, page_bytes, field}
 use Rattle.loading.specs.CodeLoad.{granted_in}
 use Rattle.load_header.specs.Header.{CODE, LAST_AUX}
 use Rattle.joined.specs.Joined.{joined}
-use Rattle.joined.proofs.JoinedLaws.{joined_start, joined_next, joined_end}
-use native.Mathlib.Omega.{arith}
 use lib.ListN.{length, take}
 use Prim.Native.Nat.{◌*◌, ◌-◌, ◌≤◌}
 use mathlib.Core.Path.{◌≡◌}
-use borrow.Author.Rules.{rules}
 use Rattle.loading.proofs.page.put_page.Given as goal
 
 abbrev pub invariant-loop-i : goal.invariant-loop-i

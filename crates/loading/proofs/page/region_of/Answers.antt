@@ -1,7 +1,6 @@
 -- By the place of the type.
 use Rattle.loading.specs.Page.{region_of}
 use mathlib.Core.Path.{◌∙◌}
-use borrow.Author.Rules.{rules}
 use Rattle.loading.proofs.page.region_of.Goals as goal
 
 pub returns : goal.returns

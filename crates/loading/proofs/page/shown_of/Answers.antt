@@ -1,6 +1,5 @@
 -- Code alone shows data as code.
 use Rattle.loading.proofs.PageLaws.{shown_code, shown_own}
-use borrow.Author.Rules.{rules}
 use Rattle.loading.proofs.page.shown_of.Goals as goal
 
 pub returns-then-n-kind : goal.returns-then-n-kind

@@ -1,6 +1,5 @@
 -- The place behind the m regions, or none.
 use Rattle.loading.proofs.PageLaws.{span_in, span_out}
-use borrow.Author.Rules.{rules}
 use Rattle.loading.proofs.page.span_at.Goals as goal
 
 pub returns-then-j-n : goal.returns-then-j-n

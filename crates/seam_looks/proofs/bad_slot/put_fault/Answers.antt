@@ -15,14 +15,14 @@ use Rattle.seam_looks.proofs.bad_slot.put_fault.Goals as goal
 pub put_other-requires : goal.put_other-requires
 put_other-requires c =
     let other : c.first_broken-f.result.other < slots c.args.g = (let a = c.args in
-      rw c.first_broken-f.ensures (omega (arith, other_below a.g a.volume.now a.i c.requires.1.1, c.requires.1.1))) in
+    rw c.first_broken-f.ensures (omega (arith, other_below a.g a.volume.now a.i c.requires.1.1, c.requires.1.1))) in
     (search rules, (search rules, other))
 
 pub returns : goal.returns
 unfolding fault_bytes put bytes_of
 returns c =
     let other : c.first_broken-f.result.other < slots c.args.g = (let a = c.args in
-      rw c.first_broken-f.ensures (omega (arith, other_below a.g a.volume.now a.i c.requires.1.1, c.requires.1.1))) in
+    rw c.first_broken-f.ensures (omega (arith, other_below a.g a.volume.now a.i c.requires.1.1, c.requires.1.1))) in
     let a = c.args in
     let v = a.volume.now in
     let f = c.first_broken-f.result in

@@ -3,7 +3,6 @@ use Rattle.filecalls.proofs.JoinLaws.{joined_left}
 use Rattle.filecalls.specs.Leaves.{read_sequential_leaves}
 use Rattle.several.specs.Several.{several}
 use Rattle.filecalls.specs.declared.Drive.{Drive}
-use borrow.Author.Rules.{rules}
 use Rattle.several.proofs.drive.read.Goals as goal
 
 pub returns : goal.returns

@@ -5,7 +5,6 @@ use Rattle.filecalls.specs.CodeFront.{joined}
 use Rattle.filecalls.specs.Leaves.{write_sequential_leaves}
 use Rattle.several.specs.Several.{several}
 use Rattle.filecalls.specs.declared.Drive.{Drive}
-use borrow.Author.Rules.{rules}
 use Rattle.several.proofs.drive.write.Goals as goal
 
 pub returns : goal.returns

@@ -3,7 +3,6 @@ use mathlib.Core.Path.{refl}
 use Rattle.shelf_figures.proofs.ShelfLaws.{kept}
 use Rattle.shelf_figures.specs.Shelf.{plus}
 use native.Mathlib.Omega.{arith}
-use borrow.Author.Rules.{rules}
 use Rattle.shelf_figures.proofs.Shelf.plus.Goals as goal
 
 pub overflow_add-result : goal.overflow_add-result

@@ -1,11 +1,10 @@
 -- The tests are asked in the definition's order; what is added is within the rules, so no sum overflows.
 use Rattle.shelf_figures.proofs.ShelfLaws.{within_kept, one_within}
 use Rattle.shelf_figures.specs.Shelf.{is_kept, one, put}
-use borrow.Author.Tests.{not-false, le-leb, lt-leb}
+use borrow.Author.Tests.{le-leb, lt-leb}
 use native.Mathlib.Omega.{arith}
 use mathlib.Core.Bool.{true}
 use mathlib.Core.Path.{◌≡◌, sym, ◌∙◌}
-use borrow.Author.Rules.{rules}
 use Rattle.shelf_figures.proofs.Shelf.put.Goals as goal
 
 pub returns-then-not-is_kept : goal.returns-then-not-is_kept
