@@ -11,16 +11,16 @@ use Rattle.replay.proofs.fill.Goals as goal
 
 pub returns : goal.returns
 unfolding put
-returns c =
+returns g c =
     let a = c.args in
     let w = a.window.now in
-    let e = c.shift.new.0 in
+    let e = c.shift.new.window in
+    let x = c.read_full-got.new.buf in
     let n = a.to - a.from in
-    let l : length e ≡ length w = c.shift.auto.0 in
-    let f : a.from + n ≤ length w = omega arith in
-    let m : length c.read_full-got.new.1.0 ≡ length e - n = c.window-2-1.given.0 ∙ mid_len n (length e) e (omega arith) in
-    let b = c.read_full-got.ensures.0 in
+    let l : length e ≡ length w = c.shift.auto.window in
+    let f : a.from + n ≤ length w = omega (arith, c.requires) in
+    let m : length x ≡ length e - n = search rules in
     record {
-      from_le_to = (omega arith, rw c.window-2-1.given.1 (omega arith));
-      from_after = front_stays w e c.read_full-got.new.1.0 a.from n f c.shift.ensures l m;
+      from_le_to = search rules;
+      from_after = front_stays w e x a.from n f c.shift.ensures l m;
     }

@@ -7,10 +7,10 @@ use borrow.Author.Rules.{rules}
 use Rattle.replay.proofs.put_changes.Goals as goal
 
 pub loop-q-init : goal.loop-q-init
-loop-q-init c = refl
+loop-q-init g c = refl
 
 pub loop-q-smaller : goal.loop-q-smaller
-loop-q-smaller c = omega (arith, c.least.ensures)
+loop-q-smaller g c = omega (arith, c.least.ensures)
 
 pub loop-q-preserved : goal.loop-q-preserved
-loop-q-preserved c = c.put_records-p.auto.0 ∙ c.loop-q.invariant
+loop-q-preserved g c = c.put_records-p.auto.out ∙ c.loop-q.invariant

@@ -7,7 +7,7 @@ use borrow.Author.Rules.{rules}
 use Rattle.replay.proofs.put_changes.Given as goal
 
 abbrev pub invariant-loop-q : goal.invariant-loop-q
-invariant-loop-q l = length l.out ≡ length l.initial.out
+invariant-loop-q g l = length l.out ≡ length l.initial.out
 
 abbrev pub decreases-loop-q : goal.decreases-loop-q
-decreases-loop-q l = l.n - l.q
+decreases-loop-q g l = l.n - l.q

@@ -1,17 +1,20 @@
 -- A turn takes no more bytes than the window's unread part has.
-use lib.ListN.{length-take, length-drop}
-use native.Mathlib.Omega.{arith}
-use Prim.Native.Nat.{◌≤◌, ◌+◌}
-use borrow.Author.Rules.{rules}
+use Rattle.std.proofs.Common.{rules, arith, length-take, length-drop, Fits, w64}
+use Rattle.std.specs.Prelude.{ℕ, ◌+◌, ◌-◌, ◌^◌, ◌<◌, ◌≤◌, List, length, take, drop}
 use Rattle.replay.proofs.turn.Goals as goal
 
--- TODO place After-struct_known-1 
-used_in_lem : (c : goal.After-struct_known-1) → c.refill-u.result.from + c.take_turn-t.result.used ≤ c.refill-u.result.to
-used_in_lem c = omega (arith, c.refill-u.ensures.from_le_to, simp (length-take, length-drop) at c.take_turn-t.ensures.next_value.1.1)
+used_within : (from to used : ℕ) (xs : List ℕ) → from ≤ to → to ≤ length xs → used ≤ length (take (to - from) (drop from xs)) → from + used ≤ to
+used_within from to used xs h k u = omega (arith, simp (length-take, length-drop) at u)
 
--- TODO c.before.before.before.before.before.before.before.before.before.before.before.before.before.before.before.before.before.before.before.before.before.before.well-formed.1.1.0.0
+small : (a b to : ℕ) → a + b ≤ to → to < 2 ^ 64 → Fits w64 (a + b)
+small a b to h k = omega arith
+
 pub overflow_add-result : goal.overflow_add-result
-overflow_add-result c = omega (arith, used_in_lem c, c.refill-u.ensures.from_le_to, c.refill-u.auto.0, c.before.before.before.before.before.before.before.before.before.before.before.before.before.before.before.before.before.before.before.before.before.before.well-formed.1.1.0.0)
+overflow_add-result c =
+    let r = c.refill-u.ensures.from_le_to in
+    small _ _ _ (used_within _ _ _ _ r.0 r.1 c.take_turn-t.ensures.next_value.1.1) (search rules)
 
 pub returns : goal.returns
-returns c = (used_in_lem c, rw c.window-2-1.given.1 (omega (arith, c.refill-u.ensures.from_le_to)))
+returns c =
+    let r = c.refill-u.ensures.from_le_to in
+    (used_within _ _ _ _ r.0 r.1 c.take_turn-t.ensures.next_value.1.1, search rules)
