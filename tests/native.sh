@@ -1,5 +1,5 @@
 # Sourced by build and by the tests that compile C, which stand in the repository's root and have set OUT.
-# The archive of `rt staticlib` links into x86-64 programs. On x86-64 gcc compiles them and they run as they are; on another
+# The archive of the crate churawel_c links into x86-64 programs. On x86-64 gcc compiles them and they run as they are; on another
 # processor Debian's cross compiler and QEMU's user emulator do. What is lacking is installed by apt, and said so; where INSTALLS
 # is no, it is only said.
 
@@ -47,15 +47,15 @@ else
     need qemu-x86_64 qemu-user
 fi
 
-# Is the archive not there, or older than one of its sources?
+# Is the archive not there, or older than one of its sources? What the prover keeps in out/ is none.
 archive_is_old() {
-    [ ! -e "$ARCHIVE" ] || [ -n "$(find crates crates.txt -newer "$ARCHIVE" -print -quit)" ]
+    [ ! -e "$ARCHIVE" ] || [ -n "$(find crates crates.txt -name out -prune -o -newer "$ARCHIVE" -print -quit)" ]
 }
 
 # Proves the seam and writes its archive, where that is old; what is printed goes to standard error.
 archive() {
     if archive_is_old; then
-        rt staticlib churawel >&2
+        python3 -B tool/building.py staticlib churawel >&2
     fi
 }
 

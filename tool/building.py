@@ -1,5 +1,8 @@
-"""Proves and builds crates, and shows how far that is: building.py WAY CRATE.., where WAY is rt's word, check or staticlib. The
-exit status is 0 only where all was proved and built."""
+"""Proves and builds, and shows how far that is: building.py program NAME lays target/bin/NAME, and building.py staticlib NAME lays
+target/staticlib/libNAME.a, whose functions for C are those of the crate NAME_c. The exit status is 0 only where all was proved and
+built."""
+import re
+import shutil
 import subprocess
 import sys
 import time
@@ -36,36 +39,44 @@ def show(line, last=False):
         print(line, flush=True)
 
 
-def built(way, crates, log_path):
-    """proves and builds the crates, and shows how far that is; what the prover prints goes to a file"""
+# What is made, by the way: the crate and rt's word for it, the file that rt writes, and where it is laid.
+WAYS = {
+    "program": ("{0}", "run", "out/{0}", "target/bin/{0}"),
+    "staticlib": ("{0}_c", "lib", "out/lib{0}_c.a", "target/staticlib/lib{0}.a"),
+}
+
+
+def built(name, crate, word, log_path):
+    """proves and builds the crate, and shows how far that is; what the prover prints goes to a file. A room that was proved before
+    has no line."""
     log_path.parent.mkdir(parents=True, exist_ok=True)
-    rooms = rooms_below(crates)
-    print(f"Building {' and '.join(crates)}: the {len(rooms)} rooms that this stands on are proved first.", flush=True)
-    start, done = time.time(), set()
+    rooms = rooms_below([crate])
+    print(f"Building {name}: the {len(rooms)} rooms that this stands on are proved first.", flush=True)
+    start, done, room = time.time(), set(), None
     with open(log_path, "w") as log:
-        check = subprocess.Popen(["rt", way, *crates], cwd=ROOT, stdout=subprocess.PIPE, stderr=subprocess.STDOUT, text=True)
+        how = {"stdin": subprocess.DEVNULL, "stdout": subprocess.PIPE, "stderr": subprocess.STDOUT}
+        check = subprocess.Popen(["rt", word], cwd=ROOT / "crates" / crate, text=True, errors="replace", **how)
         for line in check.stdout:
             log.write(line)
-            words = line.split()
-            if len(words) > 2 and words[0] == "rt:" and words[2] == "proved" and words[1] in rooms:
-                done.add(words[1])
-                far = f"  {len(done)} of {len(rooms)} rooms proved ({minutes(time.time() - start)})"
-                if len(done) == len(rooms) - 1:
-                    show(f"{far}, and {min(rooms - done)} is under way")
-                elif "(unchanged" not in words:
-                    show(f"{far}: {words[1]}")
+            begun = re.match(r"crate (\w+): ", line)
+            room = begun.group(1) if begun else room
+            if line.startswith("logic=proved") and room in rooms - done:
+                done.add(room)
+                show(f"  {len(done)} of {len(rooms)} rooms proved ({minutes(time.time() - start)}): {room}")
     ended = check.wait() == 0
-    # The last room of an archive is proved without a line of its own.
     done = rooms if ended else done
     show(f"  {len(done)} of {len(rooms)} rooms proved in {minutes(time.time() - start)}", last=True)
     return ended
 
 
 def main():
-    way, *crates = sys.argv[1:]
+    way, name = sys.argv[1:]
+    crate, word, made, laid = (it.format(name) for it in WAYS[way])
     log = ROOT / "target/log/build.log"
-    if not built(way, crates, log):
+    if not built(name, crate, word, log):
         sys.exit(f"The build failed: see {log.relative_to(ROOT)}.")
+    (ROOT / laid).parent.mkdir(parents=True, exist_ok=True)
+    shutil.copy(ROOT / "crates" / crate / made, ROOT / laid)
 
 
 if __name__ == "__main__":
