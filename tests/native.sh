@@ -1,5 +1,5 @@
 # Sourced by build and by the tests that compile C, which stand in the repository's root and have set OUT.
-# The archive of `rt lib` links into x86-64 programs. On x86-64 gcc compiles them and they run as they are; on another
+# The archive of the crate churawel_c links into x86-64 programs. On x86-64 gcc compiles them and they run as they are; on another
 # processor Debian's cross compiler and QEMU's user emulator do. What is lacking is installed by apt, and said so; where INSTALLS
 # is no, it is only said.
 
@@ -47,11 +47,6 @@ else
     need qemu-x86_64 qemu-user
 fi
 
-# The room that the archive is made of: the one with 'staticlib' in crates.txt.
-archive_room() {
-    sed -n 's/^\([a-z0-9_]*\) staticlib.*/\1/p' crates.txt
-}
-
 # Is the archive not there, or older than one of its sources? What rt keeps in a room's folder out/ is none of them.
 archive_is_old() {
     [ ! -e "$ARCHIVE" ] || [ -n "$(find crates crates.txt -name out -prune -o -regex 'crates/[^/]*' -type d -o -newer "$ARCHIVE" -print -quit)" ]
@@ -60,7 +55,7 @@ archive_is_old() {
 # Proves the seam and writes its archive, where that is old; what is printed goes to standard error.
 archive() {
     if archive_is_old; then
-        python3 -B tool/building.py staticlib "$(archive_room)" >&2
+        python3 -B tool/building.py staticlib churawel >&2
     fi
 }
 

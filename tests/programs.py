@@ -11,7 +11,7 @@ from building import PROGRAMS, made
 
 def there(name):
     """proves and builds the program NAME, where that is not done, and copies it to target/bin; is it there then?"""
-    return made("program", name, sys.stderr)
+    return made("program", name)
 
 
 def command(name):

@@ -1,5 +1,6 @@
-"""Proves and builds crates, and shows how far that is: building.py WAY CRATE.., where WAY is program, for programs that are laid in
-target/bin, or staticlib, for archives that are laid in target/staticlib. The exit status is 0 only where all was proved and built."""
+"""Proves and builds, and shows how far that is: building.py program NAME.. lays target/bin/NAME, and building.py staticlib NAME lays
+target/staticlib/libNAME.a, whose functions for C are those of the crate NAME_c. The exit status is 0 only where all was proved and
+built."""
 import re
 import shutil
 import subprocess
@@ -9,7 +10,6 @@ from pathlib import Path
 
 ROOT = Path(__file__).resolve().parents[1]
 PROGRAMS = ROOT / "target/bin"
-ARCHIVES = ROOT / "target/staticlib"
 LOG = ROOT / "target/log/build.log"
 
 
@@ -41,48 +41,53 @@ def show(line, last=False):
         print(line, flush=True)
 
 
-def place(way, name):
-    """what rt makes in a crate's folder, and where it is laid"""
-    if way == "program":
-        return f"out/{name}", PROGRAMS / name
-    return f"out/lib{name}.a", ARCHIVES / "libchurawel.a"
+# What is made, by the way: the crate and rt's word for it, the file that rt writes, and where it is laid.
+WAYS = {
+    "program": ("{0}", "run", "out/{0}", "target/bin/{0}"),
+    "staticlib": ("{0}_c", "lib", "out/lib{0}_c.a", "target/staticlib/lib{0}.a"),
+}
+
+
+def asked(way, name):
+    return [word.format(name) for word in WAYS[way]]
 
 
 def lay(way, name):
-    made_by_rt, to = place(way, name)
+    crate, _, file, to = asked(way, name)
+    to = ROOT / to
     to.parent.mkdir(parents=True, exist_ok=True)
-    # In two steps: another test may be running the program that stands there.
+    # In two steps: a test may be running the program that stands there.
     beside = to.with_name(to.name + ".new")
-    shutil.copy(ROOT / "crates" / name / made_by_rt, beside)
+    shutil.copy(ROOT / "crates" / crate / file, beside)
     beside.replace(to)
 
 
 def prover(way, name):
     """rt at work on a crate; a program that it has built it also runs, on an empty input"""
-    words = ["rt", "run" if way == "program" else "lib"]
-    folder = ROOT / "crates" / name
-    return subprocess.Popen(words, cwd=folder, stdin=subprocess.DEVNULL, stdout=subprocess.PIPE, stderr=subprocess.STDOUT, text=True, errors="replace")
+    crate, word, _, _ = asked(way, name)
+    how = {"stdin": subprocess.DEVNULL, "stdout": subprocess.PIPE, "stderr": subprocess.STDOUT}
+    return subprocess.Popen(["rt", word], cwd=ROOT / "crates" / crate, text=True, errors="replace", **how)
 
 
-def made(way, name, out=None):
-    """proves and builds one crate with no word of progress; what the prover prints goes to `out`, if it fails. Was it built?"""
+def made(way, name):
+    """proves and builds, with no word of progress; what the prover prints goes to standard error where it fails. Was it built?"""
     check = prover(way, name)
     said = check.communicate()[0]
     if check.returncode == 0:
         lay(way, name)
-    elif out:
-        out.write(said)
+    else:
+        sys.stderr.write(said)
     return check.returncode == 0
 
 
-def built(way, crates, log_path=LOG):
-    """proves and builds the crates, and shows how far that is; what the prover prints goes to a file"""
+def built(way, names, log_path=LOG):
+    """proves and builds, and shows how far that is; what the prover prints goes to a file"""
     log_path.parent.mkdir(parents=True, exist_ok=True)
-    rooms = rooms_below(crates)
-    print(f"Building {' and '.join(crates)}: the {len(rooms)} rooms that this stands on are proved first.", flush=True)
+    rooms = rooms_below([asked(way, name)[0] for name in names])
+    print(f"Building {' and '.join(names)}: the {len(rooms)} rooms that this stands on are proved first.", flush=True)
     start, done, room = time.time(), set(), ""
     with open(log_path, "w") as log:
-        for name in crates:
+        for name in names:
             check = prover(way, name)
             for line in check.stdout:
                 log.write(line)
@@ -101,8 +106,8 @@ def built(way, crates, log_path=LOG):
 
 
 def main():
-    way, *crates = sys.argv[1:]
-    if not built(way, crates):
+    way, *names = sys.argv[1:]
+    if not built(way, names):
         sys.exit(f"The build failed: see {LOG.relative_to(ROOT)}.")
 
 

@@ -1,15 +1,12 @@
 """./build and ./churawel in a copy of the tree, with a prover that only says what it is told to: how far the build is, that nothing
 is built where something is not proved, and that what is missing on a machine is said."""
 import os
-import re
 import shutil
 import subprocess
 
 from desk import C, NATIVE, ROOT, Desk
 
 COPIED = ["build", "churawel", "crates.txt", "include", "tool", "tests/native.sh"]
-# The room that the archive is made of.
-SEAM = re.search(r"^(\w+) staticlib\b", (ROOT / "crates.txt").read_text(), re.M)[1]
 # Lays the archive that is there, as if it had been proved just now; status 1 where it is told that something is not proved.
 PROVER = f"""#!/bin/sh
 echo 'crate numbers: modules loaded=3 checked=3'
@@ -18,7 +15,7 @@ echo 'crate text: modules loaded=3 checked=3'
 echo 'logic=proved functions=3'
 [ -e ../../not-proved ] && exit 1
 mkdir -p out
-cp '{ROOT}/target/staticlib/libchurawel.a' "out/lib$(basename "$PWD").a"
+cp '{ROOT}/target/staticlib/libchurawel.a' out/libchurawel_c.a
 """
 
 
@@ -27,7 +24,7 @@ def copy_tree(desk):
         to = desk.path(name)
         to.parent.mkdir(parents=True, exist_ok=True)
         (shutil.copytree if (ROOT / name).is_dir() else shutil.copy)(ROOT / name, to)
-    desk.path("crates", SEAM).mkdir(parents=True)
+    desk.path("crates/churawel_c").mkdir(parents=True)
 
 
 def path_without(desk, name, *missing):
@@ -72,7 +69,7 @@ def builds(desk, all_there):
     status, printed, said = ran(desk, all_there, "./build")
     lines = [at.split(" (")[0] for at in printed.splitlines()]
     rooms = lines[0].split()[3] if lines else ""
-    expected = [f"Building {SEAM}: the {rooms} rooms that this stands on are proved first.", f"  2 of {rooms} rooms proved"]
+    expected = [f"Building churawel: the {rooms} rooms that this stands on are proved first.", f"  2 of {rooms} rooms proved"]
     desk.same("build shows how far it is", (status, said, lines[:2], lines[-1:]), (0, "", expected, ["Built: target/bin/churawel"]))
     status, printed, _ = ran(desk, all_there, "./build")
     again = "What the tool stands on was proved, and has not changed since."

@@ -1,6 +1,6 @@
 // The seam to an emulator: log-in, every other call, a call that is cut off, why a volume is refused, which files it has, what
-// volumes hold together, a fresh disk, the edition desk, the memory calls, load, and a hex text made a CMD file, exported for C, over
-// lent bytes alone.
+// volumes hold together, a fresh disk, the edition desk, the memory calls, load, and a hex text made a CMD file, over lent bytes
+// alone. `churawel_c` exports each for C.
 #![tactic(auto)]
 
 ghost use Rattle.std.specs.Prelude.{◌≡◌, []};
@@ -16,8 +16,7 @@ ghost use Rattle.seam_memory.specs.Load.{started, load_at_seam};
 ghost use Rattle.seam_gencmd.specs.Gencmd.{made, gencmd_at_seam};
 
 // Logs the volume in: the drive becomes the state that calls take, or zero bytes where the log-in is refused.
-#[unsafe(no_mangle)]
-pub extern "C" fn churawel_log_in(
+pub fn churawel_log_in(
     block_bytes: u32,
     blocks: u32,
     directory_blocks: u32,
@@ -40,8 +39,7 @@ pub extern "C" fn churawel_log_in(
 }
 
 // Does the call of this function's number over the drive's bytes.
-#[unsafe(no_mangle)]
-pub extern "C" fn churawel_call(
+pub fn churawel_call(
     function: u8,
     parameter: u8,
     drive: &mut [u8],
@@ -57,8 +55,7 @@ pub extern "C" fn churawel_call(
 
 // Does the call of this function's number with at most so many stores, and closes the drive: the machine is gone. What is left
 // is the volume, cut there.
-#[unsafe(no_mangle)]
-pub extern "C" fn churawel_cut(
+pub fn churawel_cut(
     most: u32,
     function: u8,
     parameter: u8,
@@ -74,8 +71,7 @@ pub extern "C" fn churawel_cut(
 }
 
 // Logs the volume in as `churawel_log_in` does, and says of a bad slot why it is bad; no drive is left.
-#[unsafe(no_mangle)]
-pub extern "C" fn churawel_fault(
+pub fn churawel_fault(
     block_bytes: u32,
     blocks: u32,
     directory_blocks: u32,
@@ -98,8 +94,7 @@ pub extern "C" fn churawel_fault(
 }
 
 // Lays the line of the next file at or after slot `from`; its lowest slot is the value.
-#[unsafe(no_mangle)]
-pub extern "C" fn churawel_file(drive: &[u8], volume: &[u8], from: u32, file: &mut [u8]) -> u32
+pub fn churawel_file(drive: &[u8], volume: &[u8], from: u32, file: &mut [u8]) -> u32
     ensures { shown result file.new
         ≡ file_at_seam drive.now volume.now from file.old }
 {
@@ -107,8 +102,7 @@ pub extern "C" fn churawel_file(drive: &[u8], volume: &[u8], from: u32, file: &m
 }
 
 // Puts a volume on the shelf; where that is refused by 47 or 32 the shelf's bytes stay.
-#[unsafe(no_mangle)]
-pub extern "C" fn churawel_shelf(
+pub fn churawel_shelf(
     shelf: &mut [u8],
     block_bytes: u32,
     blocks: u32,
@@ -131,8 +125,7 @@ pub extern "C" fn churawel_shelf(
 }
 
 // Copies the first volume to the second in good order; refused, both stay as they are.
-#[unsafe(no_mangle)]
-pub extern "C" fn churawel_fresh_copy(
+pub fn churawel_fresh_copy(
     block_bytes: u32,
     blocks: u32,
     directory_blocks: u32,
@@ -156,8 +149,7 @@ pub extern "C" fn churawel_fresh_copy(
 
 // Replaces a siglum by another in one chapter of a collation file. A present record is rewritten in its place, so the drive stays as
 // given.
-#[unsafe(no_mangle)]
-pub extern "C" fn churawel_replace_siglum(
+pub fn churawel_replace_siglum(
     drive: &[u8],
     volume: &mut [u8],
     fcb: &[u8],
@@ -172,29 +164,21 @@ pub extern "C" fn churawel_replace_siglum(
 }
 
 // Says which manuscript a siglum means: which list has its name, and where in that list the name begins.
-#[unsafe(no_mangle)]
-pub extern "C" fn churawel_manuscript(siglum: u16, own: &[u8], house: &[u8]) -> u64
+pub fn churawel_manuscript(siglum: u16, own: &[u8], house: &[u8]) -> u64
     ensures { result ≡ manuscript_at_seam siglum own.now house.now }
 {
     seam_desk::manuscript(siglum, own, house)
 }
 
 // Does a memory call over control block and table, in a memory of so many bytes.
-#[unsafe(no_mangle)]
-pub extern "C" fn churawel_memory(
-    function: u8,
-    mcb: &mut [u8],
-    table: &mut [u8],
-    memory_bytes: usize,
-) -> u32
+pub fn churawel_memory(function: u8, mcb: &mut [u8], table: &mut [u8], memory_bytes: usize) -> u32
     ensures { over result mcb.new table.new ≡ memory_over function mcb.old table.old memory_bytes }
 {
     seam_memory::memory_call(function, mcb, table, memory_bytes)
 }
 
 // Loads the CMD file that the control block names into the memory; the paragraph of the base page is the value.
-#[unsafe(no_mangle)]
-pub extern "C" fn churawel_load(
+pub fn churawel_load(
     drive: &[u8],
     volume: &[u8],
     fcb: &[u8],
@@ -208,8 +192,7 @@ pub extern "C" fn churawel_load(
 }
 
 // Writes the CMD file of a hex text into the first bytes of `out`; its length is in the high 32 bits.
-#[unsafe(no_mangle)]
-pub extern "C" fn churawel_gencmd(text: &[u8], out: &mut [u8]) -> u64
+pub fn churawel_gencmd(text: &[u8], out: &mut [u8]) -> u64
     ensures { made result out.new
         ≡ gencmd_at_seam text.now out.old }
 {

@@ -1,5 +1,6 @@
 -- The test decides between the fields and the closed state, as in the definition.
-use mathlib.Core.Path.{refl, sym, ◌∙◌}
+use mathlib.Core.Bool.{not}
+use mathlib.Core.Path.{refl, sym, ◌∙◌, ap}
 use borrow.Author.Tests.{not-true, not-false}
 use Rattle.drive_bytes.specs.Layout.{decoded}
 use Rattle.seam_desk.proofs.SiglaLaws.{state_is}
@@ -19,4 +20,4 @@ load_words-requires c =
 
 pub returns : goal.returns
 returns c =
-    state_is c.args.drive.now c.is_drive.ensures c.if-not-is_drive.false c.fields-front.ensures c.load_words.ensures
+    state_is c.args.drive.now c.is_drive.ensures (ap not c.if-not-is_drive.false) c.fields-front.ensures c.load_words.ensures

@@ -7,7 +7,7 @@ use Rattle.seam_shelf.proofs.put_volume.Goals as goal
 pub returns-then-shelf-ne-SHELF_BYTES : goal.returns-then-shelf-ne-SHELF_BYTES
 returns-then-shelf-ne-SHELF_BYTES c =
     let a = c.args in
-    shelf_refused (with_placing (geometry_of a.block-bytes a.blocks a.directory-blocks) a.placing) a.volume.now a.shelf.now c.if-shelf-ne-SHELF_BYTES.true c.seal_shelved.ensures
+    shelf_refused (with_placing (geometry_of a.block_bytes a.blocks a.directory_blocks) a.placing) a.volume.now a.shelf.now c.if-shelf-ne-SHELF_BYTES.true c.seal_shelved.ensures
 
 pub returns : goal.returns
 returns c =
