@@ -47,9 +47,9 @@ else
     need qemu-x86_64 qemu-user
 fi
 
-# Is the archive not there, or older than one of its sources? What the prover keeps in out/ is none.
+# Is the archive not there, or older than one of its sources? What rt keeps in a room's folder out/ is none of them.
 archive_is_old() {
-    [ ! -e "$ARCHIVE" ] || [ -n "$(find crates crates.txt -name out -prune -o -newer "$ARCHIVE" -print -quit)" ]
+    [ ! -e "$ARCHIVE" ] || [ -n "$(find crates crates.txt -name out -prune -o -regex 'crates/[^/]*' -type d -o -newer "$ARCHIVE" -print -quit)" ]
 }
 
 # Proves the seam and writes its archive, where that is old; what is printed goes to standard error.

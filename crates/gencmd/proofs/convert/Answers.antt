@@ -1,6 +1,5 @@
 -- What was written is no longer than the buffer.
 use native.Mathlib.Omega.{arith}
-use borrow.Author.Rules.{rules}
 use Rattle.gencmd_file.proofs.LengthLaws.{written_within}
 use Rattle.gencmd.proofs.convert.Goals as goal
 

@@ -1,7 +1,6 @@
 -- The word, the number and the line feed, one after the other, and they have room.
 use mathlib.Core.Path.{◌∙◌}
 use native.Mathlib.Omega.{arith}
-use borrow.Author.Rules.{rules}
 use Rattle.text.specs.Letters.{letters}
 use Rattle.text.proofs.TextLaws.{wrote, wrote_byte, wrote_number, then}
 use Rattle.gencmd_lines.specs.Refusal.{refusal_number}

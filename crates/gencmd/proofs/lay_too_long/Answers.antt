@@ -1,6 +1,5 @@
 -- The words and the number, one after the other, and they have room.
 use native.Mathlib.Omega.{arith}
-use borrow.Author.Rules.{rules}
 use Rattle.text.specs.Decimal.{decimal}
 use Rattle.text.specs.Letters.{letters}
 use Rattle.text.proofs.TextLaws.{wrote, then}

@@ -1,6 +1,5 @@
 -- The buffer has room for every listing.
 use Rattle.listing.proofs.RoomLaws.{fits}
-use borrow.Author.Rules.{rules}
 use Rattle.lister.proofs.lay.Goals as goal
 
 pub returns : goal.returns
