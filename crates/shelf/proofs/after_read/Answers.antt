@@ -1,7 +1,6 @@
 -- What was read has the length that was counted.
 use mathlib.Core.Path.{ap, ◌∙◌}
 use lib.ListN.{take}
-use borrow.Author.Rules.{rules}
 use Rattle.disk_geometry.specs.declared.Geometry.{Geometry}
 use Rattle.shelf_figures.specs.declared.Added.{Added}
 use Rattle.shelf_figures.specs.Shelf.{put}

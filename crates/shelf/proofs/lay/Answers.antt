@@ -1,5 +1,4 @@
 -- The buffer has room for every report.
-use borrow.Author.Rules.{rules}
 use Rattle.shelf_report.proofs.RoomLaws.{fits}
 use Rattle.shelf.proofs.lay.Goals as goal
 

@@ -1,16 +1,12 @@
 -- The shelf has the figures of the volumes read so far, of which there are at most 65,535.
 use mathlib.Core.Path.{◌≡◌}
-use mathlib.Core.List.{List}
-use Prim.Native.Nat.{ℕ}
 use native.Mathlib.Omega.{arith}
-use lib.ListN.{length}
 use Rattle.shelf_figures.specs.declared.Shelf.{Shelf}
 use Rattle.shelf_figures.specs.Shelf.{bare}
 use Rattle.shelf_figures.proofs.OrderLaws.{bare_within}
 use Rattle.shelf_report.specs.Room.{OfVolumes}
 use Rattle.shelf.proofs.ReadingLaws.{next_read}
 use borrow.Author.Rules.{rules}
-use Rattle.shelf.proofs.read_volumes.Invariants.{SoFar}
 use Rattle.shelf.proofs.read_volumes.Goals as goal
 
 -- a bare shelf has seen none

@@ -2,14 +2,10 @@
 use mathlib.Core.Path.{◌≡◌}
 use mathlib.Core.List.{List}
 use Prim.Native.Nat.{ℕ}
-use native.Mathlib.Omega.{arith}
 use lib.ListN.{length}
 use Rattle.shelf_figures.specs.declared.Shelf.{Shelf}
-use Rattle.shelf_figures.specs.Shelf.{bare}
-use Rattle.shelf_figures.proofs.OrderLaws.{bare_within}
 use Rattle.shelf_report.specs.Room.{OfVolumes}
-use Rattle.shelf.proofs.ReadingLaws.{left, Next, next_read}
-use borrow.Author.Rules.{rules}
+use Rattle.shelf.proofs.ReadingLaws.{left}
 use Rattle.shelf.proofs.read_volumes.Given as goal
 
 pub record SoFar (volume₀ volume : List ℕ) (shelf : Shelf) : Type 0 where
