@@ -28,7 +28,8 @@ def read_rooms(text):
         if line.startswith("#"):
             comment = line[1:].strip()
         elif line.strip():
-            name, used = line.split(":")
+            words, used = line.split(":")
+            name = words.split()[0]
             heading = comment or heading
             uses[name], floor[name] = used.split(), heading
             comment = ""
