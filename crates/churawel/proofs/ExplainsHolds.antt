@@ -1,15 +1,13 @@
 -- What a fault tells is true.
 use mathlib.Core.Path.{◌≡◌, refl, sym, ap, ◌∙◌}
-use mathlib.Core.Bool.{true, false, cond}
 use mathlib.Core.List.{List}
-use Prim.Native.Nat.{ℕ, ◌<◌}
+use Prim.Native.Nat.{ℕ}
 use native.Mathlib.Omega.{arith}
 use lib.ListN.{length, replicate}
 use borrow.Author.Tests.{eq-eqb, eqb-false}
 use Rattle.lists.specs.Bytes.{byte}
 use Rattle.numbers.specs.Numbers.{bytes_of, two}
 use Rattle.disk_geometry.specs.declared.Geometry.{Geometry}
-use Rattle.disk_geometry.specs.Geometry.{slots}
 use Rattle.disk_geometry.proofs.GeometryLaws.{bounds}
 use Rattle.disk_faults.specs.Faults.{first_broken, rule_number}
 use Rattle.disk_faults.proofs.Agreement.{agree}
@@ -18,7 +16,7 @@ use Rattle.call_answers.specs.declared.Answer.{Answer}
 use Rattle.call_answers.specs.declared.Answer.TheVariants.{Done, Ready, BadSlot, Refused, Several}
 use Rattle.filecalls.specs.LogIn.{log_in}
 use Rattle.seam_looks.specs.Fault.{fault_length, fault_bytes, fault_for, fault_at_seam}
-use Rattle.churawel.specs.Explains.{NamesSlot, NamesRule, TellsTruly, Explains}
+use Rattle.churawel.specs.Explains.{NamesSlot, NamesRule, Explains}
 use Rattle.seam_looks.proofs.FaultLaws.{Bad, bad_slot_lem}
 
 -- in 32 bytes the call leaves the fault of log-in's answer

@@ -14,7 +14,6 @@ use Rattle.disk_stores.proofs.OrderLaws.{sweep_ordered}
 use Rattle.call_answers.specs.declared.Refusal.TheVariants.{Closed, VolumeLength, FcbLength, DriveCode, Name}
 use Rattle.call_answers.specs.Refusal.{is_none, first_met}
 use Rattle.call_answers.proofs.Ladder.{unmet}
-use Rattle.call_sweep.specs.declared.Edit.TheVariants.{Attributes}
 use Rattle.call_sweep.specs.Sweep.{attributed}
 use Rattle.call_sweep.proofs.EditLaws.{attributed_length}
 use Rattle.filecalls.specs.declared.Drive.{Drive}

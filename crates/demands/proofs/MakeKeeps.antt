@@ -11,7 +11,7 @@ use lib.ListN.{length}
 use borrow.Author.Tests.{not-false, eqb-true, ltb-false, leb-false}
 use Rattle.disk_geometry.specs.declared.Geometry.{Geometry}
 use Rattle.disk_volume.specs.declared.Wanted.TheVariants.{Empty, File}
-use Rattle.disk_geometry.specs.Geometry.{bytes, slots, places}
+use Rattle.disk_geometry.specs.Geometry.{slots, places}
 use Rattle.disk_volume.specs.Name.{name_of, good_name, same}
 use Rattle.disk_volume.specs.Entry.{Entry, is_empty, block_in, of_file}
 use Rattle.disk_volume.specs.Directory.{slot_at, put_slot, find_slot}

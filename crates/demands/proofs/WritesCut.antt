@@ -1,8 +1,8 @@
 -- The calls that write a record, cut anywhere: a refused one stores nothing.
 use mathlib.Core.Path.{◌≡◌, refl}
-use mathlib.Core.Bool.{Bool, true, false, not, cond}
+use mathlib.Core.Bool.{Bool, true, false, cond}
 use mathlib.Core.List.{List, [], ◌++◌}
-use Prim.Native.Nat.{ℕ, ◌+◌}
+use Prim.Native.Nat.{ℕ}
 use Rattle.disk_stores.specs.Stores.{Store, cut}
 use Rattle.disk_stores.proofs.CodeLaws.{cut_none}
 use Rattle.call_fcb.specs.Fcb.{position, random}

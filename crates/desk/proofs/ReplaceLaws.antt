@@ -1,8 +1,8 @@
 -- The plan, by what its parts answer; and the plan carried out.
 use mathlib.Core.Path.{◌≡◌, refl, sym, ap, ◌∙◌, subst}
-use mathlib.Core.Bool.{Bool, true, false, cond, ◌&&◌}
+use mathlib.Core.Bool.{Bool, true, false, ◌&&◌}
 use mathlib.Core.List.{List}
-use Prim.Native.Nat.{ℕ, ◌+◌, ◌-◌, ◌*◌, ◌≤◌, ◌<◌}
+use Prim.Native.Nat.{ℕ, ◌+◌, ◌-◌, ◌≤◌, ◌<◌}
 use native.Mathlib.Omega.{arith}
 use lib.Dec.{eqb, ltb}
 use lib.ListN.{length}
@@ -31,9 +31,8 @@ use Rattle.desk.specs.declared.Answer.{Answer}
 use Rattle.desk.specs.declared.Answer.TheVariants.{Matching, Refused}
 use Rattle.desk.specs.Answer.{value_of}
 use Rattle.desk.specs.Records.{unread, readable, record_shown, bears}
-use Rattle.desk.specs.Replace.{Desk, left, allowed, plan_in, plan, carried_out, replacement}
+use Rattle.desk.specs.Replace.{left, allowed, plan_in, plan, carried_out, replacement}
 use Rattle.desk.specs.Stores.{all_stores, plan_stores, replacement_stores, DeskCut, desk_cut, cut_replacement}
-use Rattle.desk.specs.declared.Reply.{Reply}
 use Rattle.desk.specs.CodeDesk.{Stored, marked, Sifted, Marked, Planned}
 use Rattle.desk.proofs.LoopLaws.{all_laid, all_most, count_most, stores_same}
 

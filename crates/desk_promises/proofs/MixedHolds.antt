@@ -5,31 +5,23 @@ use mathlib.Core.Bool.{Bool, true, false, ◌&&◌, ◌||◌, true≢false}
 use mathlib.Core.List.{List, [], ◌∷◌}
 use Prim.Native.Nat.{ℕ, ◌≤◌, ◌<◌}
 use lib.Dec.{eqb}
-use lib.ListN.{length}
 use lib.Seq.{ext_get_or}
 use borrow.Author.Tests.{eq-eqb}
-use Rattle.lists.specs.Bytes.{byte}
-use Rattle.numbers.specs.Numbers.{Bytes}
 use Rattle.disk_geometry.specs.declared.Geometry.{Geometry}
-use Rattle.disk_geometry.specs.Geometry.{lawful, bytes, slots}
+use Rattle.disk_geometry.specs.Geometry.{bytes, slots}
 use Rattle.disk_volume.specs.Name.{name_of, same}
 use Rattle.disk_volume.specs.Entry.{Entry, is_empty, block_in}
 use Rattle.disk_volume.specs.Directory.{slot_at}
-use Rattle.disk_volume.specs.Record.{present}
 use Rattle.disk_volume.proofs.NameLaws.{same_refl}
 use Rattle.disk_rules.specs.GoodSlot.{lowest_bad}
 use Rattle.disk_rules.specs.Named.{held_of}
 use Rattle.call_read.specs.Read.{read_bytes}
 use Rattle.lists.proofs.BoolLaws.{or_parts}
-use Rattle.call_served.specs.declared.Call.TheVariants.{LogIn}
-use Rattle.call_served.specs.Asked.{Asked}
-use Rattle.call_served.specs.Calls.{call_of}
 use Rattle.filecalls.specs.declared.Drive.{Drive}
 use Rattle.filecalls.specs.State.{logged_in}
 use Rattle.filecalls.specs.Outcome.{Outcome}
 use Rattle.call_answers.specs.Answer.{succeeded}
 use Rattle.demands.specs.Demand3.{touches}
-use Rattle.bdos.specs.Step.{step}
 use Rattle.desk.specs.declared.Answer.{Answer}
 use Rattle.desk.specs.declared.Answer.TheVariants.{Matching, Refused}
 use Rattle.desk.specs.Replace.{replacement}
@@ -39,7 +31,7 @@ use Rattle.demands.proofs.Acts.{Consistent, Leaves, leaves_all}
 use Rattle.demands.proofs.CallsKeep.{logged_in_lem}
 use Rattle.demands.proofs.Demand3Holds.{step_keeps, ready, starts}
 use Rattle.desk_keeps.specs.Sigla.{Matches, Altered, Replaces}
-use Rattle.desk_promises.specs.Mixed.{Deed, calls, replaces, drive_after, volume_after, is_done, was_done, names, ending, ending_state, named_in, LentTo, AllLent, MixedKept, MixedRuns, ColumnsInMixed}
+use Rattle.desk_promises.specs.Mixed.{Deed, calls, replaces, drive_after, volume_after, was_done, names, ending, ending_state, named_in, LentTo, AllLent, MixedKept, MixedRuns, ColumnsInMixed}
 use Rattle.desk_promises.proofs.ColumnsHold.{by_column}
 use Rattle.desk_keeps.proofs.OfFiles.{bytes_length}
 use Rattle.desk_keeps.proofs.ReplacesHolds as sigla

@@ -6,7 +6,7 @@ use Prim.Native.Nat.{ℕ, zero, suc, ◌+◌, ◌*◌, ◌-◌, ◌^◌, ◌≤�
 use native.Mathlib.Omega.{arith}
 use lib.Dec.{ltb}
 use borrow.Author.Tests.{ltb-true, ltb-false}
-use lib.ListN.{length, take, drop, replicate, get_or, set, length-append, length-replicate, take-append-drop, drop_of_length-le}
+use lib.ListN.{length, take, drop, replicate, set, length-append, length-replicate, take-append-drop, drop_of_length-le}
 use lib.Seq.{append_snoc, set_at, take_at, drop_at, drop-append-add, get_or-append-add, length-take-le, drop-drop}
 use Rattle.lists.specs.Bytes.{byte, part, put}
 use Rattle.numbers.specs.Numbers.{Bytes, bytes_of, number, bytes_from}

@@ -11,21 +11,16 @@ use lib.Seq.{take-length}
 use borrow.Author.Tests.{not-false, leb-true, leb-false, ne_eqb}
 use Rattle.lists.proofs.BoolLaws.{and_left, and_right}
 use Rattle.disk_geometry.specs.declared.Geometry.{Geometry}
-use Rattle.disk_geometry.specs.Geometry.{bytes}
-use Rattle.disk_stores.specs.Stores.{Store}
 use Rattle.call_answers.specs.declared.Refusal.{Refusal}
 use Rattle.call_answers.specs.declared.Refusal.TheVariants.{NotServed, FcbLength, BufferLength, BadCount}
-use Rattle.call_answers.specs.declared.Answer.{Answer}
 use Rattle.call_answers.specs.Refusal.{Test, test, is_none, first, first_met}
 use Rattle.call_answers.proofs.Ladder.{ladder_append}
 use Rattle.filecalls.proofs.OutcomeLaws.{denies}
 use Rattle.call_served.specs.declared.Call.{Call}
 use Rattle.call_served.specs.declared.Call.TheVariants.{LogIn, Open, Close, SearchFirst, SearchNext, Delete, Make, Rename, Protect, Attributes, User, Size, SetRandom, Moves, Unserved}
-use Rattle.call_served.specs.declared.Transfer.{Transfer}
 use Rattle.call_served.specs.declared.Transfer.TheVariants.{ReadSequential, WriteSequential, ReadRandom, WriteRandom, WriteZeroFill, ReadSeveral, WriteSeveral}
 use Rattle.filecalls.specs.declared.Drive.{Drive}
-use Rattle.filecalls.specs.State.{is_open}
-use Rattle.filecalls.specs.Tests.{closed_state, volume_length, fcb_length, buffer_length}
+use Rattle.filecalls.specs.Tests.{closed_state, volume_length, fcb_length}
 use Rattle.filecalls.specs.Outcome.{Act, deny, done, act_stores, unless, outcome}
 use Rattle.filecalls.specs.Open.{open_tests, open_act, close_tests, close_act, size_tests, size_act}
 use Rattle.filecalls.specs.Search.{first_tests, search_first_act, next_tests, search_next_act}
@@ -38,7 +33,7 @@ use Rattle.filecalls.specs.Leaves.{read_sequential_leaves, write_sequential_leav
 use Rattle.several.specs.Stores.{several_stores}
 use Rattle.bdos.specs.Step.{carries, does}
 use Rattle.bdos.specs.Stores.{transfer_stores, call_stores}
-use Rattle.seam_calls.specs.CodeLent.{buffer_bytes, lent_fcb, lent_buffer}
+use Rattle.seam_calls.specs.CodeLent.{lent_fcb, lent_buffer}
 
 -- a call and its answer do not depend on what else is in an act that is refused
 answer_of : (d : Drive) (v f f' b b' : List ℕ) (act : Act) → (outcome d v f b act).answer ≡ (outcome d v f' b' act).answer

@@ -14,7 +14,7 @@ use Rattle.disk_stores.proofs.CodeLaws.{cut_none}
 use Rattle.call_answers.specs.declared.Refusal.TheVariants.{Closed}
 use Rattle.call_answers.specs.declared.Answer.{Answer}
 use Rattle.call_answers.specs.declared.Answer.TheVariants.{Refused}
-use Rattle.call_answers.specs.Answer.{number_of, value_of, succeeded}
+use Rattle.call_answers.specs.Answer.{value_of, succeeded}
 use Rattle.call_served.specs.declared.Call.{Call}
 use Rattle.call_served.specs.declared.Call.TheVariants.{LogIn}
 use Rattle.call_served.specs.Calls.{call_of}
@@ -34,7 +34,7 @@ use Rattle.bdos.specs.Step.{does, step}
 use Rattle.bdos.specs.Stores.{call_stores, stores_of}
 use Rattle.bdos.specs.CodeWay.{way_of, asks, changes}
 use Rattle.call_served.specs.Asked.{asked}
-use Rattle.drive_bytes.specs.Layout.{drive_bytes, blocks_at, fields, is_drive, decoded, encoded_in}
+use Rattle.drive_bytes.specs.Layout.{drive_bytes, fields, is_drive, decoded, encoded_in}
 use Rattle.drive_bytes.specs.CodeLaid.{with_front, with_words}
 use Rattle.drive_bytes.proofs.LaidLaws.{front_laid, words_laid}
 use Rattle.drive_bytes.proofs.LentLaws.{lent_same}
@@ -44,7 +44,6 @@ use Rattle.seam_words.specs.Answered.{answered}
 use Rattle.seam_calls.specs.Seam.{sealed, at_seam, log_in_at_seam}
 use Rattle.seam_calls.specs.CodeSeam.{asks_open, Tells, CutOpen, WayMost, CallMost}
 use Rattle.seam_calls.proofs.ValueLaws.{step_value}
-use Rattle.seam_words.proofs.ValueLaws.{log_in_value}
 use Rattle.seam_calls.proofs.ClosedLaws.{Shut, call_shut}
 use Rattle.seam_calls.proofs.WayLaws.{asks_other, asks_changes_not, stores_nothing_lem, changes_other, changing}
 use Rattle.seam_calls.proofs.KeptLaws.{step_refused, call_geometry_of}

@@ -15,7 +15,7 @@ use Rattle.filecalls.specs.Outcome.{Act, deny, unless, changed_state, outcome}
 use Rattle.filecalls.specs.Names.{delete_act, make_act, rename_act, attributes_act}
 use Rattle.filecalls.specs.Write.{write_done, write_sequential_act, write_random_act, write_zero_fill_act}
 use Rattle.filecalls.specs.Leaves.{write_sequential_leaves}
-use Rattle.several.specs.Several.{on_piece, several}
+use Rattle.several.specs.Several.{on_piece}
 use Rattle.several.proofs.SeveralLaws.{several_keeps}
 use Rattle.bdos.specs.Step.{carries, does}
 use Rattle.disk_stores.specs.Stores.{Store}

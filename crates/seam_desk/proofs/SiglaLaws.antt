@@ -18,7 +18,7 @@ use Rattle.desk.specs.declared.Reply.{Reply}
 use Rattle.desk.specs.Answer.{number_of, value_of}
 use Rattle.desk.specs.Replace.{Desk, left, replacement}
 use Rattle.desk.proofs.ReplaceLaws.{value_small}
-use Rattle.seam_desk.specs.Sigla.{Replaced, replaced, replace_at_seam, start_of, in_high, sealed_where, too_long, manuscript_at_seam}
+use Rattle.seam_desk.specs.Sigla.{replaced, replace_at_seam, start_of, in_high, sealed_where, too_long, manuscript_at_seam}
 
 -- ---- the state: its front and its held blocks, read apart
 pub state_is : (s : List ℕ) {t : Bool} {w : Front} {held : List ℕ} → t ≡ is_drive s → not t ≡ false → w ≡ front_of (fields s) → held ≡ (fields s).held

@@ -1,7 +1,7 @@
 -- Two calls at the seam, evaluated: the three code bytes at 0005H make a file of 384 bytes, 180H from bit 32 on; a buffer that is a byte
 -- shorter is 76, and stays.
 use mathlib.Core.Path.{◌≡◌, refl}
-use mathlib.Core.List.{List, [], ◌∷◌, ◌++◌}
+use mathlib.Core.List.{List, ◌∷◌, ◌++◌}
 use Prim.Native.Nat.{ℕ}
 use lib.ListN.{replicate}
 use Rattle.lists.specs.Bounded.{every_from}

@@ -1,5 +1,4 @@
 -- The number of the refusal that the file calls gave, or 50.
-use borrow.Author.Rules.{rules}
 use Rattle.desk.proofs.number.Goals as goal
 
 pub returns-in-Call : goal.returns-in-Call

@@ -4,7 +4,6 @@ use borrow.Author.Tests.{eq-eqb, ne_eqb}
 use lib.ListN.{length}
 use Rattle.disk_geometry.specs.Geometry.{blocks}
 use Rattle.drive_bytes.specs.Layout.{drive_bytes, encoded_in}
-use borrow.Author.Rules.{rules}
 use Rattle.drive_bytes.proofs.encode.Goals as goal
 
 pub returns-then-out-length_for : goal.returns-then-out-length_for

@@ -1,9 +1,7 @@
 -- The test decides between the fields and the closed state, as in the definition.
 use mathlib.Core.Path.{sym, ap, ◌∙◌}
-use borrow.Author.Tests.{not-true, not-false}
 use Rattle.filecalls.specs.CodeFront.{front_of}
 use Rattle.drive_bytes.specs.Layout.{decoded}
-use borrow.Author.Rules.{rules}
 use Rattle.drive_bytes.proofs.front.Goals as goal
 
 pub returns-then-not-is_drive : goal.returns-then-not-is_drive

@@ -1,13 +1,11 @@
 -- A drive has at least 64 bytes, so its T can be read.
 use mathlib.Core.Path.{sym}
 use native.Mathlib.Omega.{arith}
-use lib.Dec.{eqb}
 use lib.ListN.{length}
 use borrow.Author.Tests.{ne_eqb}
 use Rattle.numbers.proofs.NumberLaws.{number_two}
 use Rattle.drive_bytes.specs.Layout.{drive_bytes, blocks_at}
 use Rattle.drive_bytes.proofs.LoadLaws.{at_least}
-use borrow.Author.Rules.{rules}
 use Rattle.drive_bytes.proofs.has_length.Goals as goal
 
 pub returns-then-s-lt-DRIVE_BYTES : goal.returns-then-s-lt-DRIVE_BYTES

@@ -1,11 +1,10 @@
 -- The length is asked first.
 use mathlib.Core.Path.{sym, ◌∙◌}
 use native.Mathlib.Omega.{arith}
-use borrow.Author.Tests.{not-true, not-false, eqb-true}
+use borrow.Author.Tests.{eqb-true}
 use lib.ListN.{length}
 use Rattle.drive_bytes.specs.Layout.{drive_bytes, blocks_at, is_drive}
 use Rattle.drive_bytes.proofs.LoadLaws.{at_least}
-use borrow.Author.Rules.{rules}
 use Rattle.drive_bytes.proofs.is_drive.Goals as goal
 
 pub returns-then-not-has_length : goal.returns-then-not-has_length

@@ -1,7 +1,6 @@
 -- A drive's bytes are enough for its front.
 use native.Mathlib.Omega.{arith}
 use Rattle.drive_bytes.proofs.LoadLaws.{drive_enough}
-use borrow.Author.Rules.{rules}
 use Rattle.drive_bytes.proofs.lay_front.Goals as goal
 
 pub front-requires : goal.front-requires

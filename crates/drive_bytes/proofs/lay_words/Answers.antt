@@ -5,7 +5,6 @@ use Prim.Native.Nat.{ℕ}
 use lib.ListN.{take}
 use Rattle.drive_bytes.specs.Layout.{HELD_AT, held_bytes}
 use Rattle.drive_bytes.proofs.LoadLaws.{drive_words}
-use borrow.Author.Rules.{rules}
 use Rattle.drive_bytes.proofs.lay_words.Goals as goal
 
 pub words-requires : goal.words-requires

@@ -3,7 +3,6 @@ use mathlib.Core.Path.{ap, ◌∙◌}
 use native.Mathlib.Omega.{arith}
 use Rattle.drive_bytes.specs.Layout.{held_at, fields}
 use Rattle.drive_bytes.proofs.LoadLaws.{drive_words}
-use borrow.Author.Rules.{rules}
 use Rattle.drive_bytes.proofs.load_words.Goals as goal
 
 pub words-requires : goal.words-requires

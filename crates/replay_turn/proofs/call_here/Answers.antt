@@ -4,7 +4,6 @@ use Rattle.text.specs.Text.{text}
 use Rattle.lists.specs.Bytes.{put}
 use native.Mathlib.Omega.{arith}
 use Prim.Native.Nat.{◌+◌, ◌-◌}
-use borrow.Author.Rules.{rules}
 use Rattle.replay_turn.proofs.call_here.Goals as goal
 
 pub returns : goal.returns

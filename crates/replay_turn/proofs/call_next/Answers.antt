@@ -1,6 +1,5 @@
 -- The head's numbers are small enough to be added.
 use native.Mathlib.Omega.{arith}
-use borrow.Author.Rules.{rules}
 use Rattle.replay_turn.proofs.call_next.Goals as goal
 
 pub overflow_add-result-2 : goal.overflow_add-result-2

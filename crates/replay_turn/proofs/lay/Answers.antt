@@ -6,7 +6,6 @@ use Rattle.replay_turn.specs.Play.{laid}
 use Rattle.text.specs.Text.{Text, puts}
 use native.Mathlib.Omega.{arith}
 use mathlib.Core.Path.{ap, ◌∙◌}
-use borrow.Author.Rules.{rules}
 use Rattle.replay_turn.proofs.lay.Goals as goal
 
 pub returns-then-fcb-ge-OFFSET_BYTES : goal.returns-then-fcb-ge-OFFSET_BYTES

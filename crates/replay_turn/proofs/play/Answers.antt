@@ -1,7 +1,6 @@
 -- Number 0 lays bytes, and every other number is done by the door.
 use Rattle.replay_turn.specs.Play.{played}
 use borrow.Author.Tests.{eq-eqb, ne_eqb}
-use borrow.Author.Rules.{rules}
 use Rattle.replay_turn.proofs.play.Goals as goal
 
 pub returns-then-function-eq-TOUCH : goal.returns-then-function-eq-TOUCH

@@ -2,7 +2,6 @@
 use Rattle.replay_turn.specs.Play.{shown_as, called}
 use Rattle.text.specs.Text.{text}
 use mathlib.Core.Path.{ap}
-use borrow.Author.Rules.{rules}
 use Rattle.replay_turn.proofs.serve.Goals as goal
 
 pub returns : goal.returns

@@ -3,7 +3,6 @@ use Rattle.replay_script.proofs.ScriptLaws.{next_lent_lem}
 use Rattle.replay_turn.specs.Play.{after}
 use native.Mathlib.Omega.{arith}
 use mathlib.Core.Path.{sym, ◌∙◌}
-use borrow.Author.Rules.{rules}
 use Rattle.replay_turn.proofs.take_turn.Goals as goal
 
 pub call_next-requires : goal.call_next-requires

@@ -3,7 +3,6 @@ use mathlib.Core.Path.{refl, sym, ap, ◌∙◌}
 use mathlib.Core.Bool.{not}
 use native.Mathlib.Omega.{arith}
 use Rattle.seam_calls.proofs.SeamLaws.{way_shut, enters_not, way_asks}
-use borrow.Author.Rules.{rules}
 use Rattle.seam_calls.proofs.ask.Goals as goal
 
 pub returns-then-not-may_enter : goal.returns-then-not-may_enter

@@ -2,7 +2,6 @@
 use Rattle.call_served.specs.Asked.{asked}
 use Rattle.drive_bytes.specs.Layout.{decoded}
 use Rattle.seam_calls.proofs.CutLaws.{stores_most}
-use borrow.Author.Rules.{rules}
 use Rattle.seam_calls.proofs.call.Goals as goal
 
 pub returns : goal.returns

@@ -1,9 +1,7 @@
 -- Bytes that are no drive's are refused; any others go their call's way, and its answer is told.
 use mathlib.Core.Path.{sym, ap, ◌∙◌}
 use mathlib.Core.Bool.{not}
-use borrow.Author.Tests.{not-false}
 use Rattle.seam_calls.proofs.SeamLaws.{way_shut, told_most, no_drive}
-use borrow.Author.Rules.{rules}
 use Rattle.seam_calls.proofs.call_most.Goals as goal
 
 pub returns-then-not-is_drive : goal.returns-then-not-is_drive

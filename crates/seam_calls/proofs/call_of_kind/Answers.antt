@@ -3,7 +3,6 @@ use mathlib.Core.Path.{◌≡◌, sym, ap, ◌∙◌}
 use mathlib.Core.Bool.{true}
 use Rattle.bdos.specs.CodeWay.{way_of, asks, changes, logs}
 use Rattle.bdos.proofs.DoorLaws.{logs_in_lem}
-use borrow.Author.Rules.{rules}
 use Rattle.seam_calls.proofs.call_of_kind.Goals as goal
 
 pub returns-in-LogsIn : goal.returns-in-LogsIn

@@ -2,7 +2,6 @@
 use mathlib.Core.Path.{refl, sym, ◌∙◌}
 use native.Mathlib.Omega.{arith}
 use Rattle.seam_calls.proofs.SeamLaws.{way_changes}
-use borrow.Author.Rules.{rules}
 use Rattle.seam_calls.proofs.change.Goals as goal
 
 pub returns-then-succeeded : goal.returns-then-succeeded

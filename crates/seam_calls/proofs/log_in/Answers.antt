@@ -5,7 +5,6 @@ use Rattle.call_answers.specs.Answer.{value_of}
 use Rattle.filecalls.specs.declared.Reply.{Reply}
 use Rattle.seam_calls.proofs.SeamLaws.{log_in_refused, log_in_done}
 use Rattle.seam_words.proofs.ValueLaws.{log_in_value}
-use borrow.Author.Rules.{rules}
 use Rattle.seam_calls.proofs.log_in.Goals as goal
 
 pub returns-then-drive-length_for : goal.returns-then-drive-length_for

@@ -1,9 +1,7 @@
 -- An open state is logged in anew, by the geometry of its front; a closed one is refused.
 use mathlib.Core.Path.{sym, ◌∙◌}
 use native.Mathlib.Omega.{arith}
-use borrow.Author.Tests.{not-true, not-false}
 use Rattle.seam_calls.proofs.SeamLaws.{way_shut, state_open, way_logs_in}
-use borrow.Author.Rules.{rules}
 use Rattle.seam_calls.proofs.log_in_anew.Goals as goal
 
 pub returns-then-not-is_open : goal.returns-then-not-is_open

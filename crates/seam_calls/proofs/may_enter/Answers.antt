@@ -1,5 +1,4 @@
 -- The seam asks where the call does not.
-use borrow.Author.Rules.{rules}
 use Rattle.seam_calls.proofs.may_enter.Goals as goal
 
 pub returns-then-asks_open : goal.returns-then-asks_open

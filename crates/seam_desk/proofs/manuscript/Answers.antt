@@ -1,6 +1,5 @@
 -- A list of 4 GiB or more is refused by its length; in any other a place fits 32 bits.
 use Rattle.seam_desk.proofs.SiglaLaws.{told_too_long, told_fits, told_where}
-use borrow.Author.Rules.{rules}
 use Rattle.seam_desk.proofs.manuscript.Goals as goal
 
 pub returns-then-is_too_long : goal.returns-then-is_too_long

@@ -1,6 +1,5 @@
 -- The answer's number and its count are the two halves.
 use Rattle.seam_desk.proofs.SiglaLaws.{count_fits, replaced_is}
-use borrow.Author.Rules.{rules}
 use Rattle.seam_desk.proofs.replace_siglum.Goals as goal
 
 pub halves-requires : goal.halves-requires

@@ -1,10 +1,8 @@
 -- The test decides between the fields and the closed state, as in the definition.
 use mathlib.Core.Bool.{not}
 use mathlib.Core.Path.{refl, sym, ◌∙◌, ap}
-use borrow.Author.Tests.{not-true, not-false}
 use Rattle.drive_bytes.specs.Layout.{decoded}
 use Rattle.seam_desk.proofs.SiglaLaws.{state_is}
-use borrow.Author.Rules.{rules}
 use Rattle.seam_desk.proofs.state.Goals as goal
 
 pub returns-then-not-is_drive : goal.returns-then-not-is_drive

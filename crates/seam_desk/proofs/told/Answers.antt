@@ -1,6 +1,5 @@
 -- Each case's number, list and place; a place in a list fits 32 bits.
 use native.Mathlib.Omega.{arith}
-use borrow.Author.Rules.{rules}
 use Rattle.seam_desk.proofs.told.Goals as goal
 
 pub high-requires : goal.high-requires

@@ -1,5 +1,4 @@
 -- The copy of the caller's geometry, and its answer as one number.
-use borrow.Author.Rules.{rules}
 use Rattle.seam_fresh.proofs.FreshLaws.{fresh_left}
 use Rattle.seam_fresh.proofs.copy.Goals as goal
 

@@ -1,7 +1,6 @@
 -- The number and the length of the answer, which fits 32 bits.
-use mathlib.Core.Path.{◌≡◌, ap, ◌∙◌}
+use mathlib.Core.Path.{ap}
 use native.Mathlib.Omega.{arith}
-use borrow.Author.Rules.{rules}
 use Rattle.gencmd_file.specs.Gencmd.{After, length_of}
 use Rattle.gencmd_file.proofs.LengthLaws.{answer_within}
 use Rattle.seam_gencmd.specs.Gencmd.{packed, sealed_after, gencmd_at_seam}

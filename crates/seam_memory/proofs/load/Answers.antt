@@ -1,6 +1,5 @@
 -- The load over the front in the drive's bytes, sealed.
 use Rattle.seam_memory.proofs.LoadLaws.{paragraph_low, load_sealed}
-use borrow.Author.Rules.{rules}
 use Rattle.seam_memory.proofs.load.Goals as goal
 
 pub seal_load-requires : goal.seal_load-requires

@@ -1,5 +1,4 @@
 -- The number as C has it; all else is the call's.
-use borrow.Author.Rules.{rules}
 use Rattle.seam_memory.proofs.memory_call.Goals as goal
 
 pub returns : goal.returns

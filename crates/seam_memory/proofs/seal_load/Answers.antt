@@ -1,7 +1,6 @@
 -- Number and value are the definition's.
 use native.Mathlib.Omega.{arith}
 use Rattle.seam_memory.specs.Load.{load_answered}
-use borrow.Author.Rules.{rules}
 use Rattle.seam_memory.proofs.seal_load.Goals as goal
 
 pub overflow_cast-value : goal.overflow_cast-value

@@ -3,7 +3,6 @@ use mathlib.Core.Path.{sym, ◌∙◌}
 use borrow.Author.Tests.{eq-eqb, ne_eqb}
 use Rattle.shelf_figures.specs.Shelf.{shelved_number}
 use Rattle.seam_shelf.specs.Shelf.{shelved_in}
-use borrow.Author.Rules.{rules}
 use Rattle.seam_shelf.proofs.lay_shelved.Goals as goal
 
 pub returns-then-shelved_number-eq0 : goal.returns-then-shelved_number-eq0

@@ -1,7 +1,6 @@
 -- 64 bytes take the shelf that has the volume; any other number of bytes is refused.
 use Rattle.disk_geometry.specs.Geometry.{geometry_of, with_placing}
 use Rattle.seam_shelf.proofs.ShelfLaws.{shelf_refused, shelf_done}
-use borrow.Author.Rules.{rules}
 use Rattle.seam_shelf.proofs.put_volume.Goals as goal
 
 pub returns-then-shelf-ne-SHELF_BYTES : goal.returns-then-shelf-ne-SHELF_BYTES

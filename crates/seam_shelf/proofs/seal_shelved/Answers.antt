@@ -1,6 +1,5 @@
 -- Number and value are the definition's.
 use Rattle.seam_shelf.specs.Shelf.{shelved_answer}
-use borrow.Author.Rules.{rules}
 use Rattle.seam_shelf.proofs.seal_shelved.Goals as goal
 
 pub returns : goal.returns

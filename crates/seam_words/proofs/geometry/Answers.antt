@@ -1,5 +1,4 @@
 -- Each number as a size.
-use borrow.Author.Rules.{rules}
 use Rattle.seam_words.proofs.geometry.Goals as goal
 
 pub returns : goal.returns

@@ -1,7 +1,6 @@
 -- Number and value are the definition's, where the value fits the high 16 bits.
 use native.Mathlib.Omega.{arith}
 use Rattle.seam_words.specs.Answered.{answered}
-use borrow.Author.Rules.{rules}
 use Rattle.seam_words.proofs.seal.Goals as goal
 
 pub returns : goal.returns

@@ -1,5 +1,4 @@
 -- The copy has the bytes of the control block, then its r bytes are set.
-use borrow.Author.Rules.{rules}
 use Rattle.desk.proofs.records.point.Goals as goal
 
 pub returns : goal.returns

@@ -1,6 +1,5 @@
 -- The call is lent the copy, and as many stores as are left.
 use Rattle.desk.proofs.RecordLaws.{rewrites}
-use borrow.Author.Rules.{rules}
 use Rattle.desk.proofs.records.rewrite_most.Goals as goal
 
 pub returns : goal.returns

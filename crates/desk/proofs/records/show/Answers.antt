@@ -1,7 +1,7 @@
 -- The read is lent the copy and a buffer of zeros.
 use mathlib.Core.List.{List}
 use Prim.Native.Nat.{ℕ}
-use Rattle.filecalls.specs.CodeFront.{joined, joined_reply}
+use Rattle.filecalls.specs.CodeFront.{joined_reply}
 use lib.ListN.{length}
 use Rattle.desk.proofs.RecordLaws.{shows}
 use borrow.Author.Rules.{rules}

@@ -1,5 +1,4 @@
 -- One byte is set.
-use borrow.Author.Rules.{rules}
 use Rattle.desk.proofs.replace.mark.Goals as goal
 
 pub returns-then-hit : goal.returns-then-hit

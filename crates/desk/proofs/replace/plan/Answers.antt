@@ -2,7 +2,6 @@
 use mathlib.Core.Path.{sym, ap, ◌∙◌}
 use mathlib.Core.List.{List, []}
 use Prim.Native.Nat.{ℕ}
-use borrow.Author.Tests.{not-true, not-false}
 use Rattle.call_answers.specs.Refusal.{is_none}
 use Rattle.desk.proofs.ReplaceLaws.{lent_fcb_lem, refused_file, refused_record, told}
 use borrow.Author.Rules.{rules}

@@ -2,9 +2,7 @@
 use mathlib.Core.Path.{sym, ◌∙◌}
 use mathlib.Core.List.{List}
 use Prim.Native.Nat.{ℕ}
-use borrow.Author.Tests.{not-true, not-false}
 use Rattle.desk.proofs.ReplaceLaws.{bad_contents, too_many, no_chapter, not_all, planned_go}
-use borrow.Author.Rules.{rules}
 use Rattle.desk.proofs.replace.plan_in.Goals as goal
 
 pub returns-then-not-are_good : goal.returns-then-not-are_good

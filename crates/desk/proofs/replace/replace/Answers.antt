@@ -1,7 +1,6 @@
 -- The stores are enough for every record of a file.
 use native.Mathlib.Omega.{arith}
 use Rattle.desk.proofs.ReplaceLaws.{code_whole}
-use borrow.Author.Rules.{rules}
 use Rattle.desk.proofs.replace.replace.Goals as goal
 
 pub returns : goal.returns

@@ -1,11 +1,10 @@
 -- What is still to be rewritten from here with what is left gives the whole, and so does the count.
-use mathlib.Core.Path.{◌≡◌, refl, sym, ◌∙◌}
+use mathlib.Core.Path.{◌≡◌}
 use Prim.Native.Nat.{◌≤◌, ◌-◌}
 use lib.ListN.{length}
 use Rattle.filecalls.specs.CodeFront.{joined}
 use Rattle.desk.specs.CodeDesk.{marked}
-use Rattle.desk.proofs.LoopLaws.{Going, going_start, going_next, going_end}
-use borrow.Author.Rules.{rules}
+use Rattle.desk.proofs.LoopLaws.{Going}
 use Rattle.desk.proofs.replace.rewrite_marked.Given as goal
 
 abbrev pub invariant-loop-i : goal.invariant-loop-i

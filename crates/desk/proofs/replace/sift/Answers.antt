@@ -1,17 +1,13 @@
 -- The records passed so far can be read and are marked as they match.
 use lib.Dec.{eqb}
-use Rattle.desk.proofs.LoopLaws.{Marks, marks_start, marks_next, every_one}
-use Rattle.desk.specs.Records.{readable, bears}
+use Rattle.desk.proofs.LoopLaws.{marks_start, marks_next, every_one}
 use Rattle.call_answers.specs.Refusal.{is_none}
-use Rattle.lists.proofs.BoundedLaws.{Passed, passed_start, passed_next, passed_fails, passed_all}
-use borrow.Author.Tests.{not-true, not-false}
-use lib.ListN.{length}
+use Rattle.lists.proofs.BoundedLaws.{passed_start, passed_next, passed_fails, passed_all}
 use native.Mathlib.Omega.{arith}
-use Prim.Native.Nat.{ℕ, ◌≤◌, ◌+◌, ◌-◌}
+use Prim.Native.Nat.{ℕ, ◌-◌}
 use mathlib.Core.List.{List}
-use Rattle.filecalls.specs.CodeFront.{joined}
 use mathlib.Core.Bool.{false≢true}
-use mathlib.Core.Path.{◌≡◌, refl, sym, ap, ◌∙◌}
+use mathlib.Core.Path.{refl, sym, ap, ◌∙◌}
 use borrow.Author.Rules.{rules}
 use Rattle.desk.proofs.replace.sift.Goals as goal
 

@@ -1,18 +1,12 @@
 -- The records passed so far can be read and are marked as they match.
-use lib.Dec.{eqb}
-use Rattle.desk.proofs.LoopLaws.{Marks, marks_start, marks_next, every_one}
+use Rattle.desk.proofs.LoopLaws.{Marks}
 use Rattle.desk.specs.Records.{readable, bears}
-use Rattle.call_answers.specs.Refusal.{is_none}
-use Rattle.lists.proofs.BoundedLaws.{Passed, passed_start, passed_next, passed_fails, passed_all}
-use borrow.Author.Tests.{not-true, not-false}
+use Rattle.lists.proofs.BoundedLaws.{Passed}
 use lib.ListN.{length}
-use native.Mathlib.Omega.{arith}
 use Prim.Native.Nat.{ℕ, ◌≤◌, ◌+◌, ◌-◌}
 use mathlib.Core.List.{List}
 use Rattle.filecalls.specs.CodeFront.{joined}
-use mathlib.Core.Bool.{false≢true}
-use mathlib.Core.Path.{◌≡◌, refl, sym, ap, ◌∙◌}
-use borrow.Author.Rules.{rules}
+use mathlib.Core.Path.{◌≡◌}
 use Rattle.desk.proofs.replace.sift.Given as goal
 
 abbrev pub invariant-loop-n : goal.invariant-loop-n

@@ -4,7 +4,6 @@ use native.Mathlib.Omega.{arith}
 use lib.ListN.{length-set}
 use Rattle.lists.specs.Bytes.{put}
 use Rattle.drive_bytes.proofs.LayLaws.{flag_byte, front_stored}
-use borrow.Author.Rules.{rules}
 use Rattle.drive_bytes.proofs.lay.front.Goals as goal
 
 pub bounds-out-7 : goal.bounds-out-7

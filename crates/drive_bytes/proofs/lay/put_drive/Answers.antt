@@ -1,5 +1,5 @@
 -- Three parts fill the first 32 bytes, and the words fill the rest.
-use mathlib.Core.Path.{sym, ap, ◌∙◌}
+use mathlib.Core.Path.{ap, ◌∙◌}
 use mathlib.Core.List.{List, ◌++◌}
 use Prim.Native.Nat.{ℕ}
 use native.Mathlib.Omega.{arith}
@@ -8,7 +8,6 @@ use Rattle.disk_geometry.specs.Geometry.{blocks}
 use Rattle.drive_bytes.specs.Layout.{stored_words, head_bytes, search_bytes, placing_bytes, held_bytes, front_bytes, encoded}
 use Rattle.drive_bytes.proofs.LoadLaws.{at_least, counted}
 use Rattle.drive_bytes.proofs.LayLaws.{three_laid, length_head, length_search, length_placing, placing_word}
-use borrow.Author.Rules.{rules}
 use Rattle.drive_bytes.proofs.lay.put_drive.Goals as goal
 
 pub slice_bounds-put_head-end : goal.slice_bounds-put_head-end

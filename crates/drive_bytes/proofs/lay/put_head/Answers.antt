@@ -2,7 +2,6 @@
 use Rattle.drive_bytes.proofs.LayLaws.{flag_byte}
 use Rattle.drive_bytes.specs.Layout.{head_bytes}
 use Rattle.numbers.specs.Numbers.{bytes_of}
-use borrow.Author.Rules.{rules}
 use Rattle.drive_bytes.proofs.lay.put_head.Goals as goal
 
 pub returns : goal.returns

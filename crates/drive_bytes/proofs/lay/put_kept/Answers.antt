@@ -6,7 +6,6 @@ use Rattle.lists.specs.Bytes.{part, put}
 use lib.ListN.{length-set}
 use mathlib.Core.Path.{◌∙◌}
 use native.Mathlib.Omega.{arith}
-use borrow.Author.Rules.{rules}
 use Rattle.drive_bytes.proofs.lay.put_kept.Goals as goal
 
 pub slice_bounds-copy-end : goal.slice_bounds-copy-end

@@ -1,6 +1,5 @@
 -- Zeros where no search is kept; else its number, and what is kept.
 use Rattle.drive_bytes.specs.Layout.{search_bytes}
-use borrow.Author.Rules.{rules}
 use Rattle.drive_bytes.proofs.lay.put_search.Goals as goal
 
 pub returns-in-Nothing : goal.returns-in-Nothing

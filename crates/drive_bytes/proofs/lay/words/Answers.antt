@@ -1,9 +1,8 @@
 -- The words below k are laid, and what stood behind them is still there.
 use mathlib.Core.Path.{◌≡◌, ap, ◌∙◌}
-use Prim.Native.Nat.{◌+◌, ◌*◌, ◌-◌, ◌≤◌}
+use Prim.Native.Nat.{◌+◌, ◌*◌, ◌-◌}
 use native.Mathlib.Omega.{arith}
 use native.Mathlib.Numerals.{add-one}
-use lib.ListN.{length}
 use Rattle.lists.specs.Bytes.{put}
 use Rattle.drive_bytes.proofs.WordLaws.{laid_to, lay_start, lay_next, lay_end}
 use borrow.Author.Rules.{rules}

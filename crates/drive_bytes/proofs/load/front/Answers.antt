@@ -1,6 +1,5 @@
 -- The parts are the definition's fields.
 use Rattle.drive_bytes.specs.Layout.{fields}
-use borrow.Author.Rules.{rules}
 use Rattle.drive_bytes.proofs.load.front.Goals as goal
 
 pub returns : goal.returns

@@ -2,7 +2,6 @@
 use Rattle.drive_bytes.specs.Layout.{fields}
 use Rattle.numbers.proofs.NumberLaws.{number_two}
 use native.Mathlib.Omega.{arith}
-use borrow.Author.Rules.{rules}
 use Rattle.drive_bytes.proofs.load.geometry_at.Goals as goal
 
 pub returns : goal.returns

@@ -3,7 +3,6 @@
 use Rattle.drive_bytes.proofs.LoadLaws.{idle_words, spare_word}
 use Rattle.drive_bytes.specs.Layout.{laid_out}
 use Rattle.lists.specs.Bytes.{part}
-use borrow.Author.Rules.{rules}
 use Rattle.drive_bytes.proofs.load.is_laid.Goals as goal
 
 pub returns : goal.returns

@@ -1,7 +1,6 @@
 -- All of it, or none.
 use native.Mathlib.Omega.{arith}
 use borrow.Author.Tests.{le-leb, lt-leb}
-use borrow.Author.Rules.{rules}
 use Rattle.seam_calls.proofs.copies.buffer_lent.Goals as goal
 
 pub returns-then-n-le-BUFFER_BYTES : goal.returns-then-n-le-BUFFER_BYTES

@@ -1,5 +1,4 @@
 -- The call with the copies is the call with what was lent.
-use borrow.Author.Rules.{rules}
 use Rattle.seam_calls.proofs.copies.cut_with.Goals as goal
 
 pub returns : goal.returns

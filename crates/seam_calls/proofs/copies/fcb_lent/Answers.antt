@@ -1,7 +1,6 @@
 -- All of it, or none.
 use native.Mathlib.Omega.{arith}
 use borrow.Author.Tests.{eq-eqb, ne_eqb}
-use borrow.Author.Rules.{rules}
 use Rattle.seam_calls.proofs.copies.fcb_lent.Goals as goal
 
 pub returns-then-n-eq-FCB_BYTES : goal.returns-then-n-eq-FCB_BYTES

@@ -1,6 +1,5 @@
 -- The branches are the definition's.
 use native.Mathlib.Omega.{arith}
-use borrow.Author.Rules.{rules}
 use Rattle.seam_calls.proofs.copies.refusal_told.Goals as goal
 
 pub returns : goal.returns

@@ -1,5 +1,5 @@
 -- Four parts fill the 32 bytes; the other slot is never above the bad one, so it is one of the volume.
-use mathlib.Core.Path.{◌≡◌, refl, sym, ◌∙◌}
+use mathlib.Core.Path.{refl}
 use Prim.Native.Nat.{◌<◌}
 use native.Mathlib.Omega.{arith}
 use Rattle.disk_geometry.specs.Geometry.{slots}

@@ -1,7 +1,5 @@
 -- Where the rule speaks of another slot its user and name, else zeros.
-use mathlib.Core.Path.{sym, ◌∙◌}
 use Rattle.seam_looks.specs.Fault.{other_bytes}
-use borrow.Author.Rules.{rules}
 use Rattle.seam_looks.proofs.bad_slot.put_other.Goals as goal
 
 pub returns-then-has_other : goal.returns-then-has_other

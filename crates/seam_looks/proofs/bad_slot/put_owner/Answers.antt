@@ -1,7 +1,6 @@
 -- The first 12 bytes of the slot's entry.
 use mathlib.Core.Path.{◌∙◌}
 use Rattle.seam_looks.proofs.FaultLaws.{owner_lent}
-use borrow.Author.Rules.{rules}
 use Rattle.seam_looks.proofs.bad_slot.put_owner.Goals as goal
 
 pub returns : goal.returns

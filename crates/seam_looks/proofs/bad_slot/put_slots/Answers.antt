@@ -1,6 +1,5 @@
 -- The four bytes are the definition's.
 use Rattle.numbers.specs.Numbers.{bytes_of}
-use borrow.Author.Rules.{rules}
 use Rattle.seam_looks.proofs.bad_slot.put_slots.Goals as goal
 
 pub returns : goal.returns
