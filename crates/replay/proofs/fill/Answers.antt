@@ -1,11 +1,10 @@
 -- What was moved to the front lies before the part that is read into.
 use Rattle.replay_script.proofs.WindowLaws.{front_stays}
 use Rattle.lists.specs.Bytes.{put}
-use borrow.Rule.Slice.PartMut.{mid_len}
 use lib.ListN.{length}
 use native.Mathlib.Omega.{arith}
 use Prim.Native.Nat.{◌≤◌, ◌+◌, ◌-◌}
-use mathlib.Core.Path.{◌≡◌, ◌∙◌}
+use mathlib.Core.Path.{◌≡◌}
 use borrow.Author.Rules.{rules}
 use Rattle.replay.proofs.fill.Goals as goal
 

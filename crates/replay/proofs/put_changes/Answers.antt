@@ -1,9 +1,6 @@
 -- Each turn appends at least one record, where there is one left.
-use lib.ListN.{length}
 use native.Mathlib.Omega.{arith}
-use Prim.Native.Nat.{◌-◌}
-use mathlib.Core.Path.{◌≡◌, refl, ◌∙◌}
-use borrow.Author.Rules.{rules}
+use mathlib.Core.Path.{refl, ◌∙◌}
 use Rattle.replay.proofs.put_changes.Goals as goal
 
 pub loop-q-init : goal.loop-q-init

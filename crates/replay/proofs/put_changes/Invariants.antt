@@ -1,9 +1,7 @@
 -- Each turn appends at least one record, where there is one left.
 use lib.ListN.{length}
-use native.Mathlib.Omega.{arith}
 use Prim.Native.Nat.{◌-◌}
-use mathlib.Core.Path.{◌≡◌, refl, ◌∙◌}
-use borrow.Author.Rules.{rules}
+use mathlib.Core.Path.{◌≡◌}
 use Rattle.replay.proofs.put_changes.Given as goal
 
 abbrev pub invariant-loop-q : goal.invariant-loop-q

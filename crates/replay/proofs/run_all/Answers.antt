@@ -1,9 +1,6 @@
 -- The unread part stays inside the window, and each turn counts a call.
-use lib.ListN.{length}
 use native.Mathlib.Omega.{arith}
-use Prim.Native.Nat.{◌-◌, ◌≤◌}
-use mathlib.Core.Path.{◌≡◌, refl}
-use borrow.Author.Rules.{rules}
+use mathlib.Core.Path.{refl}
 use Rattle.replay.proofs.run_all.Goals as goal
 
 pub loop-calls-init : goal.loop-calls-init

@@ -1,9 +1,7 @@
 -- The unread part stays inside the window, and each turn counts a call.
 use lib.ListN.{length}
-use native.Mathlib.Omega.{arith}
 use Prim.Native.Nat.{◌-◌, ◌≤◌}
-use mathlib.Core.Path.{◌≡◌, refl}
-use borrow.Author.Rules.{rules}
+use mathlib.Core.Path.{◌≡◌}
 use Rattle.replay.proofs.run_all.Given as goal
 
 abbrev pub invariant-loop-calls : goal.invariant-loop-calls

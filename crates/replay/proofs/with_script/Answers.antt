@@ -1,6 +1,5 @@
 -- A good header's volume has room in the arrays.
 use native.Mathlib.Omega.{arith}
-use borrow.Author.Rules.{rules}
 use Rattle.replay.proofs.with_script.Goals as goal
 
 pub with_header-requires : goal.with_header-requires
