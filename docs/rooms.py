@@ -29,6 +29,7 @@ def read_rooms(text):
             comment = line[1:].strip()
         elif line.strip():
             name, used = line.split(":")
+            name = name.split()[0]
             heading = comment or heading
             uses[name], floor[name] = used.split(), heading
             comment = ""
