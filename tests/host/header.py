@@ -69,7 +69,7 @@ def in_c(parameter):
 def exported(source):
     """what each exported function returns and takes, in the words of C"""
     functions = {}
-    for name, taken, returned in re.findall(r'#\[no_mangle\]\s*pub extern "C" fn (\w+)\(([^()]*)\) -> (\w+)', source):
+    for name, taken, returned in re.findall(r'#\[unsafe\(no_mangle\)\]\s*pub extern "C" fn (\w+)\(([^()]*)\) -> (\w+)', source):
         parameters = [parameter for parameter in taken.split(",") if parameter.strip()]
         functions[name] = [NUMBERS.get(returned, returned)] + sum(map(in_c, parameters), [])
     marks = source.count("no_mangle"), source.count('extern "C"')
