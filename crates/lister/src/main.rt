@@ -18,7 +18,7 @@ fn lay(volume: &[u8], out: &mut [u8]) -> usize
     listing::list(volume, out)
 }
 
-// What was written is the listing; where the writer fails, it may be cut off.
+// To a writer whose contents are known the listing is appended; where the writer fails, it may be cut off.
 fn print<W: Write>(volume: &[u8], out: &mut [u8], to: &mut W) -> io::Result<()>
     requires { room ≤ length out.old }
     ensures { OnOk result (Appends (W.contents to.old) (W.contents to.new) (listing volume.now)) }

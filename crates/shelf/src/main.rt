@@ -20,7 +20,7 @@ fn lay(shelf: Shelf, out: &mut [u8]) -> usize
     shelf_report::put_report(shelf, out)
 }
 
-// What was written is the report; where the writer fails, it may be cut off.
+// To a writer whose contents are known the report is appended; where the writer fails, it may be cut off.
 fn print<W: Write>(shelf: Shelf, out: &mut [u8], to: &mut W) -> io::Result<()>
     requires { (room ≤ length out.old) × OfVolumes shelf }
     ensures { OnOk result (Appends (W.contents to.old) (W.contents to.new) (report shelf)) }
