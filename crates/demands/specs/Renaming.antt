@@ -1,5 +1,5 @@
 -- Request (viii). "Renaming by way of a third name. Assistants rename drafts through a temporary name and ask whether this
--- leaves traces. For a volume that passes inspection, not protected, one user, a file that is not read_only, and three
+-- leaves traces. For a volume that passes inspection, not protected, one user, a file that is not read-only, and three
 -- different permitted names of which only the first exists: renaming first to second and second to third gives the same
 -- bytes as first to third, and renaming there and back gives the old bytes."
 --
@@ -31,14 +31,14 @@ abbrev pub then_rename : Outcome → List ℕ → Outcome
 then_rename o fcb = rename o.drive o.volume fcb
 
 -- ---- what is asked
--- the state's user has an entry of that name, and one that is read_only
+-- the state's user has an entry of that name, and one that is read-only
 abbrev pub exists : Drive → List ℕ → List ℕ → Bool
 exists d v name = ltb (find_slot d.geometry v d.user name File) (slots d.geometry)
 
 abbrev pub any_read_only : Drive → List ℕ → List ℕ → Bool
 any_read_only d v name = ltb (find_slot d.geometry v d.user name ReadOnlyFile) (slots d.geometry)
 
--- An open state, whose geometry is the volume's; "not protected .., a file that is not read_only, and three different
+-- An open state, whose geometry is the volume's; "not protected .., a file that is not read-only, and three different
 -- permitted names of which only the first exists". Permitted is what 39 lets through, 3FH not among it, and of a new name
 -- also what 45 lets through. The first name is none here: it may be one that can't be typed.
 pub record Drafts (d : Drive) (v first second third : List ℕ) : Type 0 where
