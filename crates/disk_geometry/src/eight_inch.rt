@@ -20,10 +20,11 @@ const SECTORS: [u8; 26] = [
 ];
 
 // Where logical record q begins.
+#[tactic(auto, unfolding(crate::specs::EightInch::image_start))]
 pub(crate) fn image_start(q: usize) -> usize
     requires { q < track_records }
     ensures { result ≡ image_start q }
 {
-    let sector = lists::wide(SECTORS[q % TRACK_SECTORS]);
+    let sector = usize::from(SECTORS[q % TRACK_SECTORS]);
     (TRACK_SECTORS * (RESERVED_TRACKS + q / TRACK_SECTORS) + sector - 1) * Geometry::RECORD_BYTES
 }

@@ -9,7 +9,8 @@ ghost use Rattle.disk_geometry.specs.CodeMost.{most_of};
 mod eight_inch;
 
 // How the volume is cut up: B, T and D of the paper; and how its records are placed, which is one of the two numbers below.
-#[derive(Clone, Copy)]
+// The placing is a number and no enum: C passes one, and what `is_lawful` promises is said of a third number too.
+#[derive(Clone, Copy, PartialEq, Eq)]
 pub struct Geometry {
     pub block_bytes: usize,
     pub blocks: usize,
@@ -57,10 +58,7 @@ impl Geometry {
     fn is_floppy(self) -> bool
         ensures { result ≡ is_floppy self }
     {
-        (self.placing == Geometry::EIGHT_INCH)
-            & (self.block_bytes == 1024)
-            & (self.blocks == 243)
-            & (self.directory_blocks == 2)
+        self == Geometry::FLOPPY
     }
 
     // Is the geometry within the rules? T is 2 at least, being above D.
@@ -81,8 +79,7 @@ impl Geometry {
     fn most_blocks(self) -> usize
         ensures { result ≡ most_of self }
     {
-        let bls = self.block_bytes;
-        match bls {
+        match self.block_bytes {
             1024 => Geometry::NARROW_BLOCKS,
             2048 => Geometry::MOST_BYTES / 2048,
             4096 => Geometry::MOST_BYTES / 4096,
@@ -110,11 +107,11 @@ impl Geometry {
     }
 
     // BSH, the block shift of Digital Research's table (000, Tabelle 13): R is 1 << BSH.
+    #[tactic(auto, unfolding(crate::specs::Shift::bsh))]
     pub fn bsh(self) -> usize
         ensures { (result ≡ bsh self) × (result ≤ 5) }
     {
-        let bls = self.block_bytes;
-        match bls {
+        match self.block_bytes {
             1024 => 3,
             2048 => 4,
             4096 => 5,
@@ -123,11 +120,11 @@ impl Geometry {
     }
 
     // BLM, the block mask of the same table: R - 1.
+    #[tactic(auto, unfolding(crate::specs::Shift::blm))]
     pub fn blm(self) -> usize
         ensures { result ≡ blm self }
     {
-        let bls = self.block_bytes;
-        match bls {
+        match self.block_bytes {
             1024 => 7,
             2048 => 15,
             4096 => 31,
@@ -201,6 +198,7 @@ impl Geometry {
     }
 
     // Where record n begins that lies in block b.
+    #[tactic(auto, unfolding(crate::specs::Geometry::record_start))]
     pub fn record_start(self, b: usize, n: usize) -> usize
         requires { (lawful self ≡ true) × (b < blocks self) }
         ensures { (result ≡ record_start self b n) × (result + record_bytes ≤ bytes self) }
@@ -217,6 +215,7 @@ impl Geometry {
     }
 
     // How many places an entry's map has.
+    #[tactic(auto, unfolding(crate::specs::Geometry::places))]
     pub fn places(self) -> usize
         ensures { (result ≡ places self) × (result ≤ map_bytes) }
     {
@@ -232,6 +231,7 @@ impl Geometry {
     }
 
     // Is the block one from D to T-1?
+    #[tactic(auto, unfolding(crate::specs::Geometry::inside))]
     pub fn is_inside(self, b: usize) -> bool
         ensures { result ≡ inside self b }
     {

@@ -6,9 +6,6 @@ use Rattle.disk_geometry.proofs.GeometryLaws.{bounds, place_lt}
 use Rattle.disk_geometry.proofs.ShiftLaws.{block_shift}
 use Rattle.disk_geometry.proofs.Geometry.place.Goals as goal
 
-pub overflow_mul-result : goal.overflow_mul-result
-overflow_mul-result c = rw c.extents.ensures (omega (arith, bounds _ c.requires))
-
 pub nonzero_rem-result : goal.nonzero_rem-result
 nonzero_rem-result c = omega (arith, bounds _ c.requires)
 
