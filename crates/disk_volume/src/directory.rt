@@ -17,9 +17,9 @@ fn find_in(g: Geometry, entries: &[u8], from: usize, user: u8, name: &[u8], want
     ensures { (result ≡ find_in g entries.now user (strip name.now) wanted from)
         × (result ≤ run_entries entries.now) }
 {
-    let end = entries.len();
-    let mut at = from * Geometry::ENTRY_BYTES;
-    while at != end {
+    let end = entries.len() / Geometry::ENTRY_BYTES;
+    for k in from..end {
+        let at = k * Geometry::ENTRY_BYTES;
         if entry::has(
             g,
             &entries[at..at + Geometry::ENTRY_BYTES],
@@ -27,11 +27,10 @@ fn find_in(g: Geometry, entries: &[u8], from: usize, user: u8, name: &[u8], want
             name,
             wanted,
         ) {
-            return at / Geometry::ENTRY_BYTES;
+            return k;
         }
-        at += Geometry::ENTRY_BYTES;
     }
-    at / Geometry::ENTRY_BYTES
+    end
 }
 
 // The same; each thing that may be wanted has a search of its own, so that what is wanted is not asked again at every entry.
@@ -68,23 +67,23 @@ fn find_by_record(volume: &[u8], from: usize, user: u8, name: &[u8], wanted: Wan
 {
     let g = Geometry::FLOPPY;
     let n = g.slots();
-    let mut i = from;
-    while i < n {
-        let at = g.slot_record(i);
+    let mut first = from % Geometry::RECORD_SLOTS;
+    for r in from / Geometry::RECORD_SLOTS..n / Geometry::RECORD_SLOTS {
+        let at = g.start(r);
         let k = find_each(
             g,
             &volume[at..at + Geometry::RECORD_BYTES],
-            i % Geometry::RECORD_SLOTS,
+            first,
             user,
             name,
             wanted,
         );
-        i = i / Geometry::RECORD_SLOTS * Geometry::RECORD_SLOTS + k;
         if k < Geometry::RECORD_SLOTS {
-            return i;
+            return r * Geometry::RECORD_SLOTS + k;
         }
+        first = 0;
     }
-    i
+    n
 }
 
 // The lowest slot from `from` on that has what is wanted, the number of slots where none has. On a straight volume the
@@ -132,8 +131,7 @@ fn empty_by_slots(g: Geometry, volume: &[u8], user: u8, name: &[u8]) -> usize
     ensures { (result ≡ find_from g volume.now user (strip name.now) Empty 0) × (result ≤ slots g) }
 {
     let n = g.slots() / Geometry::RECORD_SLOTS * Geometry::RECORD_SLOTS;
-    let mut i = 0;
-    while i < n {
+    for i in 0..n {
         let at = g.slot_start(i);
         if entry::has(
             g,
@@ -144,9 +142,8 @@ fn empty_by_slots(g: Geometry, volume: &[u8], user: u8, name: &[u8]) -> usize
         ) {
             return i;
         }
-        i += 1;
     }
-    i
+    n
 }
 
 // The lowest empty slot, the number of slots where none is: slot by slot, or where a slot's place is dear as any search.

@@ -46,13 +46,11 @@ pub fn like_name(name: &[u8], pattern: &[u8]) -> bool
     requires { IsName name.now × IsName pattern.now }
     ensures { result ≡ like (strip name.now) (strip pattern.now) }
 {
-    let mut k = 0;
-    while k < fields::NAME_BYTES {
+    for k in 0..fields::NAME_BYTES {
         let p = pattern[k] % TOP_BIT;
         if !((p == WILDCARD) | (name[k] % TOP_BIT == p)) {
             return false;
         }
-        k += 1;
     }
     true
 }
@@ -68,12 +66,10 @@ pub fn good_name(pattern: bool, name: &[u8]) -> bool
     }
     let mut printable = true;
     let mut plain = true;
-    let mut k = 0;
-    while k < fields::NAME_BYTES {
+    for k in 0..fields::NAME_BYTES {
         let x = name[k] % TOP_BIT;
-        printable = printable & ((BLANK <= x) & (x <= 0x7E));
-        plain = plain & (x != WILDCARD);
-        k += 1;
+        printable &= (BLANK <= x) & (x <= 0x7E);
+        plain &= x != WILDCARD;
     }
     printable & (pattern | plain)
 }

@@ -1,5 +1,4 @@
 -- No slot passed so far is empty, so what is still to be searched gives the whole.
-use Prim.Native.Nat.{◌≤◌, ◌-◌}
 use Rattle.lists.proofs.BoundedLaws.{Searched}
 use Rattle.disk_volume.specs.declared.Wanted.TheVariants.{Empty}
 use Rattle.disk_volume.specs.Directory.{slot_fits}
@@ -8,7 +7,4 @@ use Rattle.disk_geometry.specs.Geometry.{slots}
 use Rattle.disk_volume.proofs.directory.empty_by_slots.Given as goal
 
 abbrev pub invariant-loop-i : goal.invariant-loop-i
-invariant-loop-i l = (l.i ≤ slots l.g) × Searched (slot_fits l.g l.volume l.user (strip l.name) Empty) 0 (slots l.g) l.i
-
-abbrev pub decreases-loop-i : goal.decreases-loop-i
-decreases-loop-i l = l.n - l.i
+invariant-loop-i l = Searched (slot_fits l.g l.volume l.user (strip l.name) Empty) 0 (slots l.g) l.i

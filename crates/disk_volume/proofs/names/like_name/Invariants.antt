@@ -1,11 +1,7 @@
 -- The pattern matched the places passed so far, so what is left decides.
-use Prim.Native.Nat.{◌≤◌, ◌-◌}
 use Rattle.lists.proofs.BoundedLaws.{Passed}
 use Rattle.disk_volume.proofs.NameLaws.{like_at}
 use Rattle.disk_volume.proofs.names.like_name.Given as goal
 
 abbrev pub invariant-loop-k : goal.invariant-loop-k
-invariant-loop-k l = (l.k ≤ 11) × Passed (like_at l.name l.pattern) 0 11 l.k
-
-abbrev pub decreases-loop-k : goal.decreases-loop-k
-decreases-loop-k l = 11 - l.k
+invariant-loop-k l = Passed (like_at l.name l.pattern) 0 11 l.k
