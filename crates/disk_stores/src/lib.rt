@@ -20,19 +20,8 @@ pub fn store_record(g: Geometry, volume: &mut [u8], q: usize, sector: &[u8], lef
         return;
     }
     let at = g.start(q);
-    lists::copy(&mut volume[at..at + Geometry::RECORD_BYTES], sector);
-    *left = *left - 1;
-}
-
-// Lays an entry over the bytes of a directory record from o on.
-fn lay(sector: &mut [u8], o: usize, e: &[u8])
-    requires { (o + entry_bytes ≤ length sector.old) × IsEntry e.now }
-    ensures { sector.new ≡ put sector.old o entry_bytes e.now }
-{
-    lists::copy(
-        &mut sector[o..o + Geometry::ENTRY_BYTES],
-        &e[0..Geometry::ENTRY_BYTES],
-    );
+    volume[at..at + Geometry::RECORD_BYTES].copy_from_slice(sector);
+    *left -= 1;
 }
 
 // Lays an entry into slot i, by one store of the directory record that holds it.
@@ -46,11 +35,8 @@ pub fn put_slot(g: Geometry, volume: &mut [u8], i: usize, e: &[u8], left: &mut u
     let r = i / Geometry::RECORD_SLOTS;
     let at = g.start(r);
     let mut sector = [0u8; Geometry::RECORD_BYTES];
-    lists::copy(&mut sector, &volume[at..at + Geometry::RECORD_BYTES]);
-    lay(
-        &mut sector,
-        i % Geometry::RECORD_SLOTS * Geometry::ENTRY_BYTES,
-        e,
-    );
+    sector.copy_from_slice(&volume[at..at + Geometry::RECORD_BYTES]);
+    let o = i % Geometry::RECORD_SLOTS * Geometry::ENTRY_BYTES;
+    sector[o..o + Geometry::ENTRY_BYTES].copy_from_slice(&e[0..Geometry::ENTRY_BYTES]);
     store_record(g, volume, r, &sector, left);
 }

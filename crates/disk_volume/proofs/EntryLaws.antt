@@ -1,6 +1,5 @@
 -- Laws of entries: what an entry counts below, in and above its own extent, and the entry in a slot as it is lent.
-use mathlib.Core.Path.{◌≡◌, refl, sym, ap, ◌∙◌}
-use mathlib.Core.Bool.{Bool, true, false, ◌&&◌, and-true, and-false, true≢false, false≢true}
+use mathlib.Core.Path.{◌≡◌, ap, ◌∙◌}
 use mathlib.Core.List.{List}
 use Prim.Native.Nat.{ℕ, ◌+◌, ◌-◌, ◌<◌, ◌≤◌, min}
 use native.Mathlib.Omega.{arith}
@@ -40,14 +39,3 @@ lent_part l at n =
 pub lent_slot : (g : Geometry) (v : List ℕ) (i at : ℕ) → at ≡ slot_start g i → take (at + 32 - at) (drop at v) ≡ slot_at g v i
 unfolding slot_at
 lent_slot g v i at e = lent_part v at 32 ∙ ap (λ (a : ℕ). part v a 32) e
-
--- "and" in the order in which code asks: the user and the group first, then the name
-pub group_passes : (user name group : Bool) → (user && group) ≡ true → name ≡ ((user && name) && group)
-group_passes true name true e = sym (and-true name)
-group_passes true name false e = absurd (false≢true e)
-group_passes false name group e = absurd (false≢true e)
-
-pub group_fails : (user name group : Bool) → (user && group) ≡ false → false ≡ ((user && name) && group)
-group_fails true name true e = absurd (true≢false e)
-group_fails true name false e = sym (and-false name)
-group_fails false name group e = refl

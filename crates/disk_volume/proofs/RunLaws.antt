@@ -19,14 +19,6 @@ use Rattle.disk_volume.specs.declared.Wanted.{Wanted}
 use Rattle.disk_volume.specs.Directory.{fits, slot_fits, slot_at, find_from}
 use Rattle.disk_volume.specs.CodeRun.{run_entries, run_fits, find_in}
 
--- of whole entries, those that are passed are not all: there is one more
-pub one_more : (at end : ℕ) → at ≤ end → at % 32 ≡ 0 → end % 32 ≡ 0 → at ≢ end → at + 32 ≤ end
-one_more at end low whole all ne = go (ltb at end) refl
-  where
-    go : (t : Bool) → ltb at end ≡ t → at + 32 ≤ end
-    go true e = omega (arith, ltb-true at end e)
-    go false e = absurd (ne (omega (arith, ltb-false at end e)))
-
 whole_run : (v : List ℕ) (n m : ℕ) → n ≡ m → take (n * 32 - 0) (drop 0 v) ≡ part v 0 (m * 32)
 unfolding part
 whole_run v n m e = let z : n * 32 - 0 ≡ m * 32 = omega arith in rw z

@@ -23,6 +23,6 @@ returns c =
     let z : at.result + 128 - at.result ≡ 128 = omega arith in
     let stored = one_store a.g a.volume.now a.q a.sector.now a.left.now c.if-left-eq0.false in
     record {
-      volume_after = rw (c.copy.ensures, z, at.ensures.0) stored;
+      volume_after = rw (c.copy_from_slice.ensures.after, z, at.ensures.0) stored;
       left_after = search rules;
     }
