@@ -14,27 +14,17 @@ use Rattle.disk_volume.specs.Entry.{block_in}
 use Rattle.disk_geometry.specs.Geometry.{places}
 use Rattle.disk_volume.specs.Directory.{slot_at}
 use Rattle.disk_volume.proofs.EntryLaws.{lent_slot}
-use Rattle.disk_held.specs.Held.{held_words, hold, words_of}
+use Rattle.disk_held.specs.Held.{hold}
 use Rattle.disk_held.proofs.WordsLaws.{length_words}
 use Rattle.disk_maps.proofs.HeldLaws.{no_places, zero_place, zero_good, block_place, place_test}
 use Rattle.disk_maps.proofs.take_map.Goals as goal
 use Rattle.disk_maps.proofs.take_map.Goals.{then-b-ne0+else-not-take_block, else-b-ne0}
 
--- words of a set are as many as a state has
-all_words : (held : List ℕ) (p : ℕ → Bool) → held ≡ words_of p → length held ≡ held_words
-all_words held p e = ap length e ∙ length_words p
-
 pub loop-p-init : goal.loop-p-init
 loop-p-init c = (c.requires.i_bound.1 ∙ no_places _ _ _, passed_start)
 
 pub take_block-requires : goal.take_block-requires
-take_block-requires c = (c.requires.volume.0, all_words _ _ c.loop-p.invariant.0)
-
-pub shape_of-held-then-not-take_block : goal.shape_of-held-then-not-take_block
-shape_of-held-then-not-take_block c =
-    let k : length c.loop-p.held ≡ held_words = all_words _ _ c.loop-p.invariant.0 in
-    let e : length c.args.held.now ≡ held_words = all_words _ _ c.requires.i_bound.1 in
-    search rules
+take_block-requires c = (search rules, ap length c.loop-p.invariant.0 ∙ length_words _)
 
 pub returns-then-not-take_block : goal.returns-then-not-take_block
 returns-then-not-take_block c =
@@ -75,9 +65,6 @@ loop-p-preserved c =
           let z = sym e ∙ w.if-b-ne0.false in
           (w.held-is ∙ l.invariant.0 ∙ zero_place a.g a.volume.now a.i l.p law z, passed_next l.invariant.1 (search rules) (zero_good a.g a.volume.now a.i l.p z))
     ]
-
-pub shape_of-held : goal.shape_of-held
-shape_of-held c = all_words _ _ c.loop-p.invariant.0 ∙ sym (all_words _ _ c.requires.i_bound.1)
 
 pub returns : goal.returns
 returns c =
