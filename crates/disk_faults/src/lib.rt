@@ -78,8 +78,7 @@ fn map_rule_has_other(rule: MapRule) -> bool
     ensures { result ≡ map_rule_has_other rule }
 {
     match rule {
-        MapRule::Outside => false,
-        MapRule::Twice => false,
+        MapRule::Outside | MapRule::Twice => false,
         MapRule::Lower => true,
     }
 }
@@ -89,14 +88,14 @@ pub fn has_other(rule: Rule) -> bool
     ensures { result ≡ has_other rule }
 {
     match rule {
-        Rule::None => false,
-        Rule::UserByte => false,
-        Rule::NameByte => false,
-        Rule::TopBit => false,
-        Rule::ExByte => false,
-        Rule::S1Byte => false,
-        Rule::S2Byte => false,
-        Rule::RcByte => false,
+        Rule::None
+        | Rule::UserByte
+        | Rule::NameByte
+        | Rule::TopBit
+        | Rule::ExByte
+        | Rule::S1Byte
+        | Rule::S2Byte
+        | Rule::RcByte => false,
         Rule::Map(broken) => map_rule_has_other(broken),
         Rule::Twin => true,
     }
@@ -130,12 +129,10 @@ fn in_places(g: Geometry, e: &[u8], k: usize, b: usize) -> bool
     requires { (k ≤ places g) × IsEntry e.now }
     ensures { result ≡ in_places g e.now k b }
 {
-    let mut p = 0;
-    while p < k {
+    for p in 0..k {
         if entry::block_in(g, e, p) == b {
             return true;
         }
-        p += 1;
     }
     false
 }
@@ -168,15 +165,13 @@ fn slot_of(g: Geometry, volume: &[u8], i: usize, b: usize) -> usize
     requires { IsVolume g volume.now × (i ≤ slots g) }
     ensures { result ≡ slot_of g volume.now i b }
 {
-    let mut j = 0;
-    while j < i {
+    for j in 0..i {
         let at = g.slot_start(j);
         if names_block(g, &volume[at..at + Geometry::ENTRY_BYTES], b) {
             return j;
         }
-        j += 1;
     }
-    j
+    i
 }
 
 // Does place p of the entry e in slot i break the rule?
@@ -201,14 +196,12 @@ fn place_of(g: Geometry, volume: &[u8], i: usize, e: &[u8], rule: MapRule) -> us
     ensures { result ≡ place_of g volume.now i rule }
 {
     let n = g.places();
-    let mut p = 0;
-    while p < n {
+    for p in 0..n {
         if is_broken(g, volume, i, e, rule, p) {
             return p;
         }
-        p += 1;
     }
-    p
+    n
 }
 
 // The other slot where the map's rule has one.
@@ -217,8 +210,7 @@ fn other_slot(g: Geometry, volume: &[u8], i: usize, rule: MapRule, b: usize) -> 
     ensures { result ≡ other_slot g volume.now i rule b }
 {
     match rule {
-        MapRule::Outside => 0,
-        MapRule::Twice => 0,
+        MapRule::Outside | MapRule::Twice => 0,
         MapRule::Lower => slot_of(g, volume, i, b),
     }
 }

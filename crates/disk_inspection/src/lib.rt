@@ -51,14 +51,12 @@ fn look(g: Geometry, volume: &[u8], held: &mut [u64]) -> usize
 {
     let n = g.slots();
     let mut marks = [0u64; disk_marks::WORDS];
-    let mut i = 0;
-    while i < n {
+    for i in 0..n {
         if !take_slot(g, volume, i, held, &mut marks) {
             return i;
         }
-        i += 1;
     }
-    i
+    n
 }
 
 // The lowest bad slot; where none is bad, the words hold the blocks that the entries name, and the others are counted.

@@ -36,16 +36,13 @@ pub fn take_map(g: Geometry, volume: &[u8], i: usize, held: &mut [u64]) -> bool
     ensures held_after { result ≡ true → held.new ≡ words_of (held_up_to g volume.now i (places g)) }
 {
     let at = g.slot_start(i);
-    let n = g.places();
-    let mut p = 0;
-    while p < n {
+    for p in 0..g.places() {
         let b = entry::block_in(g, &volume[at..at + Geometry::ENTRY_BYTES], p);
         if b != 0 {
             if !take_block(g, held, b) {
                 return false;
             }
         }
-        p += 1;
     }
     true
 }

@@ -23,11 +23,9 @@ fn mark_of(user: u8, name: &[u8], k: usize) -> usize
     requires { IsName name.now }
     ensures { (result ≡ mark_of user (strip name.now) k) × (result < MARKS) }
 {
-    let mut mark = (lists::wide(user) + 16 * (k % 1024)) % MARKS;
-    let mut p = 0;
-    while p < fields::NAME_BYTES {
-        mark = (5003 * mark + lists::wide(name[p] % names::TOP_BIT)) % MARKS;
-        p += 1;
+    let mut mark = (usize::from(user) + 16 * (k % 1024)) % MARKS;
+    for b in name {
+        mark = (5003 * mark + usize::from(*b % names::TOP_BIT)) % MARKS;
     }
     mark
 }
@@ -38,8 +36,7 @@ fn is_in_lower(g: Geometry, volume: &[u8], n: usize, user: u8, name: &[u8], k: u
     requires n_bound { (n ≤ slots g) × IsName name.now }
     ensures { result ≡ group_below g volume.now n user (strip name.now) k }
 {
-    let mut j = 0;
-    while j < n {
+    for j in 0..n {
         let at = g.slot_start(j);
         if entry::has(
             g,
@@ -50,7 +47,6 @@ fn is_in_lower(g: Geometry, volume: &[u8], n: usize, user: u8, name: &[u8], k: u
         ) {
             return true;
         }
-        j += 1;
     }
     false
 }

@@ -24,15 +24,13 @@ pub fn good_top_bits(e: &[u8]) -> bool
     requires { IsEntry e.now }
     ensures { result ≡ good_top_bits e.now }
 {
-    let mut k = 0;
-    while k < fields::NAME_BYTES {
+    for k in 0..fields::NAME_BYTES {
         if !((e[fields::NAME + k] < names::TOP_BIT)
             | (k == fields::NAME_T1)
             | (k == fields::NAME_T2))
         {
             return false;
         }
-        k += 1;
     }
     true
 }
@@ -42,11 +40,7 @@ pub fn good_entry(e: &[u8]) -> bool
     requires { IsEntry e.now }
     ensures { result ≡ good_entry e.now }
 {
-    if !good_fields(e) {
-        return false;
-    }
-    if !names::good_name(false, &e[fields::NAME..fields::NAME_END]) {
-        return false;
-    }
-    good_top_bits(e)
+    good_fields(e)
+        && names::good_name(false, &e[fields::NAME..fields::NAME_END])
+        && good_top_bits(e)
 }

@@ -1,11 +1,7 @@
 -- No place passed so far breaks the rule, so what is still to be searched gives the whole.
 use Rattle.disk_faults.specs.Faults.{breaks_at}
 use Rattle.lists.proofs.BoundedLaws.{Searched}
-use Prim.Native.Nat.{◌≤◌, ◌-◌}
 use Rattle.disk_faults.proofs.place_of.Given as goal
 
 abbrev pub invariant-loop-p : goal.invariant-loop-p
-invariant-loop-p l = (l.p ≤ l.n) × Searched (breaks_at l.g l.volume l.i l.rule) 0 l.n l.p
-
-abbrev pub decreases-loop-p : goal.decreases-loop-p
-decreases-loop-p l = l.n - l.p
+invariant-loop-p l = Searched (breaks_at l.g l.volume l.i l.rule) 0 l.n l.p

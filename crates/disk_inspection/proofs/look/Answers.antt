@@ -1,15 +1,13 @@
 -- The slots passed so far are good, exactly the blocks that they name are held, and their marks are set.
 use mathlib.Core.Path.{◌≡◌, sym, ap, ◌∙◌}
-use mathlib.Core.Bool.{true, not}
-use Prim.Native.Nat.{ℕ, ◌-◌}
+use mathlib.Core.Bool.{not}
+use Prim.Native.Nat.{ℕ}
 use native.Mathlib.Omega.{arith}
 use borrow.Author.Rules.{rules}
 use borrow.Author.Tests.{not-false}
-use lib.ListN.{length}
 use Rattle.lists.proofs.BoundedLaws.{searched_start, searched_next, searched_hit, searched_none, from_zero}
 use Rattle.disk_geometry.specs.Geometry.{slots}
-use Rattle.disk_held.specs.Held.{held_words, words_of}
-use Rattle.disk_held.proofs.WordsLaws.{length_words}
+use Rattle.disk_held.specs.Held.{words_of}
 use Rattle.disk_rules.specs.GoodSlot.{lowest_bad}
 use Rattle.disk_maps.specs.CodeHeldBelow.{held_below}
 use Rattle.disk_maps.proofs.HeldLaws.{no_slots, all_slots}
@@ -18,16 +16,10 @@ use Rattle.disk_inspection.proofs.look.Invariants.{bad}
 use Rattle.disk_inspection.proofs.look.Goals as goal
 
 pub loop-i-init : goal.loop-i-init
-loop-i-init c = record { low = search rules; good = searched_start; blocks = c.requires.held_value ∙ no_slots _ _; long = search rules; seen = none_marked _ _ _ }
+loop-i-init c = record { good = searched_start; words = c.requires.held_value ∙ no_slots _ _; seen = none_marked _ _ _ }
 
 pub take_slot-requires : goal.take_slot-requires
-take_slot-requires c = let s = c.loop-i.invariant in record { volume = search rules; i_bound = (search rules, s.blocks); marked = (s.long, s.seen) }
-
-pub shape_of-held-then-not-take_slot : goal.shape_of-held-then-not-take_slot
-shape_of-held-then-not-take_slot c =
-    let k : length c.loop-i.held ≡ held_words = ap length c.loop-i.invariant.blocks ∙ length_words _ in
-    let e : length c.args.held.now ≡ held_words = ap length c.requires.held_value in
-    search rules
+take_slot-requires c = let s = c.loop-i.invariant in record { volume = search rules; i_bound = (search rules, s.words); marked = (search rules, s.seen) }
 
 pub returns-then-not-take_slot : goal.returns-then-not-take_slot
 unfolding lowest_bad
@@ -47,17 +39,10 @@ loop-i-preserved c =
     let s = c.take_slot in
     let good = not-false s.result (ap not c.if-not-take_slot.false) in
     record {
-      low = search rules;
       good = searched_next l.invariant.good (search rules) (ap not (sym s.ensures.value ∙ good));
-      blocks = s.ensures.held_after good;
-      long = search rules;
+      words = s.ensures.held_after good;
       seen = s.ensures.i_after good;
     }
-
-pub shape_of-held : goal.shape_of-held
-shape_of-held c =
-    let e : length c.args.held.now ≡ held_words = ap length c.requires.held_value in
-    ap length c.loop-i.invariant.blocks ∙ length_words _ ∙ sym e
 
 pub returns : goal.returns
 unfolding lowest_bad
@@ -65,8 +50,9 @@ returns c =
     let a = c.args in
     let l = c.loop-i in
     let z : l.i ≡ slots a.g = omega arith in
-    let e = sym (searched_none l.invariant.good (search rules)) ∙ from_zero (bad a.g a.volume.now) (slots a.g) in
+    let y : c.slots-n.result ≡ l.i = omega arith in
+    let e = y ∙ sym (searched_none l.invariant.good (search rules)) ∙ from_zero (bad a.g a.volume.now) (slots a.g) in
     record {
       value = (e, search rules);
-      held_after = λ h. l.invariant.blocks ∙ ap (λ (x : ℕ). words_of (held_below a.g a.volume.now x)) z ∙ all_slots a.g a.volume.now;
+      held_after = λ h. l.invariant.words ∙ ap (λ (x : ℕ). words_of (held_below a.g a.volume.now x)) z ∙ all_slots a.g a.volume.now;
     }

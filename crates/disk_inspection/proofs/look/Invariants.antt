@@ -2,8 +2,7 @@
 use mathlib.Core.Path.{◌≡◌}
 use mathlib.Core.Bool.{Bool, true, not}
 use mathlib.Core.List.{List}
-use Prim.Native.Nat.{ℕ, ◌≤◌, ◌-◌}
-use lib.ListN.{length}
+use Prim.Native.Nat.{ℕ}
 use Rattle.lists.proofs.BoundedLaws.{Searched}
 use Rattle.disk_geometry.specs.declared.Geometry.{Geometry}
 use Rattle.disk_geometry.specs.Geometry.{slots}
@@ -17,14 +16,9 @@ abbrev pub bad : Geometry → List ℕ → ℕ → Bool
 bad g volume j = not (good_slot g volume j)
 
 pub record SoFar (g : Geometry) (volume held marks : List ℕ) (i : ℕ) : Type 0 where
-  pub low : i ≤ slots g
   pub good : Searched (bad g volume) 0 (slots g) i
-  pub blocks : held ≡ words_of (held_below g volume i)
-  pub long : length marks ≡ 1024
+  pub words : held ≡ words_of (held_below g volume i)
   pub seen : all_marked g volume marks i ≡ true
 
 abbrev pub invariant-loop-i : goal.invariant-loop-i
 invariant-loop-i l = SoFar l.g l.volume l.held l.marks l.i
-
-abbrev pub decreases-loop-i : goal.decreases-loop-i
-decreases-loop-i l = l.n - l.i

@@ -1,7 +1,7 @@
 -- None of the slots passed so far has the group, so what is still to be asked gives the whole.
 use mathlib.Core.Bool.{Bool}
 use mathlib.Core.List.{List}
-use Prim.Native.Nat.{ℕ, ◌≤◌, ◌-◌}
+use Prim.Native.Nat.{ℕ}
 use Rattle.disk_geometry.specs.declared.Geometry.{Geometry}
 use Rattle.disk_volume.specs.Name.{strip}
 use Rattle.disk_volume.specs.Entry.{of_group}
@@ -14,7 +14,4 @@ abbrev pub group_at : Geometry → List ℕ → ℕ → List ℕ → ℕ → ℕ
 group_at g volume user name k j = of_group g user (strip name) k (slot_at g volume j)
 
 abbrev pub invariant-loop-j : goal.invariant-loop-j
-invariant-loop-j l = (l.j ≤ l.n) × AnySoFar (group_at l.g l.volume l.user l.name l.k) l.n l.j
-
-abbrev pub decreases-loop-j : goal.decreases-loop-j
-decreases-loop-j l = l.n - l.j
+invariant-loop-j l = AnySoFar (group_at l.g l.volume l.user l.name l.k) l.n l.j

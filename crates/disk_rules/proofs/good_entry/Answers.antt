@@ -1,18 +1,21 @@
 -- Fields, name and top bits: the definition's three tests in its order.
-use mathlib.Core.Bool.{and-false}
+use mathlib.Core.Bool.{false≢true}
+use mathlib.Core.Path.{sym, ◌∙◌}
 use Rattle.lists.specs.Bytes.{part}
 use Rattle.disk_volume.specs.Name.{name_at}
 use Rattle.disk_rules.proofs.good_entry.Goals as goal
+use Rattle.disk_rules.proofs.good_entry.Goals.{then-good_fields, else-good_fields}
 
-pub returns-then-not-good_fields : goal.returns-then-not-good_fields
-returns-then-not-good_fields c = rw (← c.good_fields.ensures, c.if-not-good_fields.true)
-
-pub returns-then-not-good_name : goal.returns-then-not-good_name
+pub returns-then-good_name : goal.returns-then-good_name
 unfolding name_at part
-returns-then-not-good_name c = rw (← c.good_name.ensures, c.if-not-good_name.true, and-false)
+returns-then-good_name c = elim c.if-good_fields.branch [
+  | then-good_fields w ↦ rw (← c.good_fields.ensures, w.if-good_fields.true, ← w.good_name.ensures, ← w.value-is, c.if-good_name.true) c.good_top_bits.ensures
+  | else-good_fields w ↦ absurd (false≢true (sym w.if-good_fields.false ∙ sym w.value-is ∙ c.if-good_name.true))
+]
 
-pub returns : goal.returns
+pub returns-else-good_name : goal.returns-else-good_name
 unfolding name_at part
-returns c =
-    rw (← c.good_name.ensures, c.if-not-good_name.false, ← c.good_fields.ensures, c.if-not-good_fields.false)
-    c.good_top_bits.ensures
+returns-else-good_name c = elim c.if-good_fields.branch [
+  | then-good_fields w ↦ rw (← c.good_fields.ensures, w.if-good_fields.true, ← w.good_name.ensures, ← w.value-is, c.if-good_name.false)
+  | else-good_fields w ↦ rw (w.value-is, ← c.good_fields.ensures, w.if-good_fields.false)
+]
