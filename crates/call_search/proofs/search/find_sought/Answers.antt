@@ -12,4 +12,4 @@ pub returns-then-ex-eq-WILDCARD : goal.returns-then-ex-eq-WILDCARD
 returns-then-ex-eq-WILDCARD c = (rw (c.in-Pattern.is, eq-eqb c.args.ex 63 c.if-ex-eq-WILDCARD.true) c.find_from-then-ex-eq-WILDCARD.ensures.0, c.find_from-then-ex-eq-WILDCARD.ensures.1)
 
 pub returns-else-ex-eq-WILDCARD : goal.returns-else-ex-eq-WILDCARD
-returns-else-ex-eq-WILDCARD c = (rw (c.in-Pattern.is, ne_eqb c.args.ex 63 c.if-ex-eq-WILDCARD.false, ← c.wide.ensures.0, ← c.group-k.ensures) c.find_from-else-ex-eq-WILDCARD.ensures.0, c.find_from-else-ex-eq-WILDCARD.ensures.1)
+returns-else-ex-eq-WILDCARD c = (rw (c.in-Pattern.is, ne_eqb c.args.ex 63 c.if-ex-eq-WILDCARD.false, ← c.from.ensures, ← c.group-k.ensures) c.find_from-else-ex-eq-WILDCARD.ensures.0, c.find_from-else-ex-eq-WILDCARD.ensures.1)

@@ -15,7 +15,7 @@ returns-then-slot-n c =
     let z : at.result + 128 - at.result ≡ 128 = omega arith in
     record {
       value = c.hit_from-slot.ensures;
-      buffer_after = rw (lt-ltb c.hit_from-slot.result (slots c.args.g) (omega arith), ← at.ensures.0) (rw z at c.copy.ensures);
+      buffer_after = rw (lt-ltb c.hit_from-slot.result (slots c.args.g) (omega arith), ← at.ensures.0) (rw z at c.copy_from_slice.ensures.after);
     }
 
 pub returns-else-slot-n : goal.returns-else-slot-n
