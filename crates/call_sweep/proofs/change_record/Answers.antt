@@ -24,6 +24,6 @@ returns c =
     let z : at.result + 128 - at.result ≡ 128 = omega arith in
     let o = c.store_record in
     record {
-      volume_after = o.ensures.volume_after ∙ rw (c.change_four.ensures, c.copy.ensures, z, at.ensures.0);
+      volume_after = o.ensures.volume_after ∙ rw (c.change_four.ensures, c.copy_from_slice.ensures.after, z, at.ensures.0);
       left_after = o.ensures.left_after;
     }
