@@ -1,8 +1,6 @@
 -- Each piece passed is changed, so what is still to be changed gives the whole.
 use mathlib.Core.Path.{sym}
 use Rattle.call_sweep.proofs.EditLaws.{lent_piece}
-use native.Mathlib.Omega.{arith}
-use lib.ListN.{length-take, length-drop}
 use borrow.Author.Rules.{rules}
 use Rattle.lists.proofs.FoldLaws.{folded_start, folded_next, folded_end}
 use Rattle.call_sweep.specs.CodeEdit.{lent_change}
@@ -10,13 +8,6 @@ use Rattle.call_sweep.proofs.change_four.Goals as goal
 
 pub loop-k-init : goal.loop-k-init
 loop-k-init c = folded_start
-
-pub change_one-requires : goal.change_one-requires
-change_one-requires c =
-    record {
-      g_value = (search rules, simp (length-take, length-drop) (omega arith));
-      name = search rules;
-    }
 
 pub loop-k-preserved : goal.loop-k-preserved
 loop-k-preserved c =

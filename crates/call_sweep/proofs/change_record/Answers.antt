@@ -10,12 +10,8 @@ use Rattle.call_sweep.proofs.change_record.Goals as goal
 pub start-at-requires : goal.start-at-requires
 start-at-requires c = (c.requires.volume_and.0, omega (arith, bounds c.args.g c.requires.volume_and.0))
 
-pub store_record-requires : goal.store_record-requires
-store_record-requires c =
-    record {
-      volume = (c.requires.volume_and.0, c.requires.volume_and.1.0);
-      q_bound = (omega (arith, bounds c.args.g c.requires.volume_and.0), search rules);
-    }
+pub store_record-requires-clause-q_bound : goal.store_record-requires-clause-q_bound
+store_record-requires-clause-q_bound c = (omega (arith, bounds c.args.g c.requires.volume_and.0), search rules)
 
 pub returns : goal.returns
 unfolding part
