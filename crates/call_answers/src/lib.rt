@@ -50,7 +50,7 @@ pub enum Answer {
 pub fn is_none(why: Refusal) -> bool
     ensures { result ≡ is_none why }
 {
-    refusal_number(why) == 0
+    matches!(why, Refusal::None)
 }
 
 // One test of a ladder: answers the refusal where the test is met, None where it is not.

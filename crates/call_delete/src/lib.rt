@@ -57,11 +57,8 @@ fn free_entry(g: Geometry, e: &[u8], held: &mut [u64])
     requires entry { IsEntry e.now }
     ensures { held.new ≡ free_entry g e.now held.old }
 {
-    let n = g.places();
-    let mut p = 0;
-    while p < n {
+    for p in 0..g.places() {
         free_place(g, e, held, p);
-        p += 1;
     }
 }
 
@@ -111,6 +108,7 @@ fn free_matches(
 {
     let slots = g.slots();
     let mut i = first;
+    // No count: from each match it jumps to the next.
     while i < slots {
         free_slot(g, volume, user, pattern, held, i);
         i = match_from(g, volume, i + 1, user, pattern);

@@ -19,9 +19,9 @@ pub fn base_entry(g: Geometry, volume: &[u8], own: usize, from: usize, e: &mut [
     ensures { e.new ≡ base_of g volume.now own from }
 {
     let at = g.slot_start(from);
-    lists::copy(e, &volume[at..at + Geometry::ENTRY_BYTES]);
+    e.copy_from_slice(&volume[at..at + Geometry::ENTRY_BYTES]);
     if g.slots() <= own {
-        lists::fill(&mut e[fields::EX..Geometry::ENTRY_BYTES], 0);
+        e[fields::EX..Geometry::ENTRY_BYTES].fill(0);
     }
 }
 
@@ -59,9 +59,7 @@ fn nearest_below(g: Geometry, e: &[u8], p: usize) -> usize
     requires { (p < places g) × IsEntry e.now }
     ensures { result ≡ nearest_below g e.now p }
 {
-    let mut q = p;
-    while 0 < q {
-        q -= 1;
+    for q in (0..p).rev() {
         let b = entry::block_in(g, e, q);
         if b != 0 {
             return b;

@@ -34,7 +34,7 @@ pub fn position_of(fcb: &[u8]) -> usize
     requires { IsFcb fcb.now }
     ensures { (result ≡ position fcb.now) × (result < 1100000) }
 {
-    Geometry::EXTENT_RECORDS * disk_volume::entry::extent_of(fcb) + lists::wide(fcb[CR])
+    Geometry::EXTENT_RECORDS * disk_volume::entry::extent_of(fcb) + usize::from(fcb[CR])
 }
 
 // Answers the record that a random call means.
@@ -42,7 +42,7 @@ pub fn random_of(fcb: &[u8]) -> usize
     requires { IsFcb fcb.now }
     ensures { (result ≡ random fcb.now) × (result < file_records) }
 {
-    lists::wide(fcb[R0]) + 256 * lists::wide(fcb[R1])
+    usize::from(u16::from_le_bytes([fcb[R0], fcb[R1]]))
 }
 
 // Sets the control block to record n of the entry e, with this cr.
@@ -56,7 +56,7 @@ pub fn set_to(fcb: &mut [u8], e: &[u8], n: usize, cr: u8)
     fcb[S2] = (extent / 32) as u8;
     fcb[RC] = count;
     fcb[CR] = cr;
-    lists::copy(&mut fcb[MAP..MAP_END], &e[MAP..MAP_END]);
+    fcb[MAP..MAP_END].copy_from_slice(&e[MAP..MAP_END]);
 }
 
 // Shows the entry e in the control block, as open does.
@@ -64,12 +64,12 @@ pub fn set_open(fcb: &mut [u8], e: &[u8])
     requires { IsFcb fcb.old × IsEntry e.now }
     ensures { fcb.new ≡ opened fcb.old e.now }
 {
-    let count = disk_volume::entry::count_of(e, lists::wide(fcb[EX]));
+    let count = disk_volume::entry::count_of(e, usize::from(fcb[EX]));
     fcb[S1] = 0;
     fcb[S2] = 0;
     fcb[RC] = count;
-    lists::copy(&mut fcb[NAME..NAME_END], &e[NAME..NAME_END]);
-    lists::copy(&mut fcb[MAP..MAP_END], &e[MAP..MAP_END]);
+    fcb[NAME..NAME_END].copy_from_slice(&e[NAME..NAME_END]);
+    fcb[MAP..MAP_END].copy_from_slice(&e[MAP..MAP_END]);
 }
 
 // Lays a made file's name into the control block, and clears what follows it up to the map's end.
@@ -77,8 +77,8 @@ pub fn set_made(fcb: &mut [u8], name: &[u8])
     requires { IsFcb fcb.old × IsName name.now }
     ensures { fcb.new ≡ made fcb.old name.now }
 {
-    lists::copy(&mut fcb[NAME..NAME_END], name);
-    lists::fill(&mut fcb[EX..MAP_END], 0);
+    fcb[NAME..NAME_END].copy_from_slice(name);
+    fcb[EX..MAP_END].fill(0);
 }
 
 // Lays a number into r0 r1 r2, low byte first.
@@ -86,7 +86,8 @@ pub fn set_random(fcb: &mut [u8], n: usize)
     requires { IsFcb fcb.old × (n < 16777216) }
     ensures { fcb.new ≡ with_random fcb.old n }
 {
-    fcb[R0] = (n % 256) as u8;
-    fcb[R1] = (n / 256 % 256) as u8;
-    fcb[R2] = (n / 65536) as u8;
+    let [low, middle, high, ..] = n.to_le_bytes();
+    fcb[R0] = low;
+    fcb[R1] = middle;
+    fcb[R2] = high;
 }

@@ -93,8 +93,7 @@ pub fn make_file(
     let mut name = [0u8; fields::NAME_BYTES];
     call_sweep::lay_name(&mut name, &fcb[fields::NAME..fields::NAME_END]);
     let plan = make_why(g, volume, user, &name, before);
-    let why = plan.why;
-    if call_answers::is_none(why) {
+    if call_answers::is_none(plan.why) {
         let e = fresh_entry(user, &name);
         disk_stores::put_slot(g, volume, plan.slot, &e, left);
         call_fcb::set_made(fcb, &name);

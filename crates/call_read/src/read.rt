@@ -27,7 +27,7 @@ pub fn is_counted(g: Geometry, e: &[u8], n: usize) -> bool
     requires { (lawful g ≡ true) × IsEntry e.now }
     ensures { result ≡ counted g e.now n }
 {
-    let count = lists::wide(disk_volume::entry::count_of(e, n / Geometry::EXTENT_RECORDS));
+    let count = usize::from(disk_volume::entry::count_of(e, n / Geometry::EXTENT_RECORDS));
     let block = disk_volume::entry::block_in(g, e, g.place(n));
     (n % Geometry::EXTENT_RECORDS < count) & (block != 0)
 }
@@ -88,7 +88,7 @@ fn act(
     ensures buffer_after { buffer.new ≡ record_at g volume.now block n }
 {
     let at = g.record_start(block, n);
-    lists::copy(buffer, &volume[at..at + Geometry::RECORD_BYTES]);
+    buffer.copy_from_slice(&volume[at..at + Geometry::RECORD_BYTES]);
     let from = g.slot_start(slot);
     call_fcb::set_to(fcb, &volume[from..from + Geometry::ENTRY_BYTES], n, cr);
 }

@@ -31,7 +31,7 @@ pub fn pattern_of(fcb: &[u8]) -> [u8; PATTERN_BYTES]
     ensures { result ≡ pattern_of fcb.now }
 {
     let mut pattern = [0u8; PATTERN_BYTES];
-    lists::copy(&mut pattern, &fcb[NAME..S1]);
+    pattern.copy_from_slice(&fcb[NAME..S1]);
     pattern
 }
 
@@ -56,7 +56,7 @@ fn find_sought(
         SearchKind::Pattern => if ex == WILDCARD {
             find_from(g, volume, from, user, name, Wanted::Match)
         } else {
-            let k = g.group(lists::wide(ex));
+            let k = g.group(usize::from(ex));
             find_from(g, volume, from, user, name, Wanted::MatchGroup(k))
         },
     }
@@ -97,7 +97,7 @@ pub fn search_from(
     let n = g.slots();
     if slot < n {
         let at = g.slot_record(slot);
-        lists::copy(buffer, &volume[at..at + Geometry::RECORD_BYTES]);
+        buffer.copy_from_slice(&volume[at..at + Geometry::RECORD_BYTES]);
     }
     slot
 }

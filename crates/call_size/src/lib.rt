@@ -22,7 +22,7 @@ fn entry_end(e: &[u8]) -> usize
     ensures { (result ≡ entry_end e.now) × (result < end_bound) }
 {
     let own = disk_volume::entry::extent_of(e);
-    Geometry::EXTENT_RECORDS * own + lists::wide(disk_volume::entry::count_of(e, own))
+    Geometry::EXTENT_RECORDS * own + usize::from(disk_volume::entry::count_of(e, own))
 }
 
 // The larger of m and the end by the entry in slot i.
@@ -33,7 +33,7 @@ fn larger_at(g: Geometry, volume: &[u8], m: usize, i: usize) -> usize
 {
     let at = g.slot_start(i);
     let end = entry_end(&volume[at..at + Geometry::ENTRY_BYTES]);
-    if m < end { end } else { m }
+    m.max(end)
 }
 
 // The larger of m and what slot i says of the file.
@@ -72,10 +72,8 @@ fn size_by_slots(g: Geometry, volume: &[u8], user: u8, name: &[u8], first: usize
 {
     let n = g.slots();
     let mut m = 0;
-    let mut i = first;
-    while i < n {
+    for i in first..n {
         m = larger_of(g, volume, user, name, m, i);
-        i += 1;
     }
     m
 }
@@ -89,6 +87,7 @@ fn size_by_entries(g: Geometry, volume: &[u8], user: u8, name: &[u8], first: usi
     let n = g.slots();
     let mut m = 0;
     let mut i = first;
+    // No count: from each entry of the file it jumps to the next.
     while i < n {
         m = larger_at(g, volume, m, i);
         i = entry_from(g, volume, i + 1, user, name);

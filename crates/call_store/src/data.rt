@@ -65,10 +65,8 @@ fn fill_block(
     ensures left_after { left.new ≡ left.old - length (record_stores g true block n buffer.now) }
 {
     let records = g.records();
-    let mut k = 0;
-    while k < records {
+    for k in 0..records {
         fill_record(g, volume, block, n, buffer, k, left);
-        k += 1;
     }
 }
 

@@ -29,10 +29,8 @@ pub fn lay_name(dst: &mut [u8], name: &[u8])
     requires { length dst.old ≡ length name.now }
     ensures { dst.new ≡ strip name.now }
 {
-    let mut i = 0;
-    while i < name.len() {
-        dst[i] = name[i] % names::TOP_BIT;
-        i += 1;
+    for (i, x) in name.iter().enumerate() {
+        dst[i] = *x % names::TOP_BIT;
     }
 }
 
@@ -110,8 +108,7 @@ fn change_four(g: Geometry, sector: &mut [u8], user: u8, name: &[u8], new: &[u8]
     ensures { sector.new
         ≡ map_pieces (lent_change g edit user name.now new.now) sector.old }
 {
-    let mut k = 0;
-    while k < Geometry::RECORD_SLOTS {
+    for k in 0..Geometry::RECORD_SLOTS {
         let at = k * Geometry::ENTRY_BYTES;
         change_one(
             g,
@@ -121,7 +118,6 @@ fn change_four(g: Geometry, sector: &mut [u8], user: u8, name: &[u8], new: &[u8]
             new,
             edit,
         );
-        k += 1;
     }
 }
 
@@ -148,7 +144,7 @@ fn change_record(
 {
     let at = g.start(r);
     let mut sector = [0u8; Geometry::RECORD_BYTES];
-    lists::copy(&mut sector, &volume[at..at + Geometry::RECORD_BYTES]);
+    sector.copy_from_slice(&volume[at..at + Geometry::RECORD_BYTES]);
     change_four(g, &mut sector, user, name, new, edit);
     disk_stores::store_record(g, volume, r, &sector, left);
 }
@@ -191,6 +187,7 @@ pub fn change_most(
 {
     let slots = g.slots();
     let mut i = first;
+    // No count: from the record of each meant entry it jumps to the next meant entry behind it.
     while i < slots {
         let r = i / Geometry::RECORD_SLOTS;
         change_record(g, volume, r, user, name, new, edit, left);

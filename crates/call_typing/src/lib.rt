@@ -36,26 +36,17 @@ fn typeable_bytes(name: &[u8]) -> bool
     requires { IsName name.now }
     ensures { result ≡ all typeable_byte (strip name.now) }
 {
-    let mut k = 0;
-    while k < NAME_BYTES {
-        if !typeable_byte(name[k] % TOP_BIT) {
-            return false;
-        }
-        k += 1;
-    }
-    true
+    name.iter().all(|x| typeable_byte(*x % TOP_BIT))
 }
 
 // Do none but blanks follow a blank? It is enough to look at the byte behind each.
 fn blanks_last(field: &[u8]) -> bool
     ensures { result ≡ not (blank_before (strip field.now)) }
 {
-    let mut k = 1;
-    while k < field.len() {
+    for k in 1..field.len() {
         if (field[k - 1] % TOP_BIT == BLANK) & (field[k] % TOP_BIT != BLANK) {
             return false;
         }
-        k += 1;
     }
     true
 }

@@ -16,7 +16,7 @@ fn fetch(g: Geometry, volume: &[u8], e: &[u8], n: usize, block: usize, buffer: &
         return;
     }
     let at = g.record_start(block, n);
-    lists::copy(buffer, &volume[at..at + Geometry::RECORD_BYTES]);
+    buffer.copy_from_slice(&volume[at..at + Geometry::RECORD_BYTES]);
 }
 
 // Lays two bytes into a record.
@@ -47,7 +47,7 @@ pub(crate) fn lay_bytes(
         ≡ laid_bytes g volume.now e.now n block buffer.now again low high bytes.old }
 {
     if !again {
-        lists::copy(bytes, buffer);
+        bytes.copy_from_slice(buffer);
         return;
     }
     fetch(g, volume, e, n, block, bytes);

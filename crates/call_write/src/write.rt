@@ -101,12 +101,11 @@ pub fn write_record(
         n,
         &mut e,
     );
-    let why = plan.why;
-    if !call_answers::is_none(why) {
-        return why;
+    if !call_answers::is_none(plan.why) {
+        return plan.why;
     }
     write_decided(
         g, fills, volume, fcb, buffer, again, low, high, &mut e, plan, held, n, cr, left,
     );
-    why
+    plan.why
 }

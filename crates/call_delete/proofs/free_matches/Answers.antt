@@ -3,7 +3,7 @@ use Rattle.disk_volume.proofs.FindLaws.{folded_from_found, from_low, folded_to_n
 use Rattle.disk_volume.specs.declared.Wanted.TheVariants.{Match}
 use Rattle.lists.proofs.FoldLaws.{folded_next, folded_end}
 use mathlib.Core.Path.{sym, ◌∙◌}
-use Prim.Native.Nat.{◌+◌, ◌-◌}
+use Prim.Native.Nat.{◌+◌}
 use native.Mathlib.Omega.{arith}
 use borrow.Author.Rules.{rules}
 use Rattle.disk_volume.specs.Name.{strip}

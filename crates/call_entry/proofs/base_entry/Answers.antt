@@ -16,12 +16,12 @@ unfolding base_of part put
 returns-then-slots-own c =
     let a = c.args in
     let at = c.slot_start-at in
-    let h = c.copy.ensures ∙ lent_slot a.g a.volume.now a.from at.result at.ensures.0 in
-    like_laid c.copy.new.dst (slot_at a.g a.volume.now a.from) c.fill.new.dst (slot_length a.g c.requires.volume.0 a.volume.now c.requires.volume.1 a.from c.requires.from_bound.0) h c.fill.ensures ∙ rw (le-ltb a.own (slots a.g) (omega (arith, c.slots.ensures.0)))
+    let h = c.copy_from_slice.ensures.after ∙ lent_slot a.g a.volume.now a.from at.result at.ensures.0 in
+    like_laid c.copy_from_slice.new.self (slot_at a.g a.volume.now a.from) c.fill.new.self (slot_length a.g c.requires.volume.0 a.volume.now c.requires.volume.1 a.from c.requires.from_bound.0) h (c.fill.ensures.after (λ y e. e)) ∙ rw (le-ltb a.own (slots a.g) (omega (arith, c.slots.ensures.0)))
 
 pub returns-else-slots-own : goal.returns-else-slots-own
 unfolding base_of
 returns-else-slots-own c =
     let a = c.args in
     let at = c.slot_start-at in
-    c.copy.ensures ∙ lent_slot a.g a.volume.now a.from at.result at.ensures.0 ∙ rw (lt-ltb a.own (slots a.g) (omega (arith, c.slots.ensures.0)))
+    c.copy_from_slice.ensures.after ∙ lent_slot a.g a.volume.now a.from at.result at.ensures.0 ∙ rw (lt-ltb a.own (slots a.g) (omega (arith, c.slots.ensures.0)))

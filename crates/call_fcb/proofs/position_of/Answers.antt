@@ -5,4 +5,4 @@ use Rattle.call_fcb.proofs.position_of.Goals as goal
 
 pub returns : goal.returns
 unfolding position
-returns c = (rw (← c.extent_of.ensures.0, ← c.wide.ensures.0), omega (arith, c.extent_of.ensures, c.wide.ensures))
+returns c = (rw (← c.extent_of.ensures.0, ← c.from.ensures), omega (arith, c.extent_of.ensures, c.from.ensures))

@@ -8,4 +8,4 @@ pub returns : goal.returns
 unfolding entry_end
 returns c =
     let own = c.extent_of-own in
-    (rw (c.wide.ensures.0, c.count_of.ensures.0, count_own c.args.e.now own.result own.ensures.0, own.ensures.0), search rules)
+    (rw (c.from.ensures, c.count_of.ensures.0, count_own c.args.e.now own.result own.ensures.0, own.ensures.0), search rules)

@@ -1,6 +1,6 @@
 -- The loop stands at an entry of the file; those seen so far gave m, and no other below it is the file's.
 use mathlib.Core.Path.{sym, ◌∙◌}
-use Prim.Native.Nat.{◌+◌, ◌-◌}
+use Prim.Native.Nat.{◌+◌}
 use native.Mathlib.Omega.{arith}
 use borrow.Author.Rules.{rules}
 use Rattle.lists.proofs.FoldLaws.{folded_next, folded_end}

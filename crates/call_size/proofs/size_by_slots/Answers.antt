@@ -4,7 +4,7 @@ use Rattle.disk_volume.proofs.FindLaws.{find_le, folded_from_found}
 use Rattle.disk_volume.specs.declared.Wanted.TheVariants.{File}
 use Rattle.disk_volume.specs.Name.{strip}
 use Rattle.lists.proofs.FoldLaws.{folded_next, folded_end}
-use Prim.Native.Nat.{◌-◌}
+use native.Mathlib.Omega.{arith}
 use mathlib.Core.Path.{sym}
 use borrow.Author.Rules.{rules}
 use Rattle.call_size.proofs.size_by_slots.Goals as goal
@@ -15,11 +15,13 @@ loop-i-init c =
     let a = c.args in
     let v = a.volume.now in
     let p = strip a.name.now in
-    (rw c.requires.first_value (find_le a.g v a.user p File), (search rules, rw c.requires.first_value (folded_from_found a.g v a.user p File (larger a.g v a.user p) 0 (λ i h. rw h))))
+    (search rules, rw c.requires.first_value (folded_from_found a.g v a.user p File (larger a.g v a.user p) 0 (λ i h. rw h)))
 
 pub loop-i-preserved : goal.loop-i-preserved
-loop-i-preserved c = (search rules, (c.larger_of-m.ensures.1, folded_next c.loop-i.invariant.1.1 (search rules) c.larger_of-m.ensures.0))
+loop-i-preserved c = (c.larger_of-m.ensures.1, folded_next c.loop-i.invariant.1 (search rules) c.larger_of-m.ensures.0)
 
 pub returns : goal.returns
 unfolding size_of
-returns c = (sym (folded_end c.loop-i.invariant.1.1 (search rules)), search rules)
+returns c =
+    let le = find_le c.args.g c.args.volume.now c.args.user (strip c.args.name.now) File in
+    (sym (folded_end c.loop-i.invariant.1 (omega (arith, c.requires.first_value))), search rules)

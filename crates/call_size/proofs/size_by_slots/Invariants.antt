@@ -3,11 +3,8 @@ use Rattle.call_size.specs.Size.{larger}
 use Rattle.disk_geometry.specs.Geometry.{slots}
 use Rattle.disk_volume.specs.Name.{strip}
 use Rattle.lists.proofs.FoldLaws.{Folded}
-use Prim.Native.Nat.{◌≤◌, ◌<◌, ◌-◌}
+use Prim.Native.Nat.{◌<◌}
 use Rattle.call_size.proofs.size_by_slots.Given as goal
 
 abbrev pub invariant-loop-i : goal.invariant-loop-i
-invariant-loop-i l = (l.i ≤ slots l.g) × ((l.m < 2000000) × Folded (larger l.g l.volume l.user (strip l.name)) 0 (slots l.g) l.m l.i)
-
-abbrev pub decreases-loop-i : goal.decreases-loop-i
-decreases-loop-i l = l.n - l.i
+invariant-loop-i l = (l.m < 2000000) × Folded (larger l.g l.volume l.user (strip l.name)) 0 (slots l.g) l.m l.i

@@ -1,7 +1,7 @@
 -- The records that hold a meant entry are stored up to here as long as a store was left, so what is still to be done with what is
 -- left gives the whole.
 use mathlib.Core.Path.{◌∙◌}
-use Prim.Native.Nat.{◌+◌, ◌*◌, ◌/◌, ◌-◌, ◌<◌}
+use Prim.Native.Nat.{◌+◌, ◌*◌, ◌/◌, ◌<◌}
 use native.Mathlib.Omega.{arith}
 use borrow.Author.Rules.{rules}
 use Rattle.disk_geometry.specs.Geometry.{slots}

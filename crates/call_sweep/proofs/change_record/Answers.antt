@@ -10,12 +10,8 @@ use Rattle.call_sweep.proofs.change_record.Goals as goal
 pub start-at-requires : goal.start-at-requires
 start-at-requires c = (c.requires.volume_and.0, omega (arith, bounds c.args.g c.requires.volume_and.0))
 
-pub store_record-requires : goal.store_record-requires
-store_record-requires c =
-    record {
-      volume = (c.requires.volume_and.0, c.requires.volume_and.1.0);
-      q_bound = (omega (arith, bounds c.args.g c.requires.volume_and.0), search rules);
-    }
+pub store_record-requires-clause-q_bound : goal.store_record-requires-clause-q_bound
+store_record-requires-clause-q_bound c = (omega (arith, bounds c.args.g c.requires.volume_and.0), search rules)
 
 pub returns : goal.returns
 unfolding part
@@ -24,6 +20,6 @@ returns c =
     let z : at.result + 128 - at.result ≡ 128 = omega arith in
     let o = c.store_record in
     record {
-      volume_after = o.ensures.volume_after ∙ rw (c.change_four.ensures, c.copy.ensures, z, at.ensures.0);
+      volume_after = o.ensures.volume_after ∙ rw (c.change_four.ensures, c.copy_from_slice.ensures.after, z, at.ensures.0);
       left_after = o.ensures.left_after;
     }

@@ -1,7 +1,7 @@
 -- The bytes passed so far are those of the name without top bits.
 use mathlib.Core.List.{List, append-nil}
-use mathlib.Core.Path.{◌≡◌, refl, sym, ap, ◌∙◌}
-use Prim.Native.Nat.{ℕ, ◌+◌, ◌-◌, ◌%◌, ◌≤◌, ◌<◌}
+use mathlib.Core.Path.{◌≡◌, sym, ap, ◌∙◌}
+use Prim.Native.Nat.{ℕ, ◌+◌, ◌%◌, ◌≤◌, ◌<◌}
 use native.Mathlib.Omega.{arith}
 use native.Mathlib.Numerals.{add-one}
 use native.Mathlib.Nat.{zero-add}
@@ -27,16 +27,16 @@ name_end d s e i h l b =
     h ∙ rw (take_all i (strip s) b', drop_of_length-le d k, append-nil)
 
 pub loop-i-init : goal.loop-i-init
-loop-i-init c = (search rules, (paste-zero c.args.dst.now 0 (strip c.args.name.now), refl))
+loop-i-init c = paste-zero c.args.dst.now 0 (strip c.args.name.now)
 
 pub loop-i-preserved : goal.loop-i-preserved
 loop-i-preserved c =
     let l = c.loop-i in
     let a = c.args in
-    (search rules, (name_step a.dst.now a.name.now l.dst l.i l.invariant.1.0 (omega arith) (omega arith), search rules))
+    name_step a.dst.now a.name.now l.dst l.i l.invariant (search rules) (search rules)
 
 pub returns : goal.returns
 returns c =
     let l = c.loop-i in
     let a = c.args in
-    name_end a.dst.now a.name.now l.dst l.i l.invariant.1.0 (search rules) (search rules)
+    name_end a.dst.now a.name.now l.dst l.i l.invariant (search rules) (search rules)

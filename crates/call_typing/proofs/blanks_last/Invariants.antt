@@ -1,12 +1,8 @@
 -- No blank passed so far stands just before a non-blank, so what is left decides.
-use Prim.Native.Nat.{◌≤◌, ◌-◌}
 use lib.ListN.{length}
 use Rattle.lists.proofs.BoundedLaws.{Passed}
 use Rattle.call_typing.proofs.TypingLaws.{last_at}
 use Rattle.call_typing.proofs.blanks_last.Given as goal
 
 abbrev pub invariant-loop-k : goal.invariant-loop-k
-invariant-loop-k l = (1 ≤ l.k) × Passed (last_at l.field) 1 (length l.field) l.k
-
-abbrev pub decreases-loop-k : goal.decreases-loop-k
-decreases-loop-k l = length l.field - l.k
+invariant-loop-k l = Passed (last_at l.field) 1 (length l.field) l.k

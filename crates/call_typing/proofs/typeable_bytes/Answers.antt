@@ -1,24 +1,27 @@
--- The bytes passed so far can be typed, so what is left decides.
-use mathlib.Core.Path.{sym, ◌∙◌}
-use Prim.Native.Nat.{◌-◌}
-use borrow.Author.Rules.{rules}
-use Rattle.lists.proofs.BoundedLaws.{passed_start, passed_next, passed_fails, passed_all}
+-- Each byte, without its top bit, can be typed.
+use mathlib.Core.Path.{◌≡◌, refl, ◌∙◌}
+use mathlib.Core.Bool.{Bool, true, false, cond, ◌&&◌}
+use mathlib.Core.List.{List, [], ◌∷◌}
+use Prim.Native.Nat.{ℕ, ◌%◌}
+use Rattle.std.proofs.Common.{rules, tests}
+use Rattle.std.specs.List.{list_all}
+use Rattle.std.proofs.lemmas.Iterator.{YieldsList-from_slice}
+use Rattle.std.proofs.lemmas.Iterator.Search.{all_from_yields_List}
+use Rattle.lists.specs.Bytes.{all}
+use Rattle.disk_volume.specs.Name.{strip}
 use Rattle.call_typing.specs.Typing.{typeable_byte}
-use Rattle.disk_volume.proofs.NameLaws.{all_places}
 use Rattle.call_typing.proofs.typeable_bytes.Goals as goal
 
-pub loop-k-init : goal.loop-k-init
-loop-k-init c = (search rules, passed_start)
+both : (a b : Bool) → (a && b) ≡ cond a b false
+both true b = refl
+both false b = refl
 
-pub returns-then-not-typeable_byte : goal.returns-then-not-typeable_byte
-returns-then-not-typeable_byte c =
-    sym (all_places typeable_byte 11 c.args.name.now (search rules)
-    ∙ passed_fails c.loop-k.invariant.1 (search rules) (sym c.typeable_byte.ensures ∙ c.if-not-typeable_byte.true))
-
-pub loop-k-preserved : goal.loop-k-preserved
-loop-k-preserved c =
-    (search rules, passed_next c.loop-k.invariant.1 (search rules) (sym c.typeable_byte.ensures ∙ c.if-not-typeable_byte.false))
+all_stripped : (l : List ℕ) → list_all (λ x. typeable_byte (x % 128)) l ≡ all typeable_byte (strip l)
+unfolding all strip
+all_stripped [] = refl
+all_stripped (x ∷ xs) = rw (all_stripped xs) (both (typeable_byte (x % 128)) (all typeable_byte (strip xs)))
 
 pub returns : goal.returns
 returns c =
-    sym (all_places typeable_byte 11 c.args.name.now (search rules) ∙ passed_all c.loop-k.invariant.1 (search rules))
+    let name = c.args.name.now in
+    all_from_yields_List (λ x. typeable_byte (x % 128)) _ _ _ c.all.ensures.ran (YieldsList-from_slice name cc) (λ x b q k. search (rules, tests)) ∙ all_stripped name

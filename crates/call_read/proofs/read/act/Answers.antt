@@ -13,4 +13,4 @@ returns c =
     let a = c.args in
     let at = c.record_start-at in
     let from = c.slot_start-from in
-    let z : at.result + 128 - at.result ≡ 128 = omega arith in record { fcb_after = rw (← lent_slot a.g a.volume.now a.slot from.result from.ensures.0) c.set_to.ensures; buffer_after = rw (← at.ensures.0) (rw z at c.copy.ensures) }
+    let z : at.result + 128 - at.result ≡ 128 = omega arith in record { fcb_after = rw (← lent_slot a.g a.volume.now a.slot from.result from.ensures.0) c.set_to.ensures; buffer_after = rw (← at.ensures.0) (rw z at c.copy_from_slice.ensures.after) }

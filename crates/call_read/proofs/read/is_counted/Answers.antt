@@ -4,4 +4,4 @@ use Rattle.call_read.proofs.read.is_counted.Goals as goal
 
 pub returns : goal.returns
 unfolding counted
-returns c = rw (← c.place.ensures.0, ← c.block_in-block.ensures.0, ← c.count_of.ensures.0, ← c.wide-count.ensures.0)
+returns c = rw (← c.place.ensures.0, ← c.block_in-block.ensures.0, ← c.count_of.ensures.0, ← c.from-count.ensures)

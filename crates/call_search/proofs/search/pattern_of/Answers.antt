@@ -5,4 +5,4 @@ use Rattle.call_search.proofs.search.pattern_of.Goals as goal
 
 pub returns : goal.returns
 unfolding pattern_of part
-returns c = c.copy.ensures
+returns c = c.copy_from_slice.ensures.after

@@ -2,7 +2,7 @@
 use mathlib.Core.Path.{◌≡◌}
 use Prim.Native.Nat.{◌+◌, ◌-◌}
 use native.Mathlib.Omega.{arith}
-use borrow.Author.Tests.{lt-ltb, le-ltb}
+use borrow.Author.Tests.{lt-ltb}
 use Rattle.lists.specs.Bytes.{part}
 use Rattle.disk_volume.specs.Record.{slot_record}
 use Rattle.disk_geometry.specs.Geometry.{slots}
@@ -15,12 +15,5 @@ returns-then-slot-n c =
     let z : at.result + 128 - at.result ≡ 128 = omega arith in
     record {
       value = c.hit_from-slot.ensures;
-      buffer_after = rw (lt-ltb c.hit_from-slot.result (slots c.args.g) (omega arith), ← at.ensures.0) (rw z at c.copy.ensures);
-    }
-
-pub returns-else-slot-n : goal.returns-else-slot-n
-returns-else-slot-n c =
-    record {
-      value = c.hit_from-slot.ensures;
-      buffer_after = rw (le-ltb c.hit_from-slot.result (slots c.args.g) (omega arith));
+      buffer_after = rw (lt-ltb c.hit_from-slot.result (slots c.args.g) (omega arith), ← at.ensures.0) (rw z at c.copy_from_slice.ensures.after);
     }

@@ -19,4 +19,4 @@ returns c =
     let k = c.is_counted in
     let at = c.record_start-at in
     let z : at.result + 128 - at.result ≡ 128 = omega arith in
-    rw (← k.ensures, not-false k.result (ap not c.if-not-is_counted.false), ← at.ensures.0) (rw z at c.copy.ensures)
+    rw (← k.ensures, not-false k.result (ap not c.if-not-is_counted.false), ← at.ensures.0) (rw z at c.copy_from_slice.ensures.after)

@@ -1,6 +1,5 @@
 -- By the two ways of the test.
 use mathlib.Core.Path.{ap, ◌∙◌}
-use mathlib.Core.Bool.{true, false}
 use mathlib.Core.List.{List}
 use Prim.Native.Nat.{ℕ}
 use Rattle.call_write.specs.Rewrite.{with_first_two}
@@ -9,7 +8,7 @@ use Rattle.call_write.proofs.rewrite.lay_bytes.Goals as goal
 pub returns-then-not-again : goal.returns-then-not-again
 returns-then-not-again c =
     let a = c.args in
-    rw c.if-not-again.true c.copy.ensures
+    rw c.if-not-again.true c.copy_from_slice.ensures.after
 
 pub returns : goal.returns
 returns c =
