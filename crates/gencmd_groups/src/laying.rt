@@ -24,10 +24,8 @@ fn lay_line(part: &mut [u8], line: &[u8], group: usize)
     }
     let address = line::address_of(line);
     let count = line::count_of(line);
-    let mut i = 0;
-    while i < count {
+    for i in 0..count {
         lay_byte(part, address + i, line::data_of(line, i));
-        i += 1;
     }
 }
 
@@ -39,8 +37,9 @@ pub fn lay_group(part: &mut [u8], text: &[u8], group: usize)
     if part.len() == 0 {
         return;
     }
-    lists::fill(part, 0);
+    part.fill(0);
     let mut at = walk::next_colon(text, 0);
+    // No for: the walk goes from colon to colon.
     while at < text.len() {
         let from = at + 1;
         if line::is_end(&text[from..]) {

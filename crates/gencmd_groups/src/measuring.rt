@@ -11,7 +11,7 @@ use load_header::{CODE, DATA, EXTRA, STACK};
 fn larger(old: usize, here: bool, n: usize) -> usize
     ensures { result ≡ max old (cond here n 0) }
 {
-    if here & (old < n) { n } else { old }
+    if here { old.max(n) } else { old }
 }
 
 // How far the groups reach with one more line.
@@ -41,6 +41,7 @@ pub fn measure(text: &[u8]) -> Measured
         stack: 0,
     };
     let mut at = walk::next_colon(text, 0);
+    // No for: the walk goes from colon to colon.
     while at < text.len() {
         let from = at + 1;
         let why = line::line_why(&text[from..]);

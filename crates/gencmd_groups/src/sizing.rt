@@ -18,7 +18,7 @@ fn paragraphs_of(least: usize, reach: usize) -> usize
         return 0;
     }
     let n = (reach + PARAGRAPH_BYTES - 1) / PARAGRAPH_BYTES;
-    if n < least { least } else { n }
+    least.max(n)
 }
 
 // The least paragraphs of the code group: it has the base page where there is no data group.

@@ -5,7 +5,6 @@ ghost use Rattle.gencmd_lines.specs.CodeWalk.{most_bytes};
 
 use crate::Refusal;
 use crate::digits::{is_digit, line_byte};
-use lists::wide;
 use load_header::{CODE, DATA, EXTRA, STACK};
 
 // Where a line has its fields (000, table 2), and how many bytes it has beside its data: ll, aaaa, tt and cc.
@@ -29,14 +28,14 @@ const ADDRESSES: usize = 65536;
 pub fn count_of(line: &[u8]) -> usize
     ensures { (result ≡ count_of line.now) × (result ≤ data_most) }
 {
-    wide(line_byte(line, AT_COUNT))
+    usize::from(line_byte(line, AT_COUNT))
 }
 
 // The address of its first data byte.
 pub fn address_of(line: &[u8]) -> usize
     ensures { (result ≡ address_of line.now) × (result < addresses) }
 {
-    256 * wide(line_byte(line, AT_ADDRESS)) + wide(line_byte(line, AT_ADDRESS + 1))
+    256 * usize::from(line_byte(line, AT_ADDRESS)) + usize::from(line_byte(line, AT_ADDRESS + 1))
 }
 
 // Its data byte i.
@@ -62,12 +61,10 @@ fn is_spelled(line: &[u8]) -> bool
     if line.len() < n {
         return false;
     }
-    let mut i = 0;
-    while i < n {
-        if !is_digit(line[i]) {
+    for c in &line[..n] {
+        if !is_digit(*c) {
             return false;
         }
-        i += 1;
     }
     true
 }
@@ -78,21 +75,19 @@ fn sum_of(line: &[u8]) -> u8
 {
     let n = BESIDE_DATA + count_of(line);
     let mut sum: u8 = 0;
-    let mut i = 0;
-    while i < n {
-        sum = std::num::wrapping_add_u8(sum, line_byte(line, i));
-        i += 1;
+    for i in 0..n {
+        sum = sum.wrapping_add(line_byte(line, i));
     }
     sum
 }
 
 // The group that a line's type names, 0 for no group.
+#[tactic(auto, unfolding(crate::specs::Line::group_of_type))]
 fn group_of_type(kind: u8) -> usize
     ensures { result ≡ group_of_type kind }
 {
     match kind {
-        0x00 => CODE,
-        0x81 => CODE,
+        0x00 | 0x81 => CODE,
         0x82 => DATA,
         0x83 => STACK,
         0x84 => EXTRA,

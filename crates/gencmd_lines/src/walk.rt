@@ -8,14 +8,12 @@ use crate::line::digits_in;
 pub fn next_colon(text: &[u8], from: usize) -> usize
     ensures { result ≡ next_colon text.now from }
 {
-    let mut i = from;
-    while i < text.len() {
+    for i in from..text.len() {
         if text[i] == b':' {
             return i;
         }
-        i += 1;
     }
-    i
+    from.max(text.len())
 }
 
 // Where the next line's colon stands, behind the line whose colon stands at a place.

@@ -40,7 +40,7 @@ fn form_at(h: &[u8], i: usize) -> usize
     requires { i ≤ descriptors }
     ensures { (result ≡ form_at h.now i) × (result < 256) }
 {
-    lists::wide(numbers::byte_at(h, DESCRIPTOR_BYTES * i))
+    usize::from(numbers::byte_at(h, DESCRIPTOR_BYTES * i))
 }
 
 // The number of descriptor i that stands so many bytes behind its form.
@@ -82,7 +82,7 @@ pub fn need_at(h: &[u8], i: usize) -> usize
 {
     let length = number_at(h, i, G_LENGTH);
     let least = number_at(h, i, G_MIN);
-    if length < least { least } else { length }
+    length.max(least)
 }
 
 // The type of group i.
@@ -98,14 +98,12 @@ fn type_at(h: &[u8], i: usize) -> usize
 pub fn groups(h: &[u8]) -> usize
     ensures { (result ≡ groups h.now) × (result ≤ descriptors) }
 {
-    let mut i = 0;
-    while i < DESCRIPTORS {
+    for i in 0..DESCRIPTORS {
         if form_at(h, i) == 0 {
             return i;
         }
-        i += 1;
     }
-    i
+    DESCRIPTORS
 }
 
 // Does one of the groups before group i have this type?
@@ -113,12 +111,10 @@ fn is_given(h: &[u8], i: usize, kind: usize) -> bool
     requires { i ≤ descriptors }
     ensures { result ≡ any i (λ j. eqb (type_at h.now j) kind) }
 {
-    let mut j = 0;
-    while j < i {
+    for j in 0..i {
         if type_at(h, j) == kind {
             return true;
         }
-        j += 1;
     }
     false
 }
@@ -138,12 +134,10 @@ fn are_good(h: &[u8], n: usize) -> bool
     requires { n ≤ descriptors }
     ensures { result ≡ every n (good_group h.now) }
 {
-    let mut i = 0;
-    while i < n {
+    for i in 0..n {
         if !is_good_group(h, i) {
             return false;
         }
-        i += 1;
     }
     true
 }
@@ -153,14 +147,12 @@ pub fn place_of(h: &[u8], kind: usize) -> usize
     ensures { (result ≡ place_of h.now kind) × (result ≤ descriptors) }
 {
     let n = groups(h);
-    let mut i = 0;
-    while i < n {
+    for i in 0..n {
         if type_at(h, i) == kind {
             return i;
         }
-        i += 1;
     }
-    i
+    n
 }
 
 // The place of the group that has the base page.
@@ -190,10 +182,8 @@ pub fn image_start(h: &[u8], n: usize) -> usize
     ensures { (result ≡ image_start h.now n) × (result ≤ 65536 * n) }
 {
     let mut sum = 0;
-    let mut i = 0;
-    while i < n {
+    for i in 0..n {
         sum += length_at(h, i);
-        i += 1;
     }
     sum
 }

@@ -26,7 +26,7 @@ fn point(copy: &mut [u8], fcb: &[u8], n: usize)
     requires { (length copy.old ≡ fcb_bytes) × ((length fcb.now ≡ fcb_bytes) × (n < 16777216)) }
     ensures { copy.new ≡ with_random fcb.now n }
 {
-    lists::copy(copy, fcb);
+    copy.copy_from_slice(fcb);
     call_fcb::set_random(copy, n);
 }
 
@@ -38,10 +38,9 @@ fn show(front: Front, volume: &[u8], fcb: &[u8], n: usize, buffer: &mut [u8]) ->
 {
     let mut copy = [0u8; FCB_BYTES];
     point(&mut copy, fcb, n);
-    lists::fill(buffer, 0);
+    buffer.fill(0);
     let r = front.read_random(volume, &mut copy, buffer);
-    let answer = r.answer;
-    call_answers::why_of(answer)
+    call_answers::why_of(r.answer)
 }
 
 // Reads with a control block of a wrong length, which is refused whatever its bytes are.
@@ -50,17 +49,16 @@ fn show_short(front: Front, volume: &[u8], buffer: &mut [u8]) -> Refusal
     ensures { (result ≡ short_why (bare front) volume.now) × (buffer.new ≡ replicate record_bytes 0) }
 {
     let mut short = [0u8; 1];
-    lists::fill(buffer, 0);
+    buffer.fill(0);
     let r = front.read_random(volume, &mut short, buffer);
-    let answer = r.answer;
-    call_answers::why_of(answer)
+    call_answers::why_of(r.answer)
 }
 
 // The number in r0 r1 r2.
 fn random_of(fcb: &[u8]) -> usize
     ensures { (result ≡ three fcb.now R0) × (result < 16777216) }
 {
-    numbers::two_at(fcb, R0) + 65536 * lists::wide(numbers::byte_at(fcb, R2))
+    numbers::two_at(fcb, R0) + 65536 * usize::from(numbers::byte_at(fcb, R2))
 }
 
 // The file's size in records.
@@ -70,12 +68,13 @@ fn measure(front: Front, volume: &[u8], fcb: &[u8]) -> Seen
         × ((result.records ≡ records (bare front) volume.now fcb.now) × (result.records < 16777216)) }
 {
     let mut copy = [0u8; FCB_BYTES];
-    lists::copy(&mut copy, fcb);
+    copy.copy_from_slice(fcb);
     let r = front.file_size(volume, &mut copy);
-    let answer = r.answer;
-    let why = call_answers::why_of(answer);
-    let records = random_of(&copy);
-    Seen { why, records }
+    let why = call_answers::why_of(r.answer);
+    Seen {
+        why,
+        records: random_of(&copy),
+    }
 }
 
 // Why one of the records from record 1 on, below so many, can't be read.
@@ -84,13 +83,11 @@ fn why_unread(front: Front, volume: &[u8], fcb: &[u8], records: usize) -> Refusa
     ensures { result ≡ first_from (unread (bare front) volume.now fcb.now) 1 (records - 1) }
 {
     let mut buffer = [0u8; Geometry::RECORD_BYTES];
-    let mut n = 1;
-    while n < records {
+    for n in 1..records {
         let why = show(front, volume, fcb, n, &mut buffer);
         if !call_answers::is_none(why) {
             return why;
         }
-        n += 1;
     }
     Refusal::None
 }
@@ -120,13 +117,13 @@ fn read_rest(front: Front, volume: &[u8], fcb: &[u8]) -> Seen
     ensures { RestRead (bare front) volume.now fcb.now result }
 {
     let sized = measure(front, volume, fcb);
-    let why = sized.why;
-    if !call_answers::is_none(why) {
+    if !call_answers::is_none(sized.why) {
         return sized;
     }
-    let records = sized.records;
-    let rest = why_unread(front, volume, fcb, records);
-    Seen { why: rest, records }
+    Seen {
+        why: why_unread(front, volume, fcb, sized.records),
+        records: sized.records,
+    }
 }
 
 // Lays the bytes of record n from `from` on into out.
@@ -137,14 +134,7 @@ fn lay_record(front: Front, volume: &[u8], fcb: &[u8], n: usize, from: usize, ou
     let mut buffer = [0u8; Geometry::RECORD_BYTES];
     show(front, volume, fcb, n, &mut buffer);
     let to = from + out.len();
-    lists::copy(out, &buffer[from..to]);
-}
-
-// The smaller of two numbers.
-fn smaller(a: usize, b: usize) -> usize
-    ensures { result ≡ min a b }
-{
-    if a < b { a } else { b }
+    out.copy_from_slice(&buffer[from..to]);
 }
 
 // Lays the bytes of the image from `from` on into out, a record, or what is wanted of it, at a time.
@@ -154,10 +144,11 @@ pub fn lay_image(front: Front, volume: &[u8], fcb: &[u8], from: usize, out: &mut
     ensures { out.new ≡ part (image (bare front) volume.now fcb.now) from (length out.old) }
 {
     let mut at = 0;
+    // No for: the steps differ, as the first and the last record may be asked for in part.
     while at < out.len() {
         let place = from + at;
         let within = place % Geometry::RECORD_BYTES;
-        let k = smaller(Geometry::RECORD_BYTES - within, out.len() - at);
+        let k = (Geometry::RECORD_BYTES - within).min(out.len() - at);
         let to = at + k;
         lay_record(
             front,

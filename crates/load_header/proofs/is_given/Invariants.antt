@@ -2,11 +2,7 @@
 use Rattle.load_header.specs.Header.{type_at}
 use Rattle.lists.proofs.AnyLaws.{AnySoFar}
 use lib.Dec.{eqb}
-use Prim.Native.Nat.{◌≤◌, ◌-◌}
 use Rattle.load_header.proofs.is_given.Given as goal
 
 abbrev pub invariant-loop-j : goal.invariant-loop-j
-invariant-loop-j l = (l.j ≤ l.i) × AnySoFar (λ k. eqb (type_at l.h k) l.kind) l.i l.j
-
-abbrev pub decreases-loop-j : goal.decreases-loop-j
-decreases-loop-j l = l.i - l.j
+invariant-loop-j l = AnySoFar (λ k. eqb (type_at l.h k) l.kind) l.i l.j

@@ -2,11 +2,7 @@
 use Rattle.load_header.specs.Header.{type_at}
 use Rattle.lists.proofs.BoundedLaws.{Searched}
 use lib.Dec.{eqb}
-use Prim.Native.Nat.{◌≤◌, ◌-◌}
 use Rattle.load_header.proofs.place_of.Given as goal
 
 abbrev pub invariant-loop-i : goal.invariant-loop-i
-invariant-loop-i l = (l.i ≤ l.n) × Searched (λ j. eqb (type_at l.h j) l.kind) 0 l.n l.i
-
-abbrev pub decreases-loop-i : goal.decreases-loop-i
-decreases-loop-i l = l.n - l.i
+invariant-loop-i l = Searched (λ j. eqb (type_at l.h j) l.kind) 0 l.n l.i

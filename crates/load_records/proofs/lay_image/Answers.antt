@@ -8,25 +8,24 @@ use lib.ListN.{length}
 use lib.Seq.{take_all}
 use Prim.Native.Nat.{ℕ, ◌+◌, ◌-◌}
 use mathlib.Core.Path.{◌≡◌, refl, sym, ap, ◌∙◌}
-use borrow.Author.Rules.{rules}
 use Rattle.load_records.proofs.lay_image.Goals as goal
 
 pub loop-at-init : goal.loop-at-init
 unfolding part
-loop-at-init c = (refl, (search rules, refl))
+loop-at-init c = (omega arith, refl)
 
 pub loop-at-preserved : goal.loop-at-preserved
 loop-at-preserved c =
     let a = c.args in
     let l = c.loop-at in
-    let k = c.smaller-k.result in
+    let k = c.min-k.result in
     let z : l.at + k - l.at ≡ k = omega arith in
-    let w = laid_more (bare a.front) a.volume.now a.fcb.now a.from l.out _ l.at k _ z (omega arith) l.invariant.1.1 (omega arith) (omega arith) c.lay_record.ensures in
-    (w.0 ∙ l.invariant.0, (rw w.0 (omega arith), w.1))
+    let w = laid_more (bare a.front) a.volume.now a.fcb.now a.from l.out _ l.at k _ z (omega arith) l.invariant.1 (omega arith) (omega arith) c.lay_record.ensures in
+    (rw w.0 (omega arith), w.1)
 
 pub returns : goal.returns
 returns c =
     let a = c.args in
     let l = c.loop-at in
     let z : l.at ≡ length a.out.now = omega arith in
-    sym (take_all l.at l.out (omega arith)) ∙ l.invariant.1.1 ∙ ap (λ (n : ℕ). part (image (bare a.front) a.volume.now a.fcb.now) a.from n) z
+    sym (take_all l.at l.out (omega arith)) ∙ l.invariant.1 ∙ ap (λ (n : ℕ). part (image (bare a.front) a.volume.now a.fcb.now) a.from n) z

@@ -11,4 +11,4 @@ unfolding part
 returns c =
     let a = c.args in
     let z : a.from + length a.out.now - a.from ≡ length a.out.now = omega arith in
-    c.copy.ensures ∙ rw (z, c.show.ensures.1)
+    c.copy_from_slice.ensures.after ∙ rw (z, c.show.ensures.1)

@@ -9,5 +9,5 @@ use Rattle.load_records.proofs.measure.Goals as goal
 
 pub returns : goal.returns
 returns c =
-    let s = sizes _ _ _ c.copy.ensures (c.file_size-r.ensures []) c.why_of-why.ensures in
-    (s.0, (c.random_of-records.ensures.0 ∙ ap (λ (x : List ℕ). three x R0) s.1, c.random_of-records.ensures.1))
+    let s = sizes _ _ _ c.copy_from_slice.ensures.after (c.file_size-r.ensures []) c.why_of-why.ensures in
+    (s.0, (c.random_of.ensures.0 ∙ ap (λ (x : List ℕ). three x R0) s.1, c.random_of.ensures.1))

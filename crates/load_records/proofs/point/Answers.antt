@@ -2,4 +2,4 @@
 use Rattle.load_records.proofs.point.Goals as goal
 
 pub returns : goal.returns
-returns c = rw (← c.copy.ensures) c.set_random.ensures
+returns c = rw (← c.copy_from_slice.ensures.after) c.set_random.ensures

@@ -7,4 +7,4 @@ pub returns-then-not-is_none : goal.returns-then-not-is_none
 returns-then-not-is_none c = rest_unsized _ _ _ c.measure-sized.ensures.0 c.measure-sized.ensures.1.0 c.measure-sized.ensures.1.1 (sym c.is_none.ensures ∙ c.if-not-is_none.true)
 
 pub returns : goal.returns
-returns c = rest_read _ _ _ c.measure-sized.ensures.0 c.measure-sized.ensures.1.0 c.measure-sized.ensures.1.1 (sym c.is_none.ensures ∙ c.if-not-is_none.false) c.why_unread-rest.ensures
+returns c = rest_read _ _ _ c.measure-sized.ensures.0 c.measure-sized.ensures.1.0 c.measure-sized.ensures.1.1 (sym c.is_none.ensures ∙ c.if-not-is_none.false) c.why_unread.ensures

@@ -6,4 +6,4 @@ use borrow.Author.Rules.{rules}
 use Rattle.load_records.proofs.show.Goals as goal
 
 pub returns : goal.returns
-returns c = shows _ _ _ _ {k = length c.args.buffer.now} c.point.ensures c.fill.ensures (search rules) (c.read_random-r.ensures []) c.why_of.ensures
+returns c = shows _ _ _ _ {k = length c.args.buffer.now} c.point.ensures (c.fill.ensures.after (λ y e. e)) (search rules) (c.read_random-r.ensures []) c.why_of.ensures

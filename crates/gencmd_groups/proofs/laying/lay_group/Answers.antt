@@ -18,15 +18,15 @@ returns-then-part-eq0 c =
     list_is (byte_at (lines_in a.text.now) a.group) (length a.part.now) a.part.now refl (λ k h. absurd (omega arith))
 
 pub loop-at-init : goal.loop-at-init
-loop-at-init c = laying_start _ _ _ (c.fill.ensures ∙ ap (λ (n : ℕ). replicate n 0) (sym c.fill.auto.dst)) c.next_colon-at.ensures
+loop-at-init c = laying_start _ _ _ (c.fill.ensures.after (λ y e. e) ∙ ap (λ (n : ℕ). replicate n 0) (sym c.fill.auto.self)) c.next_colon-at.ensures
 
 pub shape_of-part-then-is_end : goal.shape_of-part-then-is_end
-shape_of-part-then-is_end c = c.loop-at.invariant.size ∙ c.fill.auto.dst
+shape_of-part-then-is_end c = c.loop-at.invariant.size ∙ c.fill.auto.self
 
 pub returns-then-is_end : goal.returns-then-is_end
 returns-then-is_end c =
     let a = c.args in
-    laying_end c.loop-at.invariant (search rules) (sym c.is_end.ensures ∙ c.if-is_end.true) ∙ ap (λ (n : ℕ). group_bytes (lines_in a.text.now) a.group n) c.fill.auto.dst
+    laying_end c.loop-at.invariant (search rules) (sym c.is_end.ensures ∙ c.if-is_end.true) ∙ ap (λ (n : ℕ). group_bytes (lines_in a.text.now) a.group n) c.fill.auto.self
 
 pub loop-at-smaller : goal.loop-at-smaller
 loop-at-smaller c =
@@ -39,9 +39,9 @@ loop-at-preserved c =
     laying_next c.loop-at.invariant (search rules) (sym c.is_end.ensures ∙ c.if-is_end.false) c.lay_line.ensures c.next_line-at.ensures
 
 pub shape_of-part : goal.shape_of-part
-shape_of-part c = c.loop-at.invariant.size ∙ c.fill.auto.dst
+shape_of-part c = c.loop-at.invariant.size ∙ c.fill.auto.self
 
 pub returns : goal.returns
 returns c =
     let a = c.args in
-    laying_over c.loop-at.invariant (search rules) ∙ ap (λ (n : ℕ). group_bytes (lines_in a.text.now) a.group n) c.fill.auto.dst
+    laying_over c.loop-at.invariant (search rules) ∙ ap (λ (n : ℕ). group_bytes (lines_in a.text.now) a.group n) c.fill.auto.self

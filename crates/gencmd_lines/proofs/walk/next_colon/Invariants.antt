@@ -1,11 +1,8 @@
 -- A search: what is still to be looked at gives the whole.
 use Rattle.gencmd_lines.specs.CodeWalk.{is_colon}
 use Rattle.lists.proofs.BoundedLaws.{Searched}
-use Rattle.std.proofs.Common.{◌-◌, length}
+use Rattle.std.proofs.Common.{◌≤◌, max, length}
 use Rattle.gencmd_lines.proofs.walk.next_colon.Given as goal
 
 abbrev pub invariant-loop-i : goal.invariant-loop-i
-invariant-loop-i l = Searched (is_colon l.text) l.from (length l.text) l.i
-
-abbrev pub decreases-loop-i : goal.decreases-loop-i
-decreases-loop-i l = length l.text - l.i
+invariant-loop-i l = (l.i ≤ max l.from (length l.text)) × Searched (is_colon l.text) l.from (length l.text) l.i
