@@ -13,11 +13,7 @@ fn used_at(g: Geometry, e: &[u8], p: usize) -> usize
     requires { (p < places g) × IsEntry e.now }
     ensures { (result ≡ cond (is_used g e.now p) 1 0) × (result ≤ 1) }
 {
-    if disk_volume::entry::block_in(g, e, p) != 0 {
-        1
-    } else {
-        0
-    }
+    usize::from(disk_volume::entry::block_in(g, e, p) != 0)
 }
 
 // How many places of the entry's map name a block.
@@ -25,12 +21,9 @@ fn used_places(g: Geometry, e: &[u8]) -> usize
     requires { IsEntry e.now }
     ensures { (result ≡ used_places g e.now) × (result ≤ 16) }
 {
-    let n = g.places();
     let mut used = 0;
-    let mut p = 0;
-    while p < n {
+    for p in 0..g.places() {
         used += used_at(g, e, p);
-        p += 1;
     }
     used
 }
@@ -60,12 +53,9 @@ pub fn blocks_of(g: Geometry, volume: &[u8], user: u8, name: &[u8]) -> usize
     requires { VolumeAnd g volume.now (IsName name.now) }
     ensures { result ≡ blocks_of g volume.now user (strip name.now) }
 {
-    let n = g.slots();
     let mut m = 0;
-    let mut i = 0;
-    while i < n {
+    for i in 0..g.slots() {
         m = more_blocks(g, volume, user, name, m, i);
-        i += 1;
     }
     m
 }

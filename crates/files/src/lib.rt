@@ -33,15 +33,13 @@ pub fn next_file(g: Geometry, volume: &[u8], from: usize) -> usize
     ensures { result ≡ next_file g volume.now from }
 {
     let n = g.slots();
-    let mut i = from;
-    while i < n {
+    for i in from..n {
         let at = g.slot_start(i);
         if is_listed(g, volume, &volume[at..at + Geometry::ENTRY_BYTES], i) {
             return i;
         }
-        i += 1;
     }
-    i
+    from.max(n)
 }
 
 // Is the entry in slot i one of the file, with a top bit on byte k?
@@ -70,13 +68,10 @@ pub fn is_marked(g: Geometry, volume: &[u8], user: u8, name: &[u8], k: usize) ->
     requires k_lt_entry_bytes { k < entry_bytes }
     ensures { result ≡ is_marked g volume.now user (strip name.now) k }
 {
-    let n = g.slots();
-    let mut i = 0;
-    while i < n {
+    for i in 0..g.slots() {
         if marked_at(g, volume, user, name, k, i) {
             return true;
         }
-        i += 1;
     }
     false
 }

@@ -3,7 +3,7 @@ ghost use Rattle.std.specs.Prelude.{◌≡◌, ◌<◌, length};
 ghost use Rattle.disk_geometry.specs.Geometry.{slots};
 ghost use Rattle.disk_volume.specs.Directory.{slot_at};
 ghost use Rattle.disk_volume.specs.CodeLent.{IsVolume, IsEntry};
-ghost use Rattle.files.specs.Line.{file_length, flag, line_bytes, file_bytes};
+ghost use Rattle.files.specs.Line.{file_length, line_bytes, file_bytes};
 
 use crate::blocks_held;
 use disk_geometry::Geometry;
@@ -13,20 +13,13 @@ use disk_volume::names::TOP_BIT;
 // How many bytes a file's line has.
 pub const FILE_BYTES: usize = 24;
 
-// A mark as a byte.
-fn flag(mark: bool) -> u8
-    ensures { result ≡ flag mark }
-{
-    if mark { 1 } else { 0 }
-}
-
 // Lays the line of a file with this entry, these marks, so many records and so many blocks.
 fn put_line(out: &mut [u8], e: &[u8], read_only: bool, system: bool, records: usize, blocks: usize)
     requires { (length out.old ≡ file_length) × IsEntry e.now }
     ensures { out.new ≡ line_bytes e.now read_only system records blocks }
 {
-    let first = flag(read_only);
-    let second = flag(system);
+    let records = records.to_le_bytes();
+    let blocks = blocks.to_le_bytes();
     let bytes = [
         e[USER],
         e[NAME] % TOP_BIT,
@@ -40,20 +33,20 @@ fn put_line(out: &mut [u8], e: &[u8], read_only: bool, system: bool, records: us
         e[NAME + 8] % TOP_BIT,
         e[NAME + 9] % TOP_BIT,
         e[NAME + 10] % TOP_BIT,
-        first,
-        second,
-        (records % 256) as u8,
-        (records / 256 % 256) as u8,
-        (records / 256 / 256 % 256) as u8,
-        (records / 256 / 256 / 256 % 256) as u8,
-        (blocks % 256) as u8,
-        (blocks / 256 % 256) as u8,
+        u8::from(read_only),
+        u8::from(system),
+        records[0],
+        records[1],
+        records[2],
+        records[3],
+        blocks[0],
+        blocks[1],
         0,
         0,
         0,
         0,
     ];
-    lists::copy(out, &bytes);
+    out.copy_from_slice(&bytes);
 }
 
 // Lays the line of the file that has the entry e.

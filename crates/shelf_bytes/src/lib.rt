@@ -6,10 +6,8 @@ ghost use Rattle.shelf_bytes.specs.Layout.{shelf_bytes, figure_at, encoded, deco
 
 use shelf_figures::Shelf;
 
-// Bytes of a figure, figures of a shelf with the volumes seen, and bytes of a shelf.
+// Bytes of a figure, and of a shelf: seven figures and the volumes seen.
 const FIGURE_BYTES: usize = 8;
-
-const FIGURES: usize = 8;
 
 pub const SHELF_BYTES: usize = 64;
 
@@ -19,8 +17,7 @@ fn figure_at(b: &[u8], k: usize) -> usize
     ensures { result ≡ figure_at b.now k }
 {
     let at = FIGURE_BYTES * k;
-    let x = numbers::eight_of(&b[at..at + FIGURE_BYTES]);
-    x as usize
+    numbers::eight_of(&b[at..at + FIGURE_BYTES]) as usize
 }
 
 // The shelf in these bytes.
@@ -48,11 +45,8 @@ pub fn encode(s: Shelf, out: &mut [u8])
     let figures = [
         s.refused, s.files, s.entries, s.records, s.held, s.free, s.waste, s.seen,
     ];
-    let mut k = 0;
-    while k < FIGURES {
+    for (k, x) in figures.iter().enumerate() {
         let at = FIGURE_BYTES * k;
-        let x = figures[k] as u64;
-        numbers::put_eight(&mut out[at..at + FIGURE_BYTES], x);
-        k += 1;
+        numbers::put_eight(&mut out[at..at + FIGURE_BYTES], *x as u64);
     }
 }

@@ -2,7 +2,7 @@
 // lower slots are looked at.
 #![tactic(auto)]
 
-ghost use Rattle.std.specs.Prelude.{◌≡◌, false, ◌+◌, ◌-◌, ◌/◌, ◌≤◌, ◌<◌, eqb, length};
+ghost use Rattle.std.specs.Prelude.{◌≡◌, true, false, MatchOption, ◌+◌, ◌-◌, ◌/◌, ◌≤◌, ◌<◌, eqb, length};
 ghost use Rattle.lists.specs.Bounded.{any};
 ghost use Rattle.lists.specs.Bytes.{byte};
 ghost use Rattle.disk_geometry.specs.Geometry.{slots};
@@ -38,10 +38,9 @@ const KEYED: usize = NEXT * NEXT;
 
 const WORDS: usize = 1 << 32;
 
-// How a look for a file ended: it was seen; or its way ends at `last`, 1 and the slot, where it would go on by `bit`.
+// Where the way of a file that was not seen ends: at `last`, 1 and the slot, where it would go on by `bit`.
 #[derive(Clone, Copy)]
-struct Way {
-    seen: bool,
+struct End {
     last: usize,
     bit: usize,
 }
@@ -51,11 +50,9 @@ fn key_of(user: u8, name: &[u8]) -> usize
     requires { IsName name.now }
     ensures { (result ≡ key_of user (strip name.now)) × (result < KEYS) }
 {
-    let mut key = lists::wide(user);
-    let mut p = 0;
-    while p < fields::NAME_BYTES {
-        key = (FACTOR * key + lists::wide(name[p] % names::TOP_BIT)) % KEYS;
-        p += 1;
+    let mut key = usize::from(user);
+    for b in name {
+        key = (FACTOR * key + usize::from(*b % names::TOP_BIT)) % KEYS;
     }
     key
 }
@@ -79,20 +76,6 @@ fn with_next(node: usize, bit: usize, s: usize) -> usize
         return node + s;
     }
     node + s * NEXT
-}
-
-// A number of 16 bits as a size.
-fn wide(x: u16) -> usize
-    ensures { result ≡ x }
-{
-    x as usize
-}
-
-// A word as a size.
-fn word(x: u32) -> usize
-    ensures { (result ≡ x) × (result < WORDS) }
-{
-    x as usize
 }
 
 // Has slot j, whose word this is, an entry of this user's file of this name, which has this key?
@@ -123,7 +106,8 @@ fn is_here(
     )
 }
 
-// Looks for an entry of this user's file of this name in the i lowest slots, along the way of its key, which begins at `first`.
+// Looks for an entry of this user's file of this name in the i lowest slots, along the way of its key, which begins at `first`. Nothing,
+// where it is seen; else where the way ends.
 fn follow(
     g: Geometry,
     volume: &[u8],
@@ -133,37 +117,32 @@ fn follow(
     name: &[u8],
     key: usize,
     nodes: &[u32],
-) -> Way
+) -> Option<End>
     requires volume { IsVolume g volume.now }
     requires i_bound { (i < slots g) × (IsName name.now × (eqb user EMPTY ≡ false)) }
     requires key_value { (key ≡ key_of user (strip name.now)) × (first ≡ way g volume.now i key 0) }
     requires nodes { Nodes g volume.now nodes.now i }
-    ensures seen_value { result.seen ≡ any i (λ j. of_file user (strip name.now) (slot_at g volume.now j)) }
-    ensures ended { result.seen ≡ false → Ended g volume.now i key result.last result.bit }
+    ensures { MatchOption result
+        (any i (λ j. of_file user (strip name.now) (slot_at g volume.now j)) ≡ true)
+        (λ end. (any i (λ j. of_file user (strip name.now) (slot_at g volume.now j)) ≡ false)
+        × Ended g volume.now i key end.last end.bit) }
 {
+    // A `while`, since it walks a chain of slots.
     let mut s = first;
     let mut rest = key / MIXED;
     let mut last = 0;
     let mut bit = 0;
     while 0 < s {
-        let node = word(nodes[s - 1]);
+        let node = nodes[s - 1] as usize;
         if is_here(g, volume, s - 1, node, user, name, key) {
-            return Way {
-                seen: true,
-                last,
-                bit,
-            };
+            return None;
         }
         last = s;
         bit = rest % 2;
         rest = rest / 2;
         s = next_in(node, bit);
     }
-    Way {
-        seen: false,
-        last,
-        bit,
-    }
+    Some(End { last, bit })
 }
 
 // Slot i is where a way goes on that ended: at no slot of its chain, or at `last` by `bit`.
@@ -177,7 +156,7 @@ fn link(i: usize, key: usize, last: usize, bit: usize, heads: &mut [u16], nodes:
         heads[key % CHAINS] = (i + 1) as u16;
         return;
     }
-    let node = word(nodes[last - 1]);
+    let node = nodes[last - 1] as usize;
     nodes[last - 1] = with_next(node, bit, i + 1) as u32;
 }
 
@@ -199,8 +178,8 @@ pub fn is_first(
 {
     let user = e[fields::USER];
     let key = key_of(user, &e[fields::NAME..fields::NAME_END]);
-    let first = wide(heads[key % CHAINS]);
-    let way = follow(
+    let first = usize::from(heads[key % CHAINS]);
+    let Some(end) = follow(
         g,
         volume,
         i,
@@ -209,11 +188,10 @@ pub fn is_first(
         &e[fields::NAME..fields::NAME_END],
         key,
         nodes,
-    );
-    if way.seen {
+    ) else {
         return false;
-    }
-    link(i, key, way.last, way.bit, heads, nodes);
+    };
+    link(i, key, end.last, end.bit, heads, nodes);
     nodes[i] = (key / WORDS * KEYED) as u32;
     true
 }

@@ -1,9 +1,10 @@
--- What one slot adds: nothing if it is empty; otherwise an entry, and its records.
-use mathlib.Core.Path.{◌≡◌}
-use mathlib.Core.Bool.{true, false, cond}
+-- What one slot adds: nothing if it is empty; otherwise an entry, and its records. A test as a number.
+use mathlib.Core.Path.{◌≡◌, refl}
+use mathlib.Core.Bool.{Bool, true, false, cond}
 use mathlib.Core.List.{List}
-use Prim.Native.Nat.{ℕ, ◌+◌}
+use Prim.Native.Nat.{ℕ, ◌+◌, ◌≤◌}
 use native.Mathlib.Omega.{arith}
+use Rattle.std.specs.Int.{from_bool}
 use Rattle.disk_geometry.specs.declared.Geometry.{Geometry}
 use Rattle.disk_volume.specs.Entry.{is_empty}
 use Rattle.disk_volume.specs.Directory.{slot_at}
@@ -34,3 +35,7 @@ module _ (g : Geometry) (v : List ℕ) (i n : ℕ) where
     pub its_records : entry_records g (slot_at g v i) ≡ slot_records g v i
     unfolding slot_records
     its_records = rw used
+
+pub one_if : (t : Bool) → (from_bool t ≡ cond t 1 0) × (from_bool t ≤ 1)
+one_if true = (refl, omega arith)
+one_if false = (refl, omega arith)

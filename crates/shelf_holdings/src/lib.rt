@@ -38,7 +38,7 @@ fn run_of(g: Geometry, e: &[u8]) -> usize
     ensures { (result ≡ run g e.now) × (result ≤ 512) }
 {
     let x = entry::extent_of(e);
-    Geometry::EXTENT_RECORDS * (x % g.extents()) + lists::wide(entry::count_of(e, x))
+    Geometry::EXTENT_RECORDS * (x % g.extents()) + usize::from(entry::count_of(e, x))
 }
 
 // How many records of place p are present, where so many of the run are left for this place and the higher ones.
@@ -50,15 +50,7 @@ fn place_records(g: Geometry, e: &[u8], p: usize, left: usize) -> usize
     if entry::block_in(g, e, p) == 0 {
         return 0;
     }
-    let r = g.records();
-    if left < r { left } else { r }
-}
-
-// What is left of n when r are taken.
-fn less(n: usize, r: usize) -> usize
-    ensures { result ≡ n - r }
-{
-    if n < r { 0 } else { n - r }
+    left.min(g.records())
 }
 
 // How many records of the entry are present.
@@ -66,23 +58,13 @@ fn entry_records(g: Geometry, e: &[u8]) -> usize
     requires { (lawful g ≡ true) × IsEntry e.now }
     ensures { (result ≡ entry_records g e.now) × (result ≤ 512) }
 {
-    let n = g.places();
     let mut left = run_of(g, e);
     let mut m = 0;
-    let mut p = 0;
-    while p < n {
+    for p in 0..g.places() {
         m += place_records(g, e, p, left);
-        left = less(left, g.records());
-        p += 1;
+        left = left.saturating_sub(g.records());
     }
     m
-}
-
-// 1 or 0.
-fn one_if(t: bool) -> usize
-    ensures { (result ≡ cond t 1 0) × (result ≤ 1) }
-{
-    if t { 1 } else { 0 }
 }
 
 // The counts with what slot i has.
@@ -110,7 +92,7 @@ fn add_slot(
     }
     let e = &volume[at..at + Geometry::ENTRY_BYTES];
     let first = shelf_files::is_first(g, volume, i, e, heads, nodes);
-    let files = c.files + one_if(first);
+    let files = c.files + usize::from(first);
     let entries = c.entries + 1;
     let records = c.records + entry_records(g, e);
     Counts {
@@ -127,7 +109,6 @@ fn count(g: Geometry, volume: &[u8]) -> Counts
     ensures entries_value { result.entries ≡ entries g volume.now }
     ensures records_value { result.records ≡ records_by_entries g volume.now }
 {
-    let n = g.slots();
     let mut heads = [0u16; shelf_files::CHAINS];
     let mut nodes = [0u32; shelf_files::SLOTS];
     let mut c = Counts {
@@ -135,10 +116,8 @@ fn count(g: Geometry, volume: &[u8]) -> Counts
         entries: 0,
         records: 0,
     };
-    let mut i = 0;
-    while i < n {
+    for i in 0..g.slots() {
         c = add_slot(g, volume, i, c, &mut heads, &mut nodes);
-        i += 1;
     }
     c
 }

@@ -3,12 +3,13 @@ use Rattle.files.specs.Files.{next_file}
 use Rattle.disk_volume.proofs.EntryLaws.{lent_slot}
 use Rattle.lists.proofs.BoundedLaws.{searched_start, searched_next, searched_hit, searched_none}
 use mathlib.Core.Path.{◌≡◌, sym, ◌∙◌}
+use native.Mathlib.Omega.{arith}
 use borrow.Author.Rules.{rules}
 use Rattle.files.proofs.next_file.Invariants.{listed_at}
 use Rattle.files.proofs.next_file.Goals as goal
 
 pub loop-i-init : goal.loop-i-init
-loop-i-init c = searched_start
+loop-i-init c = (search rules, searched_start)
 
 pub returns-then-is_listed : goal.returns-then-is_listed
 unfolding next_file
@@ -17,7 +18,7 @@ returns-then-is_listed c =
     let at = c.slot_start-at in
     let j = c.loop-i.i in
     let seen : c.is_listed.result ≡ listed_at a.g a.volume.now j = rw (← lent_slot a.g a.volume.now j at.result at.ensures.0) c.is_listed.ensures in
-    sym (searched_hit c.loop-i.invariant (search rules) (sym (seen) ∙ c.if-is_listed.true))
+    sym (searched_hit c.loop-i.invariant.1 (search rules) (sym seen ∙ c.if-is_listed.true))
 
 pub loop-i-preserved : goal.loop-i-preserved
 loop-i-preserved c =
@@ -25,8 +26,10 @@ loop-i-preserved c =
     let at = c.slot_start-at in
     let j = c.loop-i.i in
     let seen : c.is_listed.result ≡ listed_at a.g a.volume.now j = rw (← lent_slot a.g a.volume.now j at.result at.ensures.0) c.is_listed.ensures in
-    searched_next c.loop-i.invariant (search rules) (sym (seen) ∙ c.if-is_listed.false)
+    (omega arith, searched_next c.loop-i.invariant.1 (search rules) (sym seen ∙ c.if-is_listed.false))
 
 pub returns : goal.returns
 unfolding next_file
-returns c = sym (searched_none c.loop-i.invariant (search rules))
+returns c =
+    let last : c.max.result ≡ c.loop-i.i = omega arith in
+    last ∙ sym (searched_none c.loop-i.invariant.1 (search rules))

@@ -1,5 +1,5 @@
 -- The figures of the places passed so far are laid.
-use mathlib.Core.Path.{◌≡◌, refl}
+use mathlib.Core.Path.{◌≡◌}
 use Prim.Native.Nat.{◌+◌, ◌-◌, ◌*◌}
 use native.Mathlib.Omega.{arith}
 use Rattle.lists.specs.Bytes.{put}
@@ -9,15 +9,15 @@ use borrow.Author.Rules.{rules}
 use Rattle.shelf_bytes.proofs.encode.Goals as goal
 
 pub loop-k-init : goal.loop-k-init
-loop-k-init c = (search rules, (refl, laid_start (search rules)))
+loop-k-init c = laid_start (search rules)
 
 pub loop-k-preserved : goal.loop-k-preserved
 unfolding put
 loop-k-preserved c =
     let l = c.loop-k in
     let z : 8 * l.k + 8 - 8 * l.k ≡ 8 = omega arith in
-    (search rules, (refl, rw (z, c.put_eight.ensures) (laid_next l.invariant.1.1 (omega arith))))
+    rw (z, c.put_eight.ensures) (laid_next l.invariant (omega arith))
 
 pub returns : goal.returns
 unfolding encoded
-returns c = laid_end c.loop-k.invariant.1.1 (omega arith)
+returns c = laid_end c.loop-k.invariant (omega arith)

@@ -2,20 +2,17 @@
 use mathlib.Core.Path.{sym, ap, ◌∙◌}
 use Prim.Native.Nat.{ℕ, ◌+◌, ◌*◌, ◌%◌}
 use borrow.Author.Rules.{rules}
-use Rattle.lists.proofs.FoldLaws.{folded_start, folded_next, folded_end}
+use Rattle.lists.proofs.FoldLaws.{folded_next, folded_end}
 use Rattle.disk_volume.proofs.NameLaws.{byte_strip}
 use Rattle.shelf_files.specs.CodeTree.{KEYS, FACTOR, key_of}
 use Rattle.shelf_files.proofs.key_of.Goals as goal
 
-pub loop-p-init : goal.loop-p-init
-loop-p-init c = (search rules, (search rules, rw c.wide-key.ensures.0 folded_start))
-
-pub loop-p-preserved : goal.loop-p-preserved
-loop-p-preserved c =
-    let l = c.loop-p in
-    let next = ap (λ (x : ℕ). (FACTOR * l.key + x) % KEYS) (c.wide.ensures.0 ∙ sym (byte_strip c.args.name.now l.p)) in
-    (search rules, (search rules, folded_next l.invariant.1.1 (search rules) next))
+pub loop-b-preserved : goal.loop-b-preserved
+loop-b-preserved c =
+    let l = c.loop-b in
+    let next = ap (λ (x : ℕ). (FACTOR * l.key + x) % KEYS) (c.from.ensures ∙ sym (byte_strip c.args.name.now l.b-index)) in
+    (search rules, folded_next l.invariant.1 (search rules) next)
 
 pub returns : goal.returns
 unfolding key_of
-returns c = (sym (folded_end c.loop-p.invariant.1.1 (search rules)), c.loop-p.invariant.1.0)
+returns c = (sym (folded_end c.loop-b.invariant.1 (search rules)), c.loop-b.invariant.0)

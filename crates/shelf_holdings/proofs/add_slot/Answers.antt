@@ -11,7 +11,7 @@ use Rattle.disk_inspection.proofs.SlotLaws.{slot_empty, slot_used}
 use Rattle.files.specs.Files.{is_listed}
 use Rattle.shelf_files.proofs.TreeLaws.{heads_still, nodes_still}
 use Rattle.shelf_holdings.specs.CodeEntries.{entry_records}
-use Rattle.shelf_holdings.proofs.SlotLaws.{not_listed, no_file, no_entry_lem, no_records, one_entry, its_records}
+use Rattle.shelf_holdings.proofs.SlotLaws.{not_listed, no_file, no_entry_lem, no_records, one_entry, its_records, one_if}
 use borrow.Author.Rules.{rules}
 use Rattle.shelf_holdings.proofs.add_slot.Goals as goal
 
@@ -43,7 +43,7 @@ is_first-first-requires c =
     }
 
 pub overflow_add-files : goal.overflow_add-files
-overflow_add-files c = omega (arith, (bounds _ c.requires.volume.0).slots_high, c.requires.i_bound, c.one_if.ensures.1)
+overflow_add-files c = omega (arith, (bounds _ c.requires.volume.0).slots_high, c.requires.i_bound, (one_if c.is_first-first.result).1)
 
 pub overflow_add-entries : goal.overflow_add-entries
 overflow_add-entries c = omega (arith, (bounds _ c.requires.volume.0).slots_high, c.requires.i_bound)
@@ -60,12 +60,12 @@ returns c =
     let at = c.slot_start-at in
     let e = lent_slot a.g a.volume.now a.i at.result at.ensures.0 in
     let first = c.is_first-first.ensures.value ∙ ap (λ (x : Entry). is_listed a.g a.volume.now x a.i) e in
-    let one = c.one_if.ensures in
+    let one : c.from.result ≡ cond c.is_first-first.result 1 0 = c.from.ensures ∙ (one_if c.is_first-first.result).0 in
     let some = c.entry_records.ensures in
     record {
-      files_value = ap (λ (x : ℕ). a.c.files + x) (one.0 ∙ ap (λ (t : Bool). cond t 1 0) first);
+      files_value = ap (λ (x : ℕ). a.c.files + x) (one ∙ ap (λ (t : Bool). cond t 1 0) first);
       entries_value = one_entry a.g a.volume.now a.i a.c.entries used;
       records_value = ap (λ (x : ℕ). a.c.records + x) (some.0 ∙ ap (λ (x : Entry). entry_records a.g x) e ∙ its_records a.g a.volume.now a.i 0 used);
-      files_bound = (omega (arith, c.requires.i_bound, one.1), (omega (arith, c.requires.i_bound), omega (arith, c.requires.i_bound, some.1)));
+      files_bound = (omega (arith, c.requires.i_bound, (one_if c.is_first-first.result).1), (omega (arith, c.requires.i_bound), omega (arith, c.requires.i_bound, some.1)));
       heads_2 = c.is_first-first.ensures.heads;
     }

@@ -20,7 +20,6 @@ no_begin (suc n) (suc c) = no_begin n c
 pub loop-i-init : goal.loop-i-init
 loop-i-init c =
     record {
-      low = search rules;
       few_files = omega arith;
       few_entries = omega arith;
       few_records = omega arith;
@@ -44,7 +43,6 @@ pub loop-i-preserved : goal.loop-i-preserved
 loop-i-preserved c =
     let s = c.loop-i.invariant in
     record {
-      low = search rules;
       few_files = c.add_slot-c.ensures.files_bound.0;
       few_entries = c.add_slot-c.ensures.files_bound.1.0;
       few_records = c.add_slot-c.ensures.files_bound.1.1;

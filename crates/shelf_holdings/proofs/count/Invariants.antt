@@ -1,7 +1,7 @@
 -- Files, entries and records of the slots passed so far are added up, and their files are in the tree.
 use mathlib.Core.Bool.{cond}
 use mathlib.Core.List.{List}
-use Prim.Native.Nat.{ℕ, ◌-◌, ◌*◌, ◌≤◌}
+use Prim.Native.Nat.{ℕ, ◌*◌, ◌≤◌}
 use Rattle.sums.proofs.SumLaws.{Summed}
 use Rattle.disk_geometry.specs.declared.Geometry.{Geometry}
 use Rattle.disk_geometry.specs.Geometry.{slots}
@@ -12,7 +12,6 @@ use Rattle.shelf_holdings.proofs.count.Given as goal
 
 -- the slots passed so far
 pub record SoFar (g : Geometry) (v heads nodes : List ℕ) (f e r i : ℕ) : Type 0 where
-  pub low : i ≤ slots g
   pub few_files : f ≤ i
   pub few_entries : e ≤ i
   pub few_records : r ≤ 512 * i
@@ -24,6 +23,3 @@ pub record SoFar (g : Geometry) (v heads nodes : List ℕ) (f e r i : ℕ) : Typ
 
 abbrev pub invariant-loop-i : goal.invariant-loop-i
 invariant-loop-i l = SoFar l.g l.volume l.heads l.nodes l.c.files l.c.entries l.c.records l.i
-
-abbrev pub decreases-loop-i : goal.decreases-loop-i
-decreases-loop-i l = l.n - l.i

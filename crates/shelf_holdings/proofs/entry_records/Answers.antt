@@ -8,7 +8,7 @@ use borrow.Author.Rules.{rules}
 use Rattle.shelf_holdings.proofs.entry_records.Goals as goal
 
 pub loop-p-init : goal.loop-p-init
-loop-p-init c = record { low = search rules; few = search rules; rest = omega arith; sum = summed_start }
+loop-p-init c = record { few = search rules; rest = omega arith; sum = summed_start }
 
 pub place_records-m-requires : goal.place_records-m-requires
 place_records-m-requires c =
@@ -21,12 +21,11 @@ pub loop-p-preserved : goal.loop-p-preserved
 loop-p-preserved c =
     let l = c.loop-p in
     record {
-      low = search rules;
       few = omega (arith, c.place_records-m.ensures.1, l.invariant.few);
-      rest = omega (arith, c.less-left.ensures, c.records.ensures, l.invariant.rest);
+      rest = omega (arith, c.saturating_sub-left.ensures, c.records.ensures, l.invariant.rest);
       sum = summed_next l.invariant.sum (search rules) (ap (λ (x : ℕ). l.m + x) c.place_records-m.ensures.0);
     }
 
 pub returns : goal.returns
 unfolding entry_records
-returns c = (summed_end c.loop-p.invariant.sum (search rules), omega (arith, c.loop-p.invariant.few, c.loop-p.invariant.low))
+returns c = (summed_end c.loop-p.invariant.sum (search rules), omega (arith, c.loop-p.invariant.few))

@@ -10,13 +10,9 @@ use Rattle.shelf_holdings.proofs.entry_records.Given as goal
 
 -- the places passed so far
 pub record SoFar (g : Geometry) (e : List ℕ) (left m p : ℕ) : Type 0 where
-  pub low : p ≤ places g
   pub few : m ≤ 32 * p
   pub rest : left ≡ run g e - p * records g
   pub sum : Summed (place_records g e) (places g) m p
 
 abbrev pub invariant-loop-p : goal.invariant-loop-p
 invariant-loop-p l = SoFar l.g l.e l.left l.m l.p
-
-abbrev pub decreases-loop-p : goal.decreases-loop-p
-decreases-loop-p l = l.n - l.p

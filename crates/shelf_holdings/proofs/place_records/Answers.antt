@@ -10,18 +10,9 @@ use Rattle.shelf_holdings.proofs.place_records.Goals as goal
 pub returns-then-block_in-eq0 : goal.returns-then-block_in-eq0
 returns-then-block_in-eq0 c = (sym (place_unused _ _ _ (sym c.block_in.ensures.0 ∙ c.if-block_in-eq0.true)), omega arith)
 
-pub returns-then-left-r : goal.returns-then-left-r
-returns-then-left-r c =
+pub returns : goal.returns
+returns c =
     let used : (let a = c.args in block_in a.g a.e.now a.p ≢ 0) = λ z. c.if-block_in-eq0.false (c.block_in.ensures.0 ∙ z) in
     let a = c.args in
     let is = place_used a.g a.e.now a.p a.left used c.requires.left_value in
-    let r = c.records-r.ensures in
-    (omega arith, omega (arith, (bounds _ c.requires.g_value.0).block_high))
-
-pub returns-else-left-r : goal.returns-else-left-r
-returns-else-left-r c =
-    let used : (let a = c.args in block_in a.g a.e.now a.p ≢ 0) = λ z. c.if-block_in-eq0.false (c.block_in.ensures.0 ∙ z) in
-    let a = c.args in
-    let is = place_used a.g a.e.now a.p a.left used c.requires.left_value in
-    let r = c.records-r.ensures in
-    (omega arith, omega (arith, (bounds _ c.requires.g_value.0).block_high))
+    (omega (arith, c.records.ensures), omega (arith, c.records.ensures, (bounds _ c.requires.g_value.0).block_high))

@@ -25,7 +25,7 @@ overflow_add-result c =
     let some : 0 < c.extents.result = omega (arith, c.extents.ensures, b.some_extents) in
     let four : c.extents.result ≤ 4 = omega (arith, c.extents.ensures, b.block_high) in
     omega (arith, mod-lt c.extent_of-x.result some)) in
-    omega (arith, few_below, c.wide.ensures.0, c.count_of.ensures.1)
+    omega (arith, few_below, c.from.ensures, c.count_of.ensures.1)
 
 pub returns : goal.returns
 returns c =
@@ -34,5 +34,5 @@ returns c =
     let four : c.extents.result ≤ 4 = omega (arith, c.extents.ensures, b.block_high) in
     omega (arith, mod-lt c.extent_of-x.result some)) in
     let a = c.args in
-    let own : c.wide.result ≡ min (byte a.e.now 15) 128 = c.wide.ensures.0 ∙ c.count_of.ensures.0 ∙ count_own a.e.now c.extent_of-x.result c.extent_of-x.ensures.0 in
-    (rw (own, c.extent_of-x.ensures.0, c.extents.ensures), omega (arith, few_below, c.wide.ensures.0, c.count_of.ensures.1))
+    let own : c.from.result ≡ min (byte a.e.now 15) 128 = c.from.ensures ∙ c.count_of.ensures.0 ∙ count_own a.e.now c.extent_of-x.result c.extent_of-x.ensures.0 in
+    (rw (own, c.extent_of-x.ensures.0, c.extents.ensures), omega (arith, few_below, c.from.ensures, c.count_of.ensures.1))

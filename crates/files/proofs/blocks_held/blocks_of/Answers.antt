@@ -6,11 +6,11 @@ use borrow.Author.Rules.{rules}
 use Rattle.files.proofs.blocks_held.blocks_of.Goals as goal
 
 pub loop-i-init : goal.loop-i-init
-loop-i-init c = (search rules, (search rules, folded_start))
+loop-i-init c = (search rules, folded_start)
 
 pub loop-i-preserved : goal.loop-i-preserved
-loop-i-preserved c = (search rules, (c.more_blocks-m.ensures.1, folded_next c.loop-i.invariant.1.1 (search rules) c.more_blocks-m.ensures.0))
+loop-i-preserved c = (c.more_blocks-m.ensures.1, folded_next c.loop-i.invariant.1 (search rules) c.more_blocks-m.ensures.0)
 
 pub returns : goal.returns
 unfolding blocks_of
-returns c = sym (folded_end c.loop-i.invariant.1.1 (search rules))
+returns c = sym (folded_end c.loop-i.invariant.1 (search rules))

@@ -5,11 +5,11 @@ use borrow.Author.Rules.{rules}
 use Rattle.files.proofs.blocks_held.used_places.Goals as goal
 
 pub loop-p-init : goal.loop-p-init
-loop-p-init c = (search rules, (search rules, counted_start))
+loop-p-init c = (search rules, counted_start)
 
 pub loop-p-preserved : goal.loop-p-preserved
-loop-p-preserved c = (search rules, (search rules, counted_next c.loop-p.invariant.1.1 (search rules) c.used_at-used.ensures.0))
+loop-p-preserved c = (search rules, counted_next c.loop-p.invariant.1 (search rules) c.used_at-used.ensures.0)
 
 pub returns : goal.returns
 unfolding used_places
-returns c = (counted_end c.loop-p.invariant.1.1 (search rules), search rules)
+returns c = (counted_end c.loop-p.invariant.1 (search rules), search rules)
