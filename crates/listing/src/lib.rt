@@ -34,7 +34,7 @@ fn put_refused(out: &mut [u8], answer: Answer) -> usize
     ensures { text out.new result ≡ puts (text out.old 0) (refused answer) }
 {
     let at = text::put_bytes(out, 0, b"REFUSED ");
-    text::put_decimal(out, at, lists::wide(call_answers::number(answer)))
+    text::put_decimal(out, at, usize::from(call_answers::number(answer)))
 }
 
 // The listing of the volume, as far as `out` has room, and how many bytes it has taken. In a buffer of ROOM bytes it is
@@ -59,7 +59,6 @@ pub fn list(volume: &[u8], out: &mut [u8]) -> usize
             let a = put_refused(out, answer);
             text::put_byte(out, a, b'\n')
         }
-        Answer::Done(_) => 0,
-        Answer::Several(_, _) => 0,
+        Answer::Done(_) | Answer::Several(_, _) => 0,
     }
 }

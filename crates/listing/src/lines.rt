@@ -16,10 +16,8 @@ fn put_stripped(out: &mut [u8], at: usize, s: &[u8]) -> usize
     ensures { text out.new result ≡ puts (text out.old at) (strip s.now) }
 {
     let mut p = at;
-    let mut i = 0;
-    while i < s.len() {
-        p = text::put_byte(out, p, s[i] % TOP_BIT);
-        i += 1;
+    for b in s {
+        p = text::put_byte(out, p, *b % TOP_BIT);
     }
     p
 }
@@ -43,7 +41,7 @@ fn put_line(g: Geometry, volume: &[u8], e: &[u8], out: &mut [u8], at: usize) -> 
     let user = e[USER];
     let size = call_size::size_of(g, volume, user, &e[NAME..NAME_END]);
     let blocks = blocks_held::blocks_of(g, volume, user, &e[NAME..NAME_END]);
-    let a = text::put_decimal(out, at, lists::wide(user));
+    let a = text::put_decimal(out, at, usize::from(user));
     let b = text::put_byte(out, a, b' ');
     let c = put_name(out, b, e);
     let d = text::put_byte(out, c, b' ');
@@ -72,12 +70,9 @@ fn put_lines(g: Geometry, volume: &[u8], out: &mut [u8], at: usize) -> usize
     ensures { text out.new result
         ≡ puts (text out.old at) (lines_from g volume.now 0 (slots g)) }
 {
-    let n = g.slots();
     let mut p = at;
-    let mut i = 0;
-    while i < n {
+    for i in 0..g.slots() {
         p = put_slot_line(g, volume, i, out, p);
-        i += 1;
     }
     p
 }

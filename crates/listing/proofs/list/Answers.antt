@@ -1,5 +1,6 @@
 -- Log-in's answer says which listing it is.
 use mathlib.Core.Path.{refl}
+use mathlib.Core.Logic.{inl, inr}
 use Rattle.listing.proofs.ListingLaws.{listed, may_list, wrote_refused}
 use Rattle.listing.specs.Listing.{listing_for}
 use Rattle.text.proofs.TextLaws.{wrote, wrote_byte, then}
@@ -39,12 +40,11 @@ pub returns-in-Done : goal.returns-in-Done
 unfolding listing_for puts
 returns-in-Done c =
     let a = c.args in
-    let l = listed a.volume.now c.geometry-g.ensures c.log_in-r.ensures a.out.now _ c.in-Done.is refl in
-    record { result_after = l.0; upper_bound = l.1 }
-
-pub returns-in-Several : goal.returns-in-Several
-unfolding listing_for puts
-returns-in-Several c =
-    let a = c.args in
-    let l = listed a.volume.now c.geometry-g.ensures c.log_in-r.ensures a.out.now _ c.in-Several.is refl in
-    record { result_after = l.0; upper_bound = l.1 }
+    elim c.in-Done.is [
+      | inl d ↦
+          let l = listed a.volume.now c.geometry-g.ensures c.log_in-r.ensures a.out.now _ d.1 refl in
+          record { result_after = l.0; upper_bound = l.1 }
+      | inr d ↦
+          let l = listed a.volume.now c.geometry-g.ensures c.log_in-r.ensures a.out.now _ d.2 refl in
+          record { result_after = l.0; upper_bound = l.1 }
+    ]

@@ -9,5 +9,5 @@ use Rattle.listing.proofs.put_refused.Goals as goal
 pub returns : goal.returns
 returns c =
     let a = c.args.answer in
-    let is = c.wide.ensures.0 ∙ c.number.ensures in
+    let is = c.from.ensures ∙ c.number.ensures in
     (then (wrote refused_word c.put_bytes-at.ensures) (wrote_number (number_of a) is c.put_decimal.ensures)).is

@@ -14,7 +14,7 @@ returns c =
     let a = c.args in
     let e = a.e.now in
     let v = a.volume.now in
-    (then (wrote_number (byte e 0) c.wide.ensures.0 c.put_decimal-a.ensures)
+    (then (wrote_number (byte e 0) c.from.ensures c.put_decimal-a.ensures)
     (then (wrote_byte 32 c.put_byte-b.ensures)
     (then (wrote (name_text e) c.put_name-c.ensures)
     (then (wrote_byte 32 c.put_byte-d.ensures)

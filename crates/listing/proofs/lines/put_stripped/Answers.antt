@@ -1,6 +1,6 @@
 -- What is still to be appended from here gives the whole.
 use Prim.Native.Nat.{◌<◌, ◌+◌}
-use mathlib.Core.Path.{refl, sym, ap, ◌∙◌}
+use mathlib.Core.Path.{sym, ap, ◌∙◌}
 use native.Mathlib.Omega.{arith}
 use lib.ListN.{length, drop}
 use Rattle.listing.proofs.ListingLaws.{strip_next, strip_end}
@@ -9,19 +9,16 @@ use Rattle.disk_volume.specs.Name.{strip}
 use borrow.Author.Rules.{rules}
 use Rattle.listing.proofs.lines.put_stripped.Goals as goal
 
-pub loop-i-init : goal.loop-i-init
-loop-i-init c = (search rules, (refl, refl))
-
-pub loop-i-preserved : goal.loop-i-preserved
+pub loop-b-preserved : goal.loop-b-preserved
 unfolding puts
-loop-i-preserved c =
-    let l = c.loop-i in
+loop-b-preserved c =
+    let l = c.loop-b in
     let s = c.args.s.now in
-    let h : l.i < length s = omega arith in
-    (search rules, (c.put_byte-p.auto.out ∙ l.invariant.1.0, ap (λ (t : Text). puts t (strip (drop (l.i + 1) s))) c.put_byte-p.ensures ∙ sym (ap (puts (text l.out l.p)) (strip_next s l.i h)) ∙ l.invariant.1.1))
+    let h : l.b-index < length s = omega arith in
+    ap (λ (t : Text). puts t (strip (drop (l.b-index + 1) s))) c.put_byte-p.ensures ∙ sym (ap (puts (text l.out l.p)) (strip_next s l.b-index h)) ∙ l.invariant
 
 pub returns : goal.returns
 unfolding puts
 returns c =
-    let l = c.loop-i in
-    sym (ap (puts (text l.out l.p)) (strip_end c.args.s.now l.i (search rules))) ∙ l.invariant.1.1
+    let l = c.loop-b in
+    sym (ap (puts (text l.out l.p)) (strip_end c.args.s.now l.b-index (search rules))) ∙ l.invariant
