@@ -1,8 +1,0 @@
--- What is still to be appended from here gives the whole.
-use Rattle.text.specs.Text.{text, puts}
-use lib.ListN.{drop}
-use mathlib.Core.Path.{◌≡◌}
-use Rattle.text.proofs.put_bytes.Given as goal
-
-abbrev pub invariant-loop-b : goal.invariant-loop-b
-invariant-loop-b l = puts (text l.out l.p) (drop l.b-index l.s) ≡ puts (text l.initial.out l.initial.p) l.s
