@@ -1,24 +1,17 @@
--- What is still to be appended from here gives the whole.
-use Prim.Native.Nat.{◌<◌, ◌+◌}
-use mathlib.Core.Path.{sym, ap, ◌∙◌}
-use native.Mathlib.Omega.{arith}
-use lib.ListN.{length, drop}
-use Rattle.listing.proofs.ListingLaws.{strip_next, strip_end}
-use Rattle.text.specs.Text.{Text, text, puts}
+-- The bytes passed so far were appended without their top bits.
+use Rattle.listing.proofs.ListingLaws.{strip_more}
+use Rattle.text.proofs.WriterLaws.{none, then}
 use Rattle.disk_volume.specs.Name.{strip}
+use lib.Seq.{take_all}
 use borrow.Author.Rules.{rules}
 use Rattle.listing.proofs.lines.put_stripped.Goals as goal
 
+pub loop-b-init : goal.loop-b-init
+unfolding strip
+loop-b-init c = none _
+
 pub loop-b-preserved : goal.loop-b-preserved
-unfolding puts
-loop-b-preserved c =
-    let l = c.loop-b in
-    let s = c.args.s.now in
-    let h : l.b-index < length s = omega arith in
-    ap (λ (t : Text). puts t (strip (drop (l.b-index + 1) s))) c.put_byte-p.ensures ∙ sym (ap (puts (text l.out l.p)) (strip_next s l.b-index h)) ∙ l.invariant
+loop-b-preserved c = rw (strip_more c.args.s.now c.loop-b.b-index (search rules)) (then c.loop-b.invariant c.byte.ensures)
 
 pub returns : goal.returns
-unfolding puts
-returns c =
-    let l = c.loop-b in
-    sym (ap (puts (text l.out l.p)) (strip_end c.args.s.now l.b-index (search rules))) ∙ l.invariant
+returns c = rw (take_all c.loop-b.b-index c.args.s.now (search rules)) at c.loop-b.invariant

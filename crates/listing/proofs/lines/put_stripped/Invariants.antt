@@ -1,9 +1,8 @@
--- What is still to be appended from here gives the whole.
-use mathlib.Core.Path.{◌≡◌}
-use lib.ListN.{drop}
-use Rattle.text.specs.Text.{text, puts}
+-- The bytes passed so far were appended without their top bits.
+use lib.ListN.{take}
+use Rattle.text.specs.Writer.{Appends}
 use Rattle.disk_volume.specs.Name.{strip}
 use Rattle.listing.proofs.lines.put_stripped.Given as goal
 
 abbrev pub invariant-loop-b : goal.invariant-loop-b
-invariant-loop-b l = puts (text l.out l.p) (strip (drop l.b-index l.s)) ≡ puts (text l.initial.out l.initial.p) (strip l.s)
+invariant-loop-b l = Appends l.initial.w (strip (take l.b-index l.s)) l.w
