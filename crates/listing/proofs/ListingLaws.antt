@@ -1,52 +1,47 @@
 -- Laws of the listing: loops that append, and what log-in's answer tells.
 use mathlib.Core.Path.{◌≡◌, refl, sym, ap, ◌∙◌}
 use mathlib.Core.Bool.{Bool, true, false}
-use mathlib.Core.List.{List, [], ◌∷◌}
-use Prim.Native.Nat.{ℕ, suc, ◌+◌, ◌-◌, ◌%◌, ◌≤◌, ◌<◌}
+use mathlib.Core.List.{List, [], ◌∷◌, ◌++◌, append_assoc}
+use Rattle.std.proofs.lemmas.List.{append-nil, take_more}
+use native.Mathlib.Nat.{add-zero, zero-add}
+use Prim.Native.Nat.{ℕ, zero, suc, ◌+◌, ◌%◌, ◌<◌}
 use native.Mathlib.Numerals.{add-one}
 use native.Mathlib.Omega.{arith}
 use lib.Dec.{eqb}
-use lib.ListN.{length, get_or, drop, drop_of_length-le}
-use lib.Seq.{drop-cons}
+use lib.ListN.{length, get_or, take}
 use borrow.Author.Tests.{eqb-true}
 use Rattle.disk_geometry.specs.declared.Geometry.{Geometry}
 use Rattle.disk_geometry.specs.Geometry.{lawful, bytes}
 use Rattle.disk_volume.specs.Name.{strip}
-use Rattle.text.specs.Text.{Text, text, puts}
-use Rattle.text.proofs.TextLaws.{Wrote, wrote, puts_append, puts_within}
 use Rattle.call_answers.specs.declared.Refusal.TheVariants.{VolumeLength}
 use Rattle.call_answers.specs.declared.Answer.{Answer}
 use Rattle.call_answers.specs.declared.Answer.TheVariants.{Ready, Refused}
 use Rattle.call_answers.specs.Refusal.{first_met}
 use Rattle.filecalls.specs.declared.Reply.{Reply}
 use Rattle.filecalls.specs.LogIn.{log_in, log_in_tests, refused_log_in}
-use Rattle.listing.specs.Listing.{geometry_v, line_at, lines_from, refused, listing_for, listing}
-
-less : (n i : ℕ) → i < n → n - i ≡ suc (n - (i + 1))
-less n i h = omega arith
+use Rattle.listing.specs.Listing.{geometry_v, line_at, lines_from, listing_for, listing}
 
 -- ---- a loop that appends bytes without their top bits
-pub strip_next : (s : List ℕ) (i : ℕ) → i < length s → strip (drop i s) ≡ (get_or s i 0 % 128) ∷ strip (drop (i + 1) s)
+strip_append : (l m : List ℕ) → strip (l ++ m) ≡ strip l ++ strip m
 unfolding strip
-strip_next s i h = rw (drop-cons s i 0 h, add-one)
+strip_append [] m = refl
+strip_append (x ∷ l) m = rw (strip_append l m)
 
-pub strip_end : (s : List ℕ) (i : ℕ) → length s ≤ i → strip (drop i s) ≡ []
+pub strip_more : (s : List ℕ) (i : ℕ) → i < length s → strip (take (i + 1) s) ≡ strip (take i s) ++ (get_or s i 0 % 128) ∷ []
 unfolding strip
-strip_end s i h = rw (drop_of_length-le s h)
+strip_more s i h = rw (take_more s i 0 h, strip_append)
 
 -- ---- a loop that appends lines
-pub lines_next : (g : Geometry) (v : List ℕ) (n i : ℕ) (t u : Text) → i < n → u ≡ puts t (line_at g v i)
-    → puts u (lines_from g v (i + 1) (n - (i + 1))) ≡ puts t (lines_from g v i (n - i))
+lines_more : (g : Geometry) (v : List ℕ) (i k : ℕ) → lines_from g v i (k + 1) ≡ lines_from g v i k ++ line_at g v (i + k)
 unfolding lines_from
-lines_next g v n i t u h e = rw (less n i h, ← add-one i, puts_append, e)
+lines_more g v i zero = rw (add-zero, append-nil)
+lines_more g v i (suc k) =
+    let z : suc i + k ≡ i + suc k = omega arith in
+    let more : lines_from g v (suc i) (suc k) ≡ lines_from g v (suc i) k ++ line_at g v (suc i + k) = rw add-one at (lines_more g v (suc i) k) in
+    rw (add-one, append_assoc, ← z) (ap (λ (l : List ℕ). line_at g v i ++ l) more)
 
-pub lines_end : (g : Geometry) (v : List ℕ) (n i : ℕ) (t : Text) → n ≤ i → puts t (lines_from g v i (n - i)) ≡ t
-unfolding lines_from puts
-lines_end g v n i t h = let z : n - i ≡ 0 = omega arith in rw z
-
--- ---- a refusal that was appended is that of the answer
-pub wrote_refused : {t u : Text} {a b : Answer} → a ≡ b → u ≡ puts t (refused a) → Wrote t (refused b) u
-wrote_refused {t} {u} {a} {b} e w = wrote (refused b) (w ∙ ap (λ (x : Answer). puts t (refused x)) e)
+pub next_line : (g : Geometry) (v : List ℕ) (i : ℕ) → lines_from g v 0 (i + 1) ≡ lines_from g v 0 i ++ line_at g v i
+next_line g v i = rw (zero-add i) at (lines_more g v 0 i)
 
 -- ---- a volume that log-in accepts has V's length
 pub whole : (v : List ℕ) (free : ℕ) → (log_in geometry_v v).answer ≡ Ready free → length v ≡ bytes geometry_v
@@ -65,16 +60,9 @@ module _ (v : List ℕ) {g : Geometry} {r : Reply} (is-v : g ≡ geometry_v) (sa
   answered : (a : Answer) → r.answer ≡ a → (log_in geometry_v v).answer ≡ a
   answered a e = ap (λ (x : Geometry). (log_in x v).answer) (sym is-v) ∙ sym (ap (λ (x : Reply). x.answer) said) ∙ e
 
-  listing_is : (a : Answer) → r.answer ≡ a → listing v ≡ listing_for a g v
+  pub listing_is : listing v ≡ listing_for r.answer g v
   unfolding listing
-  listing_is a e = ap (λ (x : Answer). listing_for x geometry_v v) (answered a e) ∙ ap (λ (x : Geometry). listing_for a x v) (sym is-v)
-
-  -- what was appended for that answer is the listing, and the place behind it is within the buffer
-  pub listed : {out : List ℕ} {n : ℕ} (s : List ℕ) (a : Answer) → r.answer ≡ a → text out n ≡ puts (text s 0) (listing_for a g v)
-      → (text out n ≡ puts (text s 0) (listing v)) × (n ≤ length out)
-  listed {out} {n} s a e w =
-      let is : text out n ≡ puts (text s 0) (listing v) = w ∙ ap (puts (text s 0)) (sym (listing_is a e)) in
-      (is, rw (← is) at (puts_within (text s 0) (listing v) (omega arith)))
+  listing_is = rw (is-v, said, is-v)
 
   pub may_list : (free : ℕ) → r.answer ≡ Ready free → (lawful g ≡ true) × (length v ≡ bytes g)
   unfolding lawful bytes

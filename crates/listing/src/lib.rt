@@ -1,13 +1,17 @@
 // The listing of a volume of V's geometry: the text that the lister prints, laid into a lent buffer.
 #![tactic(auto)]
 
-ghost use Rattle.std.specs.Prelude.{◌≡◌, ◌≤◌, length};
+ghost use Rattle.std.specs.Prelude.{◌≡◌, ◌≤◌, ℕ, length};
+ghost use Rattle.call_answers.specs.declared.Answer.TheVariants.{Ready};
+ghost use Rattle.disk_volume.specs.CodeLent.{IsVolume};
 ghost use Rattle.text.specs.Text.{text, puts};
-ghost use Rattle.listing.specs.Listing.{geometry_v, refused, listing};
+ghost use Rattle.text.specs.Writer.{Appends};
+ghost use Rattle.listing.specs.Listing.{geometry_v, refused, listing_for, listing};
 
 use call_answers::Answer;
 use disk_geometry::Geometry;
 use filecalls::Drive;
+use text::Writer;
 
 mod lines;
 
@@ -30,11 +34,32 @@ pub fn geometry() -> Geometry
 }
 
 // The word and the number of a refusal.
-fn put_refused(out: &mut [u8], answer: Answer) -> usize
-    ensures { text out.new result ≡ puts (text out.old 0) (refused answer) }
+fn put_refused(w: &mut Writer<'_>, answer: Answer)
+    ensures { Appends w.old (refused answer) w.new }
 {
-    let at = text::put_bytes(out, 0, b"REFUSED ");
-    text::put_decimal(out, at, lists::wide(call_answers::number(answer)))
+    w.bytes(b"REFUSED ");
+    w.decimal(usize::from(call_answers::number(answer)));
+}
+
+// The listing of a volume that log-in answers like this.
+fn put_listing(w: &mut Writer<'_>, g: Geometry, volume: &[u8], answer: Answer)
+    requires { (free : ℕ) → answer ≡ Ready free → IsVolume g volume.now }
+    ensures { Appends w.old (listing_for answer g volume.now) w.new }
+{
+    match answer {
+        Answer::Ready(free) => lines::put_accepted(w, g, volume, free),
+        Answer::BadSlot(slot) => {
+            put_refused(w, answer);
+            w.byte(b' ');
+            w.decimal(slot);
+            w.byte(b'\n');
+        }
+        Answer::Refused(_) => {
+            put_refused(w, answer);
+            w.byte(b'\n');
+        }
+        Answer::Done(_) | Answer::Several(_, _) => {}
+    }
 }
 
 // The listing of the volume, as far as `out` has room, and how many bytes it has taken. In a buffer of ROOM bytes it is
@@ -46,20 +71,7 @@ pub fn list(volume: &[u8], out: &mut [u8]) -> usize
 {
     let g = geometry();
     let r = Drive::log_in(g, volume);
-    let answer = r.answer;
-    match answer {
-        Answer::Ready(free) => lines::put_accepted(g, volume, free, out),
-        Answer::BadSlot(slot) => {
-            let a = put_refused(out, answer);
-            let b = text::put_byte(out, a, b' ');
-            let c = text::put_decimal(out, b, slot);
-            text::put_byte(out, c, b'\n')
-        }
-        Answer::Refused(_) => {
-            let a = put_refused(out, answer);
-            text::put_byte(out, a, b'\n')
-        }
-        Answer::Done(_) => 0,
-        Answer::Several(_, _) => 0,
-    }
+    let mut w = Writer::new(out, 0);
+    put_listing(&mut w, g, volume, r.answer);
+    w.at()
 }

@@ -14,30 +14,11 @@ use Rattle.lists.proofs.PartLaws.{length_part, part_put, part_apart}
 use Rattle.replay_script.specs.Script.{fcb_length, buffer_length, call_length, head_of, next_of, call_at}
 use Rattle.replay_script.specs.CodeWindow.{shifted}
 
--- ---- the loop that moves bytes
-pub shift_step : (w e : List ℕ) (from i : ℕ) → e ≡ paste w 0 (drop from w) i → from + i < length w
-    → set e i (get_or e (from + i) 0) ≡ paste w 0 (drop from w) (i + 1)
-shift_step w e from i h k =
-    let l : i ≤ length (drop from w) = rw length-drop (omega arith) in
-    let j : i < length (drop from w) = rw length-drop (omega arith) in
-    let p : length (take i (drop from w)) ≡ i = length-take-le i (drop from w) l in
-    let z : from + i ≡ length (take i (drop from w)) + from = omega arith in
-    let y : i + from ≡ from + i = omega arith in
-    let x : get_or e (from + i) 0 ≡ get_or (drop from w) i 0 =
-    ap (λ (n : ℕ). get_or e n 0) z
-    ∙ ap (λ (a : List ℕ). get_or a (length (take i (drop from w)) + from) 0) h
-    ∙ get_or-append-add (take i (drop from w)) (drop (0 + i) w) from 0
-    ∙ rw (zero-add i) (get_or-drop i w from 0 ∙ ap (λ (n : ℕ). get_or w n 0) y ∙ sym (get_or-drop from w i 0)) in
-    ap (λ (b : ℕ). set e i b) x
-    ∙ ap (λ (a : List ℕ). set a i (get_or (drop from w) i 0)) h
-    ∙ ap (λ (n : ℕ). set (paste w 0 (drop from w) i) n (get_or (drop from w) i 0)) (sym (zero-add i))
-    ∙ paste-suc w 0 (drop from w) i 0 (omega arith) j
-    ∙ ap (paste w 0 (drop from w)) (sym (add-one i))
-
-pub shift_end : (w e : List ℕ) (from n i : ℕ) → e ≡ paste w 0 (drop from w) i → from + n ≤ length w → i ≤ n → n ≤ i → e ≡ shifted w from n
+-- ---- bytes moved to the front
+pub moved : (w e : List ℕ) (from n : ℕ) → e ≡ paste w 0 (drop from w) ((from + n) - from) → from + n ≤ length w → e ≡ shifted w from n
 unfolding shifted put part
-shift_end w e from n i h k a b =
-    let z : i ≡ n = omega arith in
+moved w e from n h k =
+    let z : (from + n) - from ≡ n = omega arith in
     h ∙ rw (z, le-leb (from + n) (length w) k, zero-add)
 
 pub shift_not : (w : List ℕ) (from n : ℕ) → length w < from + n → w ≡ shifted w from n

@@ -12,9 +12,5 @@ pub fn shift(window: &mut [u8], from: usize, n: usize)
     if window.len() - from < n {
         return;
     }
-    let mut i = 0;
-    while i < n {
-        window[i] = window[from + i];
-        i += 1;
-    }
+    window.copy_within(from..from + n, 0);
 }

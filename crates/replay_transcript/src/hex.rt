@@ -16,12 +16,9 @@ pub fn put_hex(out: &mut [u8], at: usize, s: &[u8]) -> usize
     ensures { text out.new result ≡ puts (text out.old at) (hex s.now) }
 {
     let mut p = at;
-    let mut i = 0;
-    while i < s.len() {
-        let b = s[i];
-        let q = text::put_byte(out, p, digit(b / 16));
-        p = text::put_byte(out, q, digit(b % 16));
-        i += 1;
+    for b in s {
+        let q = text::put_byte(out, p, digit(*b / 16));
+        p = text::put_byte(out, q, digit(*b % 16));
     }
     p
 }

@@ -3,19 +3,21 @@
 
 ghost use Rattle.std.specs.Prelude.{◌≡◌, ◌≤◌, length};
 ghost use Rattle.text.specs.Text.{text, puts};
+ghost use Rattle.text.specs.Writer.{Appends};
 ghost use Rattle.shelf_report.specs.Report.{line, report};
 
 use shelf_figures::Shelf;
+use text::Writer;
 
 // No report has more bytes than this.
 pub const ROOM: usize = 77;
 
 // A number on a line of its own.
-fn put_line(out: &mut [u8], at: usize, n: usize) -> usize
-    ensures { text out.new result ≡ puts (text out.old at) (line n) }
+fn put_line(w: &mut Writer<'_>, n: usize)
+    ensures { Appends w.old (line n) w.new }
 {
-    let a = text::put_decimal(out, at, n);
-    text::put_byte(out, a, b'\n')
+    w.decimal(n);
+    w.byte(b'\n');
 }
 
 // The seven figures, one a line, as far as `out` has room, and how many bytes they have taken. In a buffer of ROOM bytes the
@@ -24,11 +26,13 @@ pub fn put_report(shelf: Shelf, out: &mut [u8]) -> usize
     ensures result_after { text out.new result ≡ puts (text out.old 0) (report shelf) }
     ensures upper_bound { result ≤ length out.new }
 {
-    let a = put_line(out, 0, shelf.refused);
-    let b = put_line(out, a, shelf.files);
-    let c = put_line(out, b, shelf.entries);
-    let d = put_line(out, c, shelf.records);
-    let e = put_line(out, d, shelf.held);
-    let f = put_line(out, e, shelf.free);
-    put_line(out, f, shelf.waste)
+    let mut w = Writer::new(out, 0);
+    put_line(&mut w, shelf.refused);
+    put_line(&mut w, shelf.files);
+    put_line(&mut w, shelf.entries);
+    put_line(&mut w, shelf.records);
+    put_line(&mut w, shelf.held);
+    put_line(&mut w, shelf.free);
+    put_line(&mut w, shelf.waste);
+    w.at()
 }

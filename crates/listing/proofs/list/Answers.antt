@@ -1,50 +1,14 @@
 -- Log-in's answer says which listing it is.
-use mathlib.Core.Path.{refl}
-use Rattle.listing.proofs.ListingLaws.{listed, may_list, wrote_refused}
-use Rattle.listing.specs.Listing.{listing_for}
-use Rattle.text.proofs.TextLaws.{wrote, wrote_byte, then}
-use Rattle.text.specs.Text.{puts}
+use native.Mathlib.Omega.{arith}
+use Rattle.listing.proofs.ListingLaws.{listing_is, may_list}
+use Rattle.text.proofs.WriterLaws.{done_within}
+use borrow.Author.Rules.{rules}
 use Rattle.listing.proofs.list.Goals as goal
 
-pub put_accepted-requires : goal.put_accepted-requires
-put_accepted-requires c = may_list c.args.volume.now c.geometry-g.ensures c.log_in-r.ensures _ c.in-Ready.is
+pub put_listing-requires : goal.put_listing-requires
+put_listing-requires c = λ free e. may_list c.args.volume.now c.geometry-g.ensures c.log_in-r.ensures free e
 
-pub returns-in-Ready : goal.returns-in-Ready
-unfolding listing_for
-returns-in-Ready c =
-    let a = c.args in
-    let l = listed a.volume.now c.geometry-g.ensures c.log_in-r.ensures a.out.now _ c.in-Ready.is c.put_accepted.ensures in
-    record { result_after = l.0; upper_bound = l.1 }
-
-pub returns-in-BadSlot : goal.returns-in-BadSlot
-unfolding listing_for
-returns-in-BadSlot c =
-    let a = c.args in
-    let l = listed a.volume.now c.geometry-g.ensures c.log_in-r.ensures a.out.now _ c.in-BadSlot.is
-    (then (wrote _ c.put_refused-a.ensures)
-    (then (wrote_byte 32 c.put_byte-b.ensures)
-    (then (wrote _ c.put_decimal-c.ensures)
-    (wrote_byte 10 c.put_byte.ensures)))).is in
-    record { result_after = l.0; upper_bound = l.1 }
-
-pub returns-in-Refused : goal.returns-in-Refused
-unfolding listing_for
-returns-in-Refused c =
-    let a = c.args in
-    let is = c.in-Refused.is in
-    let l = listed a.volume.now c.geometry-g.ensures c.log_in-r.ensures a.out.now _ is (then (wrote_refused is c.put_refused-a-in-Refused.ensures) (wrote_byte 10 c.put_byte-in-Refused.ensures)).is in
-    record { result_after = l.0; upper_bound = l.1 }
-
-pub returns-in-Done : goal.returns-in-Done
-unfolding listing_for puts
-returns-in-Done c =
-    let a = c.args in
-    let l = listed a.volume.now c.geometry-g.ensures c.log_in-r.ensures a.out.now _ c.in-Done.is refl in
-    record { result_after = l.0; upper_bound = l.1 }
-
-pub returns-in-Several : goal.returns-in-Several
-unfolding listing_for puts
-returns-in-Several c =
-    let a = c.args in
-    let l = listed a.volume.now c.geometry-g.ensures c.log_in-r.ensures a.out.now _ c.in-Several.is refl in
-    record { result_after = l.0; upper_bound = l.1 }
+pub returns : goal.returns
+returns c =
+    let d = done_within (rw (← listing_is c.args.volume.now c.geometry-g.ensures c.log_in-r.ensures) at c.put_listing.ensures) c.new-w.ensures.text (omega arith) c.at.ensures (search rules) in
+    record { result_after = d.0; upper_bound = d.1 }

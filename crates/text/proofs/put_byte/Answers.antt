@@ -1,12 +1,9 @@
--- The branches are the definition's.
-use Rattle.text.specs.Text.{put_byte}
-use borrow.Author.Tests.{lt-ltb, le-ltb}
+-- The writer's byte is the only one.
+use mathlib.Core.Path.{◌∙◌}
+use borrow.Author.Rules.{rules}
+use Rattle.text.proofs.TextLaws.{puts_one}
+use Rattle.text.proofs.WriterLaws.{done}
 use Rattle.text.proofs.put_byte.Goals as goal
 
-pub returns-then-at-out : goal.returns-then-at-out
-unfolding put_byte
-returns-then-at-out c = rw (lt-ltb _ _ c.if-at-out.true)
-
 pub returns : goal.returns
-unfolding put_byte
-returns c = rw (le-ltb _ _ c.if-at-out.false)
+returns c = done c.byte.ensures c.new-w.ensures.text c.at.ensures (search rules) ∙ puts_one _ _

@@ -1,24 +1,18 @@
--- The lines that are still to be appended from here give the whole.
-use mathlib.Core.Path.{◌≡◌, refl, sym, ◌∙◌}
-use Prim.Native.Nat.{◌-◌}
+-- The lines of the slots passed so far were appended.
+use mathlib.Core.Path.{◌≡◌}
 use native.Mathlib.Omega.{arith}
-use Rattle.listing.proofs.ListingLaws.{lines_next, lines_end}
-use Rattle.text.specs.Text.{text}
+use Rattle.listing.proofs.ListingLaws.{next_line}
+use Rattle.listing.specs.Listing.{lines_from}
+use Rattle.text.proofs.WriterLaws.{none, then}
 use Rattle.disk_geometry.specs.Geometry.{slots}
-use borrow.Author.Rules.{rules}
 use Rattle.listing.proofs.lines.put_lines.Goals as goal
 
 pub loop-i-init : goal.loop-i-init
-loop-i-init c = (search rules, (refl, (let z : slots c.args.g - 0 ≡ slots c.args.g = omega arith in rw z)))
+unfolding lines_from
+loop-i-init c = none _
 
 pub loop-i-preserved : goal.loop-i-preserved
-loop-i-preserved c =
-    let l = c.loop-i in
-    let a = c.args in
-    (search rules, (c.put_slot_line-p.auto.out ∙ l.invariant.1.0, lines_next a.g a.volume.now (slots a.g) l.i (text l.out l.p) _ (search rules) c.put_slot_line-p.ensures ∙ l.invariant.1.1))
+loop-i-preserved c = rw (next_line c.args.g c.args.volume.now c.loop-i.i) (then c.loop-i.invariant c.put_slot_line.ensures)
 
 pub returns : goal.returns
-returns c =
-    let l = c.loop-i in
-    let a = c.args in
-    sym (lines_end a.g a.volume.now (slots a.g) l.i (text l.out l.p) (search rules)) ∙ l.invariant.1.1
+returns c = let z : c.loop-i.i ≡ slots c.args.g = omega arith in rw (← z) c.loop-i.invariant

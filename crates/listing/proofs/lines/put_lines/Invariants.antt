@@ -1,14 +1,7 @@
--- The lines that are still to be appended from here give the whole.
-use mathlib.Core.Path.{◌≡◌}
-use Prim.Native.Nat.{◌≤◌, ◌-◌}
-use lib.ListN.{length}
+-- The lines of the slots passed so far were appended.
 use Rattle.listing.specs.Listing.{lines_from}
-use Rattle.text.specs.Text.{text, puts}
-use Rattle.disk_geometry.specs.Geometry.{slots}
+use Rattle.text.specs.Writer.{Appends}
 use Rattle.listing.proofs.lines.put_lines.Given as goal
 
 abbrev pub invariant-loop-i : goal.invariant-loop-i
-invariant-loop-i l = (l.i ≤ slots l.g) × ((length l.out ≡ length l.initial.out) × (puts (text l.out l.p) (lines_from l.g l.volume l.i (slots l.g - l.i)) ≡ puts (text l.initial.out l.initial.p) (lines_from l.g l.volume 0 (slots l.g))))
-
-abbrev pub decreases-loop-i : goal.decreases-loop-i
-decreases-loop-i l = l.n - l.i
+invariant-loop-i l = Appends l.initial.w (lines_from l.g l.volume 0 l.i) l.w

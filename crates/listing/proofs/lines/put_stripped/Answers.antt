@@ -1,27 +1,17 @@
--- What is still to be appended from here gives the whole.
-use Prim.Native.Nat.{◌<◌, ◌+◌}
-use mathlib.Core.Path.{refl, sym, ap, ◌∙◌}
-use native.Mathlib.Omega.{arith}
-use lib.ListN.{length, drop}
-use Rattle.listing.proofs.ListingLaws.{strip_next, strip_end}
-use Rattle.text.specs.Text.{Text, text, puts}
+-- The bytes passed so far were appended without their top bits.
+use Rattle.listing.proofs.ListingLaws.{strip_more}
+use Rattle.text.proofs.WriterLaws.{none, then}
 use Rattle.disk_volume.specs.Name.{strip}
+use lib.Seq.{take_all}
 use borrow.Author.Rules.{rules}
 use Rattle.listing.proofs.lines.put_stripped.Goals as goal
 
-pub loop-i-init : goal.loop-i-init
-loop-i-init c = (search rules, (refl, refl))
+pub loop-b-init : goal.loop-b-init
+unfolding strip
+loop-b-init c = none _
 
-pub loop-i-preserved : goal.loop-i-preserved
-unfolding puts
-loop-i-preserved c =
-    let l = c.loop-i in
-    let s = c.args.s.now in
-    let h : l.i < length s = omega arith in
-    (search rules, (c.put_byte-p.auto.out ∙ l.invariant.1.0, ap (λ (t : Text). puts t (strip (drop (l.i + 1) s))) c.put_byte-p.ensures ∙ sym (ap (puts (text l.out l.p)) (strip_next s l.i h)) ∙ l.invariant.1.1))
+pub loop-b-preserved : goal.loop-b-preserved
+loop-b-preserved c = rw (strip_more c.args.s.now c.loop-b.b-index (search rules)) (then c.loop-b.invariant c.byte.ensures)
 
 pub returns : goal.returns
-unfolding puts
-returns c =
-    let l = c.loop-i in
-    sym (ap (puts (text l.out l.p)) (strip_end c.args.s.now l.i (search rules))) ∙ l.invariant.1.1
+returns c = rw (take_all c.loop-b.b-index c.args.s.now (search rules)) at c.loop-b.invariant

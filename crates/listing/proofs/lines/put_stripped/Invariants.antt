@@ -1,13 +1,8 @@
--- What is still to be appended from here gives the whole.
-use Prim.Native.Nat.{◌≤◌, ◌-◌}
-use mathlib.Core.Path.{◌≡◌}
-use lib.ListN.{length, drop}
-use Rattle.text.specs.Text.{text, puts}
+-- The bytes passed so far were appended without their top bits.
+use lib.ListN.{take}
+use Rattle.text.specs.Writer.{Appends}
 use Rattle.disk_volume.specs.Name.{strip}
 use Rattle.listing.proofs.lines.put_stripped.Given as goal
 
-abbrev pub invariant-loop-i : goal.invariant-loop-i
-invariant-loop-i l = (l.i ≤ length l.s) × ((length l.out ≡ length l.initial.out) × (puts (text l.out l.p) (strip (drop l.i l.s)) ≡ puts (text l.initial.out l.initial.p) (strip l.s)))
-
-abbrev pub decreases-loop-i : goal.decreases-loop-i
-decreases-loop-i l = length l.s - l.i
+abbrev pub invariant-loop-b : goal.invariant-loop-b
+invariant-loop-b l = Appends l.initial.w (strip (take l.b-index l.s)) l.w
