@@ -108,8 +108,7 @@ pub fn number(a: Answer) -> u8
         Answer::Done(code) => code,
         Answer::Ready(_) => 0,
         Answer::BadSlot(_) => refusal_number(Refusal::BadSlot),
-        Answer::Refused(why) => refusal_number(why),
-        Answer::Several(_, why) => refusal_number(why),
+        Answer::Refused(why) | Answer::Several(_, why) => refusal_number(why),
     }
 }
 
@@ -119,10 +118,9 @@ pub fn value(a: Answer) -> usize
     ensures { result ≡ value_of a }
 {
     match a {
-        Answer::Done(_) => 0,
+        Answer::Done(_) | Answer::Refused(_) => 0,
         Answer::Ready(free) => free,
         Answer::BadSlot(slot) => slot,
-        Answer::Refused(_) => 0,
         Answer::Several(done, _) => done,
     }
 }
@@ -132,10 +130,8 @@ pub fn succeeded(a: Answer) -> bool
     ensures { result ≡ succeeded a }
 {
     match a {
-        Answer::Done(_) => true,
-        Answer::Ready(_) => true,
-        Answer::BadSlot(_) => false,
-        Answer::Refused(_) => false,
+        Answer::Done(_) | Answer::Ready(_) => true,
+        Answer::BadSlot(_) | Answer::Refused(_) => false,
         Answer::Several(done, _) => 0 < done,
     }
 }
@@ -145,10 +141,8 @@ pub fn why_of(a: Answer) -> Refusal
     ensures { result ≡ why_of a }
 {
     match a {
-        Answer::Done(_) => Refusal::None,
-        Answer::Ready(_) => Refusal::None,
+        Answer::Done(_) | Answer::Ready(_) => Refusal::None,
         Answer::BadSlot(_) => Refusal::BadSlot,
-        Answer::Refused(why) => why,
-        Answer::Several(_, why) => why,
+        Answer::Refused(why) | Answer::Several(_, why) => why,
     }
 }

@@ -25,7 +25,7 @@ fn slot_to_open(g: Geometry, volume: &[u8], fcb: &[u8], user: u8) -> usize
     requires { VolumeAnd g volume.now (IsFcb fcb.now) }
     ensures { (result ≡ open_slot g volume.now user fcb.now) × (result ≤ slots g) }
 {
-    let k = g.group(lists::wide(fcb[EX]));
+    let k = g.group(usize::from(fcb[EX]));
     disk_volume::directory::find(g, volume, user, &fcb[NAME..NAME_END], Wanted::MatchGroup(k))
 }
 

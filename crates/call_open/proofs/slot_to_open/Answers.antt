@@ -6,4 +6,4 @@ use Rattle.call_open.proofs.slot_to_open.Goals as goal
 
 pub returns : goal.returns
 unfolding open_slot name_at part
-returns c = (rw (c.group-k.ensures, c.wide.ensures.0) at c.find.ensures.0, c.find.ensures.1)
+returns c = (rw (c.group-k.ensures, c.from.ensures) at c.find.ensures.0, c.find.ensures.1)
