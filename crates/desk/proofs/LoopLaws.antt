@@ -5,7 +5,6 @@ use mathlib.Core.List.{List, ◌++◌}
 use Prim.Native.Nat.{ℕ, zero, suc, ◌+◌, ◌-◌, ◌*◌, ◌≤◌, ◌<◌}
 use native.Mathlib.Decide.{ℕ_discrete}
 use native.Mathlib.Omega.{arith}
-use lib.Dec.{eqb}
 use lib.ListN.{length, set, length-append}
 use lib.Seq.{get_or-set_same, get_or-set_other}
 use Rattle.lists.specs.Bounded.{fold, count_from, every_from}
@@ -20,26 +19,22 @@ use Rattle.desk.proofs.RecordLaws.{if_laid, if_most}
 
 -- ---- marks
 -- the records from 1 up to n are marked as they are to be
-pub record Marks (p : ℕ → Bool) (marks : List ℕ) (n : ℕ) : Type 0 where
+pub record Marks (p : ℕ → Bool) (marks : List Bool) (n : ℕ) : Type 0 where
   pub right : (m : ℕ) → 1 ≤ m → m < n → marked marks m ≡ p m
 
-pub marks_start : (p : ℕ → Bool) (marks : List ℕ) → Marks p marks 1
+pub marks_start : (p : ℕ → Bool) (marks : List Bool) → Marks p marks 1
 marks_start p marks = record { right = λ m h k. absurd (no m h k) }
   where
     no : (m : ℕ) → 1 ≤ m → m < 1 → ⊥
     no m h k = omega (arith, h, k)
 
-mark_is : (t : Bool) → eqb (cond t 1 0) 1 ≡ t
-mark_is true = refl
-mark_is false = refl
-
-pub marks_next : (p : ℕ → Bool) (marks new : List ℕ) (n : ℕ) {t : Bool} → Marks p marks n → n < length marks → new ≡ set marks n (cond t 1 0) → t ≡ p n
+pub marks_next : (p : ℕ → Bool) (marks new : List Bool) (n : ℕ) {t : Bool} → Marks p marks n → n < length marks → new ≡ set marks n t → t ≡ p n
     → Marks p new (n + 1)
 marks_next p marks new n {t} k h e q = record { right = λ m a b. go m a b (ℕ_discrete m n) }
   where
     go : (m : ℕ) → 1 ≤ m → m < n + 1 → Dec (m ≡ n) → marked new m ≡ p m
-    go m a b (yes y) = rw (y, e, get_or-set_same marks n (cond t 1 0) 0 h, mark_is t) q
-    go m a b (no y) = rw (e, get_or-set_other marks n m (cond t 1 0) 0 y) (k.right m a (less n m b y))
+    go m a b (yes y) = rw (y, e, get_or-set_same marks n t false h) q
+    go m a b (no y) = rw (e, get_or-set_other marks n m t false y) (k.right m a (less n m b y))
       where
         less : (n m : ℕ) → m < n + 1 → (m ≡ n → ⊥) → m < n
         less n m b y = omega (arith, b, y)

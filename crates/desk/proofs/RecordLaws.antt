@@ -32,13 +32,14 @@ shows d v f n r {why} {k} {copy} {b} {f'} {b'} e z l h w =
     (w ∙ ap (λ (x : Outcome). why_of x.answer) o, ap (λ (x : Outcome). x.buffer) o)
 
 -- a record read and written again with another siglum, as long as a store is left
-pub rewrites : (d : Drive) (v f : List ℕ) (n siglum most : ℕ) {copy : List ℕ} {x : Cut} → copy ≡ with_random f n
-    → x ≡ cut_outcome most d v copy (rewritten_bytes d v copy (siglum % 256) (siglum / 256)) (write_direct_act false d v copy (rewritten_bytes d v copy (siglum % 256) (siglum / 256)))
+pub rewrites : (d : Drive) (v f : List ℕ) (n siglum most : ℕ) {low high : ℕ} {copy : List ℕ} {x : Cut} → copy ≡ with_random f n
+    → x ≡ cut_outcome most d v copy (rewritten_bytes d v copy low high) (write_direct_act false d v copy (rewritten_bytes d v copy low high))
+    → low ≡ siglum % 256 → high ≡ siglum / 256
     → Stored d.geometry v most (rewritten_stores d f siglum v n) x.outcome.volume x.left
 unfolding rewritten_stores written_stores shown rewritten_bytes cut_outcome
-rewrites d v f n siglum most {copy} {x} e h =
-    let b = rewritten_bytes d v (with_random f n) (siglum % 256) (siglum / 256) in
-    let o : x ≡ cut_outcome most d v (with_random f n) b (write_direct_act false d v (with_random f n) b) = rw e at h in
+rewrites d v f n siglum most {low} {high} {copy} {x} e h a b =
+    let r = rewritten_bytes d v (with_random f n) (siglum % 256) (siglum / 256) in
+    let o : x ≡ cut_outcome most d v (with_random f n) r (write_direct_act false d v (with_random f n) r) = rw (e, a, b) at h in
     record { volume_is = ap (λ (y : Cut). y.outcome.volume) o; left_is = ap (λ (y : Cut). y.left) o }
 
 -- the volume that an act leaves is its stores laid down

@@ -25,10 +25,7 @@ use Rattle.desk_contents.specs.Contents.{first_at, count_at, total, good_content
 use Rattle.desk_contents.proofs.ContentsLaws.{total_in, body_in}
 use Rattle.desk.specs.declared.Why.{Why}
 use Rattle.desk.specs.declared.Why.TheVariants.{Call, Contents}
-use Rattle.desk.specs.declared.Plan.{Plan}
-use Rattle.desk.specs.declared.Plan.TheVariants.{No, Go}
-use Rattle.desk.specs.declared.Answer.{Answer}
-use Rattle.desk.specs.declared.Answer.TheVariants.{Matching, Refused}
+use Rattle.std.specs.Prelude.{Result, Ok, Err}
 use Rattle.desk.specs.Answer.{value_of}
 use Rattle.desk.specs.Records.{unread, readable, record_shown, bears}
 use Rattle.desk.specs.Replace.{left, allowed, plan_in, plan, carried_out, replacement}
@@ -48,33 +45,33 @@ lent_fcb_lem d v f e =
 -- ---- in the contents s
 module _ (d : Drive) (v f s : List ℕ) (chapter : ℕ) where
   -- 50
-  refuse : allowed d v f s chapter ≡ false → No Contents ≡ plan_in d v f s chapter
+  refuse : allowed d v f s chapter ≡ false → Err Contents ≡ plan_in d v f s chapter
   unfolding plan_in
   refuse e = rw e
 
   no_and : (a b : Bool) → a ≡ false → (a && b) ≡ false
   no_and a b e = rw e
 
-  pub bad_contents : good_contents s ≡ false → No Contents ≡ plan_in d v f s chapter
+  pub bad_contents : good_contents s ≡ false → Err Contents ≡ plan_in d v f s chapter
   unfolding allowed
   bad_contents e = refuse (no_and _ _ (no_and _ _ (no_and _ _ e)))
 
   module _ (g : good_contents s ≡ true) where
-    pub too_many : 65536 ≤ total s 16 → No Contents ≡ plan_in d v f s chapter
+    pub too_many : 65536 ≤ total s 16 → Err Contents ≡ plan_in d v f s chapter
     unfolding allowed
     too_many h = refuse (rw (g, le-ltb (total s 16) 65536 h))
 
     module _ (few : total s 16 < 65536) where
-      pub no_chapter : 16 ≤ chapter_place s chapter → No Contents ≡ plan_in d v f s chapter
+      pub no_chapter : 16 ≤ chapter_place s chapter → Err Contents ≡ plan_in d v f s chapter
       unfolding allowed
       no_chapter h = refuse (rw (g, lt-ltb (total s 16) 65536 few, le-ltb (chapter_place s chapter) 16 h))
 
       module _ (there : chapter_place s chapter < 16) where
-        pub not_all : every_from (readable d v f) 1 (total s 16) ≡ false → No Contents ≡ plan_in d v f s chapter
+        pub not_all : every_from (readable d v f) 1 (total s 16) ≡ false → Err Contents ≡ plan_in d v f s chapter
         unfolding allowed
         not_all h = refuse (rw (g, lt-ltb (total s 16) 65536 few, lt-ltb (chapter_place s chapter) 16 there, h))
 
-        pub goes : every_from (readable d v f) 1 (total s 16) ≡ true → Go (first_at s (chapter_place s chapter)) (count_at s (chapter_place s chapter)) ≡ plan_in d v f s chapter
+        pub goes : every_from (readable d v f) 1 (total s 16) ≡ true → Ok (first_at s (chapter_place s chapter), count_at s (chapter_place s chapter)) ≡ plan_in d v f s chapter
         unfolding allowed plan_in
         goes h = rw (g, lt-ltb (total s 16) 65536 few, lt-ltb (chapter_place s chapter) 16 there, h)
 
@@ -95,16 +92,16 @@ is_allowed d v f s chapter e =
 
 -- ---- the file's own refusals, then what record 0 says
 module _ (d : Drive) (v f : List ℕ) (chapter : ℕ) where
-  pub refused_file : {why : Refusal} → why ≡ first_met (change_tests d v f) → is_none why ≡ false → No (Call why) ≡ plan d v f chapter
+  pub refused_file : {why : Refusal} → why ≡ first_met (change_tests d v f) → is_none why ≡ false → Err (Call why) ≡ plan d v f chapter
   unfolding plan
   refused_file e n = rw (← e, n)
 
   module _ (p : is_none (first_met (change_tests d v f)) ≡ true) where
-    pub refused_record : {why : Refusal} → why ≡ unread d v f 0 → is_none why ≡ false → No (Call why) ≡ plan d v f chapter
+    pub refused_record : {why : Refusal} → why ≡ unread d v f 0 → is_none why ≡ false → Err (Call why) ≡ plan d v f chapter
     unfolding plan
     refused_record e n = rw (p, ← e, n)
 
-    pub told : {why : Refusal} {s : List ℕ} {r : Plan} → why ≡ unread d v f 0 → is_none why ≡ true → s ≡ record_shown d v f 0 → r ≡ plan_in d v f s chapter
+    pub told : {why : Refusal} {s : List ℕ} {r : Result (ℕ × ℕ) Why} → why ≡ unread d v f 0 → is_none why ≡ true → s ≡ record_shown d v f 0 → r ≡ plan_in d v f s chapter
         → r ≡ plan d v f chapter
     unfolding plan
     told e n y h = rw (p, ← e, n, ← y) h
@@ -117,27 +114,28 @@ pub record Goes (d : Drive) (v f : List ℕ) (chapter first k : ℕ) : Type 0 wh
   pub first_is : first ≡ first_at (record_shown d v f 0) (chapter_place (record_shown d v f 0) chapter)
   pub count_is : k ≡ count_at (record_shown d v f 0) (chapter_place (record_shown d v f 0) chapter)
 
-pub plan_goes : (d : Drive) (v f : List ℕ) (chapter first k : ℕ) → plan d v f chapter ≡ Go first k → Goes d v f chapter first k
+pub plan_goes : (d : Drive) (v f : List ℕ) (chapter first k : ℕ) → plan d v f chapter ≡ Ok (first, k) → Goes d v f chapter first k
 unfolding plan plan_in
 plan_goes d v f chapter first k = go (is_none (first_met (change_tests d v f))) refl (readable d v f 0) refl (allowed d v f (record_shown d v f 0) chapter) refl
   where
-    no : (why : Why) → plan d v f chapter ≡ No why → plan d v f chapter ≡ Go first k → ⊥
+    no : (why : Why) → plan d v f chapter ≡ Err why → plan d v f chapter ≡ Ok (first, k) → ⊥
     no why e h = let z : ◌≡◌ {A = ℕ} 0 1 = cc in omega arith
 
     go : (a : Bool) → is_none (first_met (change_tests d v f)) ≡ a → (b : Bool) → readable d v f 0 ≡ b → (c : Bool) → allowed d v f (record_shown d v f 0) chapter ≡ c
-        → plan d v f chapter ≡ Go first k → Goes d v f chapter first k
+        → plan d v f chapter ≡ Ok (first, k) → Goes d v f chapter first k
     go false x b y c z h = absurd (no (Call (first_met (change_tests d v f))) (rw x) h)
     go true x false y c z h = absurd (no (Call (unread d v f 0)) (rw (x, y)) h)
     go true x true y false z h = absurd (no Contents (rw (x, y, z)) h)
     go true x true y true z h =
         let s = record_shown d v f 0 in
-        let e : plan d v f chapter ≡ Go (first_at s (chapter_place s chapter)) (count_at s (chapter_place s chapter)) = rw (x, y, z) in
+        let e : plan d v f chapter ≡ Ok (first_at s (chapter_place s chapter), count_at s (chapter_place s chapter)) = rw (x, y, z) in
+        let q : ◌≡◌ {A = ℕ × ℕ} (first, k) (first_at s (chapter_place s chapter), count_at s (chapter_place s chapter)) = cc in
         record {
           file = x;
           has_contents = y;
           within = is_allowed d v f s chapter z;
-          first_is = (cc);
-          count_is = (cc);
+          first_is = ap (λ (x : ℕ × ℕ). x.0) q;
+          count_is = ap (λ (x : ℕ × ℕ). x.1) q;
         }
 
 -- its body is one of the records listed
@@ -165,11 +163,11 @@ goes_body {d} {v} {f} {chapter} {first} {k} g =
     }
 
 -- all tests have passed, and the records listed are marked as they match: the plan goes, and so are those of the body marked
-pub planned_go : (d : Drive) (v f s : List ℕ) (chapter old : ℕ) (marks : List ℕ) {listed place first k : ℕ} {t : Bool}
+pub planned_go : (d : Drive) (v f s : List ℕ) (chapter old : ℕ) (marks : List Bool) {listed place first k : ℕ} {t : Bool}
     → length f ≡ 36 → good_contents s ≡ true → listed ≡ total s 16 → listed < 65536 → place ≡ chapter_place s chapter → place < 16
     → Sifted d v f old listed marks t → t ≡ true
     → first ≡ first_at s place → k ≡ count_at s place
-    → (Go first k ≡ plan_in d v f s chapter) × Marked d v f old marks first k
+    → (Ok (first, k) ≡ plan_in d v f s chapter) × Marked d v f old marks first k
 planned_go d v f s chapter old marks {listed} {place} {first} {k} lent g l few p there m q x y =
     let fits : total s 16 < 65536 = rw (← l) few in
     let low : chapter_place s chapter < 16 = rw (← p) there in
@@ -189,41 +187,41 @@ planned_go d v f s chapter old marks {listed} {place} {first} {k} lent g l few p
 
 -- ---- the plan carried out
 module _ (most : ℕ) (d : Drive) (v f : List ℕ) (chapter old new : ℕ) where
-  pub cut_refused : {why : Why} → No why ≡ plan d v f chapter → desk_cut (Refused why) v most ≡ cut_replacement most d v f chapter old new
+  pub cut_refused : {why : Why} → Err why ≡ plan d v f chapter → desk_cut (Err why) v most ≡ cut_replacement most d v f chapter old new
   unfolding cut_replacement replacement replacement_stores carried_out plan_stores
   cut_refused e = let z : most - 0 ≡ most = omega arith in rw (← e, cut_none d.geometry v most, z)
 
-  pub cut_done : {marks v' : List ℕ} {first k c rest : ℕ} → Go first k ≡ plan d v f chapter → Marked d v f old marks first k
+  pub cut_done : {marks : List Bool} {v' : List ℕ} {first k c rest : ℕ} → Ok (first, k) ≡ plan d v f chapter → Marked d v f old marks first k
       → c ≡ count_from (marked marks) first k → Stored d.geometry v most (all_stores (marked marks) d f new v first k) v' rest
-      → desk_cut (Matching c) v' rest ≡ cut_replacement most d v f chapter old new
+      → desk_cut (Ok c) v' rest ≡ cut_replacement most d v f chapter old new
   unfolding cut_replacement replacement replacement_stores carried_out plan_stores
   cut_done {marks} {v'} {first} {k} e m x s =
       rw (← e, x, s.volume_is, s.left_is, count_ext (marked marks) (bears d v f old) first k m.right, stores_same (marked marks) (bears d v f old) d f new k v first m.right)
 
 -- the same as code learns it, of a state in two parts
-module _ (most : ℕ) (d : Drive) (v f : List ℕ) (chapter old new : ℕ) {w : Front} (front : w ≡ front_of d) {r : Plan} (marks : List ℕ)
+module _ (most : ℕ) (d : Drive) (v f : List ℕ) (chapter old new : ℕ) {w : Front} (front : w ≡ front_of d) {r : Result (ℕ × ℕ) Why} (marks : List Bool)
     (planned : (r ≡ plan (joined w d.held) v f chapter) × Planned (joined w d.held) v f old marks r) where
   whole : (r ≡ plan d v f chapter) × Planned d v f old marks r
   whole = subst (λ (x : Front). (r ≡ plan (joined x d.held) v f chapter) × Planned (joined x d.held) v f old marks r) front planned
 
-  pub code_refused : {why : Why} → r ≡ No why → desk_cut (Refused why) v most ≡ cut_replacement most d v f chapter old new
+  pub code_refused : {why : Why} → r ≡ Err why → desk_cut (Err why) v most ≡ cut_replacement most d v f chapter old new
   code_refused e = cut_refused most d v f chapter old new (sym e ∙ whole.0)
 
-  pub code_marked : {first k : ℕ} → r ≡ Go first k → Marked d v f old marks first k
-  code_marked e = subst (λ (q : Plan). Planned d v f old marks q) e whole.1
+  pub code_marked : {first k : ℕ} → r ≡ Ok (first, k) → Marked d v f old marks first k
+  code_marked e = subst (λ (q : Result (ℕ × ℕ) Why). Planned d v f old marks q) e whole.1
 
-  pub code_done : {first k c rest : ℕ} {v' : List ℕ} → r ≡ Go first k → c ≡ count_from (marked marks) first k
+  pub code_done : {first k c rest : ℕ} {v' : List ℕ} → r ≡ Ok (first, k) → c ≡ count_from (marked marks) first k
       → Stored w.geometry v most (all_stores (marked marks) (joined w d.held) f new v first k) v' rest
-      → desk_cut (Matching c) v' rest ≡ cut_replacement most d v f chapter old new
+      → desk_cut (Ok c) v' rest ≡ cut_replacement most d v f chapter old new
   code_done {first} {k} {c} {rest} {v'} e x s =
       cut_done most d v f chapter old new (sym e ∙ whole.0) (code_marked e) x
       (subst (λ (y : Front). Stored y.geometry v most (all_stores (marked marks) (joined y d.held) f new v first k) v' rest) front s)
 
 -- with enough it is the call
-plan_laid : (d : Drive) (v f : List ℕ) (old new : ℕ) (p : Plan) → laid d.geometry v (plan_stores d v f old new p) ≡ (carried_out d v f old new p).volume
+plan_laid : (d : Drive) (v f : List ℕ) (old new : ℕ) (p : Result (ℕ × ℕ) Why) → laid d.geometry v (plan_stores d v f old new p) ≡ (carried_out d v f old new p).volume
 unfolding plan_stores carried_out laid
-plan_laid d v f old new (No why) = refl
-plan_laid d v f old new (Go first k) = all_laid (bears d v f old) d f new k v first
+plan_laid d v f old new (Err why) = refl
+plan_laid d v f old new (Ok (first, k)) = all_laid (bears d v f old) d f new k v first
 
 pub stores_laid : (d : Drive) (v f : List ℕ) (chapter old new : ℕ)
     → laid d.geometry v (replacement_stores d v f chapter old new) ≡ (replacement d v f chapter old new).volume
@@ -231,13 +229,13 @@ unfolding replacement_stores replacement
 stores_laid d v f chapter old new = plan_laid d v f old new (plan d v f chapter)
 
 -- by a plan, whichever it is
-pub by_plan_lem : (P : Plan → Type 0) (d : Drive) (v f : List ℕ) (chapter : ℕ) → ((why : Why) → P (No why)) → ((first k : ℕ) → Goes d v f chapter first k → P (Go first k))
+pub by_plan_lem : (P : Result (ℕ × ℕ) Why → Type 0) (d : Drive) (v f : List ℕ) (chapter : ℕ) → ((why : Why) → P (Err why)) → ((first k : ℕ) → Goes d v f chapter first k → P (Ok (first, k)))
     → P (plan d v f chapter)
 by_plan_lem P d v f chapter refuses goes_on = go (plan d v f chapter) refl
   where
-    go : (p : Plan) → plan d v f chapter ≡ p → P p
-    go (No why) e = refuses why
-    go (Go first k) e = goes_on first k (plan_goes d v f chapter first k e)
+    go : (p : Result (ℕ × ℕ) Why) → plan d v f chapter ≡ p → P p
+    go (Err why) e = refuses why
+    go (Ok (first, k)) e = goes_on first k (plan_goes d v f chapter first k e)
 
 module _ (d : Drive) (v f : List ℕ) (chapter old new : ℕ) where
   stores_few : length (replacement_stores d v f chapter old new) ≤ 34603008
@@ -263,7 +261,7 @@ module _ (d : Drive) (v f : List ℕ) (chapter old new : ℕ) where
       cut_enough d.geometry v (replacement_stores d v f chapter old new) most (omega (arith, stores_few, h)) ∙ stores_laid d v f chapter old new
 
   -- the same as code learns it
-  pub code_whole : {r : Answer} {v' : List ℕ} {rest : ℕ} (most : ℕ) → 34603008 ≤ most → desk_cut r v' rest ≡ cut_replacement most d v f chapter old new
+  pub code_whole : {r : Result ℕ Why} {v' : List ℕ} {rest : ℕ} (most : ℕ) → 34603008 ≤ most → desk_cut r v' rest ≡ cut_replacement most d v f chapter old new
       → left (record { answer = r; drive = d }) v' ≡ replacement d v f chapter old new
   unfolding cut_replacement
   code_whole most h e =

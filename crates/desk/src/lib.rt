@@ -3,7 +3,8 @@
 #![tactic(auto)]
 
 ghost use Rattle.std.specs.Prelude.{◌≡◌};
-ghost use Rattle.desk.specs.Answer.{number_of, value_of};
+ghost use Rattle.desk.specs.Answer.{why_number, number_of, value_of};
+ghost use Rattle.desk.specs.declared.Why.TheVariants.{Call};
 
 use call_answers::Refusal;
 use filecalls::Drive;
@@ -21,49 +22,49 @@ pub enum Why {
     Contents,
 }
 
-// What a replacement answers: how many records match, or a refusal.
-#[derive(Clone, Copy)]
-pub enum Answer {
-    Matching(usize),
-    Refused(Why),
+impl From<Refusal> for Why {
+    ghost from_gives = { λ refusal why. why ≡ Call refusal };
+
+    fn from(refusal: Refusal) -> Why {
+        Why::Call(refusal)
+    }
 }
 
-// What a replacement answers, and the state that it hands back.
+// The paper's number of a refusal.
+impl From<Why> for u8 {
+    ghost from_gives = { λ why n. n ≡ why_number why };
+
+    fn from(why: Why) -> u8 {
+        match why {
+            Why::Call(refusal) => call_answers::refusal_number(refusal),
+            Why::Contents => CONTENTS,
+        }
+    }
+}
+
+// What a replacement answers, how many records match or a refusal, and the state that it hands back.
 #[derive(Clone, Copy)]
 pub struct Reply {
-    pub answer: Answer,
+    pub answer: Result<usize, Why>,
     pub drive: Drive,
-}
-
-// What is decided, by reading alone: a refusal, or the first record and the count of the chapter's body.
-#[derive(Clone, Copy)]
-pub enum Plan {
-    No(Why),
-    Go(usize, usize),
 }
 
 // 50: contents against the rules, a listed record that cannot be read, or chapter not there.
 const CONTENTS: u8 = 50;
 
 // The paper's number of an answer.
-pub fn number(a: Answer) -> u8
+pub fn number(a: Result<usize, Why>) -> u8
     ensures { result ≡ number_of a }
 {
     match a {
-        Answer::Matching(_) => 0,
-        Answer::Refused(why) => match why {
-            Why::Call(refusal) => call_answers::refusal_number(refusal),
-            Why::Contents => CONTENTS,
-        },
+        Ok(_) => 0,
+        Err(why) => u8::from(why),
     }
 }
 
 // The matching records; 0 for a refusal.
-pub fn value(a: Answer) -> usize
+pub fn value(a: Result<usize, Why>) -> usize
     ensures { result ≡ value_of a }
 {
-    match a {
-        Answer::Matching(n) => n,
-        Answer::Refused(_) => 0,
-    }
+    a.unwrap_or(0)
 }

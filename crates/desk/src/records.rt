@@ -17,7 +17,7 @@ fn point(aimed: &mut [u8], fcb: &[u8], n: usize)
     requires { (length aimed.old ≡ fcb_bytes) × ((length fcb.now ≡ fcb_bytes) × (n < file_records)) }
     ensures { aimed.new ≡ with_random fcb.now n }
 {
-    lists::copy(aimed, fcb);
+    aimed.copy_from_slice(fcb);
     call_fcb::set_random(aimed, n);
 }
 
@@ -30,10 +30,9 @@ pub(crate) fn show(front: Front, volume: &[u8], fcb: &[u8], n: usize, buffer: &m
 {
     let mut aimed = [0u8; FCB_BYTES];
     point(&mut aimed, fcb, n);
-    lists::fill(buffer, 0);
-    let r = front.read_random(volume, &mut aimed, buffer);
-    let answer = r.answer;
-    call_answers::why_of(answer)
+    buffer.fill(0);
+    let reply = front.read_random(volume, &mut aimed, buffer);
+    call_answers::why_of(reply.answer)
 }
 
 // Rewrites record n with this siglum, as long as a store is left. The held blocks that the write is lent are a copy: a present
@@ -52,8 +51,7 @@ pub(crate) fn rewrite_most(
         (rewritten_stores (joined front held.now) fcb.now siglum volume.old n)
         volume.new left.new }
 {
-    let low = (siglum % 256) as u8;
-    let high = (siglum / 256) as u8;
+    let [low, high] = siglum.to_le_bytes();
     let mut aimed = [0u8; FCB_BYTES];
     point(&mut aimed, fcb, n);
     let mut lent = *held;

@@ -1,6 +1,6 @@
 // The replacement of one siglum by another in one chapter: everything is tested, and the matches are fixed, before anything
 // is changed. Beneath it stands a function that ends when no store is left: the call is that function with enough of them.
-ghost use Rattle.std.specs.Prelude.{◌≡◌, cond, List, ℕ, ◌+◌, ◌≤◌, ◌<◌, length, set};
+ghost use Rattle.std.specs.Prelude.{◌≡◌, cond, List, ℕ, ◌+◌, ◌≤◌, ◌<◌, length};
 ghost use Rattle.lists.specs.Bounded.{count_from};
 ghost use Rattle.call_fcb.specs.Fcb.{fcb_bytes, file_records};
 ghost use Rattle.filecalls.specs.CodeFront.{joined};
@@ -8,39 +8,24 @@ ghost use Rattle.desk.specs.Replace.{plan_in, plan, left, replacement};
 ghost use Rattle.desk.specs.Stores.{stores_if, all_stores, desk_cut, cut_replacement};
 ghost use Rattle.desk.specs.CodeDesk.{Stored, marked, Sifted, Planned};
 
-use crate::{Answer, ENOUGH, Plan, Reply, Why, records};
+use crate::{ENOUGH, Reply, Why, records};
 use call_fcb::FILE_RECORDS;
-use desk_contents::PLACES;
 use disk_geometry::Geometry;
 use disk_held::WORDS;
 use filecalls::{Drive, Front};
 
-// Marks record n, or not.
-fn mark(marks: &mut [u8], n: usize, hit: bool)
-    requires { n < length marks.old }
-    ensures { marks.new ≡ set marks.old n (cond hit 1 0) }
-{
-    if hit {
-        marks[n] = 1;
-        return;
-    }
-    marks[n] = 0;
-}
-
 // Can each of the records 1 to k be read? Those with this siglum are marked.
-fn sift(front: Front, volume: &[u8], fcb: &[u8], siglum: u16, k: usize, marks: &mut [u8]) -> bool
+fn sift(front: Front, volume: &[u8], fcb: &[u8], siglum: u16, k: usize, marks: &mut [bool]) -> bool
     requires { (length fcb.now ≡ fcb_bytes) × ((k < file_records) × (length marks.old ≡ file_records)) }
     ensures { (held : List ℕ)
         → Sifted (joined front held) volume.now fcb.now siglum k marks.new result }
 {
     let mut buffer = [0u8; Geometry::RECORD_BYTES];
-    let mut n = 1;
-    while n < k + 1 {
+    for n in 1..k + 1 {
         if !call_answers::is_none(records::show(front, volume, fcb, n, &mut buffer)) {
             return false;
         }
-        mark(marks, n, numbers::two_at(&buffer, 0) == siglum as usize);
-        n += 1;
+        marks[n] = numbers::two_at(&buffer, 0) == usize::from(siglum);
     }
     true
 }
@@ -53,35 +38,41 @@ fn plan_in(
     s: &[u8],
     chapter: u16,
     old: u16,
-    marks: &mut [u8],
-) -> Plan
+    marks: &mut [bool],
+) -> Result<(usize, usize), Why>
     requires { (length fcb.now ≡ fcb_bytes) × (length marks.old ≡ file_records) }
     ensures { (held : List ℕ)
         → (result ≡ plan_in (joined front held) volume.now fcb.now s.now chapter)
         × Planned (joined front held) volume.now fcb.now old marks.new result }
 {
     if !desk_contents::are_good(s) {
-        return Plan::No(Why::Contents);
+        return Err(Why::Contents);
     }
     let listed = desk_contents::listed(s);
     if FILE_RECORDS <= listed {
-        return Plan::No(Why::Contents);
+        return Err(Why::Contents);
     }
-    let place = desk_contents::place_of(s, chapter as usize);
-    if PLACES <= place {
-        return Plan::No(Why::Contents);
-    }
+    let Some(place) = desk_contents::place_of(s, usize::from(chapter)) else {
+        return Err(Why::Contents);
+    };
     if !sift(front, volume, fcb, old, listed, marks) {
-        return Plan::No(Why::Contents);
+        return Err(Why::Contents);
     }
-    Plan::Go(
+    Ok((
         desk_contents::first_at(s, place),
         desk_contents::count_at(s, place),
-    )
+    ))
 }
 
 // Decides, by reading alone; the matching records of a body to be replaced are marked.
-fn plan(front: Front, volume: &[u8], fcb: &[u8], chapter: u16, old: u16, marks: &mut [u8]) -> Plan
+fn plan(
+    front: Front,
+    volume: &[u8],
+    fcb: &[u8],
+    chapter: u16,
+    old: u16,
+    marks: &mut [bool],
+) -> Result<(usize, usize), Why>
     requires { length marks.old ≡ file_records }
     ensures { (held : List ℕ)
         → (result ≡ plan (joined front held) volume.now fcb.now chapter)
@@ -89,12 +80,12 @@ fn plan(front: Front, volume: &[u8], fcb: &[u8], chapter: u16, old: u16, marks: 
 {
     let why = front.change_why(volume, fcb);
     if !call_answers::is_none(why) {
-        return Plan::No(Why::Call(why));
+        return Err(Why::Call(why));
     }
     let mut s = [0u8; Geometry::RECORD_BYTES];
     let unread = records::show(front, volume, fcb, 0, &mut s);
     if !call_answers::is_none(unread) {
-        return Plan::No(Why::Call(unread));
+        return Err(Why::Call(unread));
     }
     plan_in(front, volume, fcb, &s, chapter, old, marks)
 }
@@ -132,7 +123,7 @@ fn rewrite_marked(
     siglum: u16,
     first: usize,
     k: usize,
-    marks: &[u8],
+    marks: &[bool],
     left: &mut usize,
 ) -> usize
     requires { (length fcb.now ≡ fcb_bytes) × ((first + k ≤ file_records) × (length marks.now ≡ file_records)) }
@@ -143,11 +134,8 @@ fn rewrite_marked(
         volume.new left.new }
 {
     let mut count = 0;
-    let mut i = 0;
-    while i < k {
-        let n = first + i;
-        count += rewrite_if(marks[n] == 1, front, held, volume, fcb, siglum, n, left);
-        i += 1;
+    for n in first..first + k {
+        count += rewrite_if(marks[n], front, held, volume, fcb, siglum, n, left);
     }
     count
 }
@@ -161,19 +149,15 @@ pub fn replace_most(
     old: u16,
     new: u16,
     left: &mut usize,
-) -> Answer
+) -> Result<usize, Why>
     ensures { desk_cut result volume.new left.new
         ≡ cut_replacement left.old drive volume.old fcb.now chapter old new }
 {
     let front = drive.front();
     let held = drive.held;
-    let mut marks = [0u8; FILE_RECORDS];
-    match plan(front, volume, fcb, chapter, old, &mut marks) {
-        Plan::No(why) => Answer::Refused(why),
-        Plan::Go(first, count) => Answer::Matching(rewrite_marked(
-            front, &held, volume, fcb, new, first, count, &marks, left,
-        )),
-    }
+    let mut marks = [false; FILE_RECORDS];
+    let (first, count) = plan(front, volume, fcb, chapter, old, &mut marks)?;
+    Ok(rewrite_marked(front, &held, volume, fcb, new, first, count, &marks, left))
 }
 
 // Replaces the siglum `old` by `new` in the chapter, and hands the state back as given.

@@ -1,7 +1,7 @@
 // The contents of a collation file, its record 0: sixteen places, each with a chapter and where its records stand.
 #![tactic(auto)]
 
-ghost use Rattle.std.specs.Prelude.{◌≡◌, ◌+◌, ◌*◌, ◌≤◌, ◌<◌};
+ghost use Rattle.std.specs.Prelude.{◌≡◌, ◌+◌, ◌*◌, ◌≤◌, ◌<◌, MatchOption};
 ghost use Rattle.desk_contents.specs.Contents.{contents_places, first_at, count_at, total, listed, clear, differs, others, place_fits, good_contents, has_chapter, chapter_place};
 
 // The places, and the bytes of each: chapter, first record, count and zero.
@@ -57,12 +57,10 @@ fn are_others(s: &[u8], chapter: usize, i: usize) -> bool
     requires { i < contents_places }
     ensures { result ≡ others s.now chapter i }
 {
-    let mut j = 0;
-    while j < i {
+    for j in 0..i {
         if !is_other(s, chapter, j) {
             return false;
         }
-        j += 1;
     }
     true
 }
@@ -88,13 +86,11 @@ pub fn are_good(s: &[u8]) -> bool
     ensures { result ≡ good_contents s.now }
 {
     let mut below = 0;
-    let mut i = 0;
-    while i < PLACES {
+    for i in 0..PLACES {
         if !is_good(s, i, below) {
             return false;
         }
         below += count_at(s, i);
-        i += 1;
     }
     true
 }
@@ -104,10 +100,8 @@ pub fn listed(s: &[u8]) -> usize
     ensures { (result ≡ listed s.now) × (result ≤ 65536 * contents_places) }
 {
     let mut sum = 0;
-    let mut i = 0;
-    while i < PLACES {
+    for i in 0..PLACES {
         sum += count_at(s, i);
-        i += 1;
     }
     sum
 }
@@ -120,16 +114,14 @@ fn is_chapter(s: &[u8], chapter: usize, i: usize) -> bool
     (chapter != 0) & (numbers::two_at(s, PLACE_BYTES * i) == chapter)
 }
 
-// The chapter's place, 16 where there is none.
-pub fn place_of(s: &[u8], chapter: usize) -> usize
-    ensures { (result ≡ chapter_place s.now chapter) × (result ≤ contents_places) }
+// The chapter's place.
+pub fn place_of(s: &[u8], chapter: usize) -> Option<usize>
+    ensures { MatchOption result (chapter_place s.now chapter ≡ contents_places) (λ i. (i ≡ chapter_place s.now chapter) × (i < contents_places)) }
 {
-    let mut i = 0;
-    while i < PLACES {
+    for i in 0..PLACES {
         if is_chapter(s, chapter, i) {
-            return i;
+            return Some(i);
         }
-        i += 1;
     }
-    i
+    None
 }

@@ -26,8 +26,8 @@ use Rattle.call_read.specs.Read.{read_bytes}
 use Rattle.filecalls.specs.declared.Drive.{Drive}
 use Rattle.filecalls.specs.Change.{change_tests}
 use Rattle.desk_contents.specs.Contents.{first_at, total, chapter_place}
-use Rattle.desk.specs.declared.Plan.{Plan}
-use Rattle.desk.specs.declared.Plan.TheVariants.{No, Go}
+use Rattle.std.specs.Prelude.{Result, Ok, Err}
+use Rattle.desk.specs.declared.Why.{Why}
 use Rattle.desk.specs.Records.{readable, record_shown, bears}
 use Rattle.desk.specs.Replace.{plan, rewrite_all, carried_out, replacement}
 use Rattle.desk.proofs.ReplaceLaws.{Goes, plan_goes, Body, goes_body, goes, told}
@@ -151,7 +151,7 @@ module _ (d : Drive) (v f : List ℕ) (chapter a b : ℕ) (small : Bytes v) (a16
       none : first ≤ 0 → 1 ≤ first → ⊥
       none x y = omega (arith, x, y)
 
-  planned : plan d w f chapter ≡ Go first k
+  planned : plan d w f chapter ≡ Ok (first, k)
   planned =
       let s = record_shown d v f 0 in
       let in_all = g.within in
@@ -162,7 +162,7 @@ module _ (d : Drive) (v f : List ℕ) (chapter a b : ℕ) (small : Bytes v) (a16
       (λ m x y. let can = every_true (readable d v f) 1 (total s 16) in_all.all_read m x y in can_after m (omega (arith, y, few)) can ∙ sym can)
       ∙ in_all.all_read in
       let here = goes d w f s chapter in_all.good few in_all.there reads in
-      let go = ap (λ (i : ℕ). Go i k) g.first_is ∙ ap (λ (j : ℕ). Go (first_at s (chapter_place s chapter)) j) g.count_is ∙ here in
+      let go = ap (λ (i : ℕ). Ok (i, k)) g.first_is ∙ ap (λ (j : ℕ). Ok (first_at s (chapter_place s chapter), j)) g.count_is ∙ here in
       sym (told d w f chapter clear refl (can_after 0 (omega arith) g.has_contents) (sym contents_same) go)
 
   -- the second
@@ -256,8 +256,8 @@ pub there_and_back : (d : Drive) (v f : List ℕ) (chapter a b : ℕ) → Bytes 
 unfolding replacement carried_out
 there_and_back d v f chapter a b small a16 b16 ok absent = go (plan d v f chapter) refl
   where
-    go : (q : Plan) → plan d v f chapter ≡ q → (carried_out d (carried_out d v f a b q).volume f b a (plan d (carried_out d v f a b q).volume f chapter)).volume ≡ v
-    go (No why) e = rw e
-    go (Go first k) e =
+    go : (q : Result (ℕ × ℕ) Why) → plan d v f chapter ≡ q → (carried_out d (carried_out d v f a b q).volume f b a (plan d (carried_out d v f a b q).volume f chapter)).volume ≡ v
+    go (Err why) e = rw e
+    go (Ok (first, k)) e =
         let g = plan_goes d v f chapter first k e in
         rw (planned d v f chapter a b small a16 b16 ok absent first k g) (old_bytes d v f chapter a b small a16 b16 ok absent first k g)

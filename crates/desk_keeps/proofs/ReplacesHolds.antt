@@ -19,8 +19,7 @@ use Rattle.disk_stores.proofs.CodeLaws.{cut_none}
 use Rattle.call_answers.specs.declared.Answer.TheVariants.{Done}
 use Rattle.filecalls.specs.declared.Drive.{Drive}
 use Rattle.desk.specs.declared.Why.{Why}
-use Rattle.desk.specs.declared.Plan.{Plan}
-use Rattle.desk.specs.declared.Answer.TheVariants.{Matching, Refused}
+use Rattle.std.specs.Prelude.{Result, Ok, Err}
 use Rattle.desk.specs.Records.{readable, bears, rewritten}
 use Rattle.desk.specs.Replace.{rewrite_if, rewrite_all, carried_out, replacement}
 use Rattle.desk.specs.Stores.{rewritten_stores, stores_if, all_stores, plan_stores, replacement_stores}
@@ -223,20 +222,20 @@ module _ (d : Drive) (v f : List ℕ) (chapter old new : ℕ) (small : Bytes v) 
   pub replaces : Replaces d v f chapter old new
   unfolding replacement replacement_stores carried_out plan_stores
   replaces = record {
-    goes_when = λ first count e. ap (λ (q : Plan). (carried_out d v f old new q).answer) e;
-    refused_when = λ why e. ap (λ (q : Plan). (carried_out d v f old new q).answer) e;
+    goes_when = λ first count e. ap (λ (q : Result (ℕ × ℕ) Why). (carried_out d v f old new q).answer) e;
+    refused_when = λ why e. ap (λ (q : Result (ℕ × ℕ) Why). (carried_out d v f old new q).answer) e;
     refused_keeps =
-        by_plan_lem (λ q. (why : Why) → (carried_out d v f old new q).answer ≡ Refused why → (carried_out d v f old new q).volume ≡ v) d v f chapter
+        by_plan_lem (λ q. (why : Why) → (carried_out d v f old new q).answer ≡ Err why → (carried_out d v f old new q).volume ≡ v) d v f chapter
         (λ no why e. refl) (λ first k g why e. let z : ◌≡◌ {A = ℕ} 0 1 = cc in absurd (omega arith));
     altered =
-        by_plan_lem (λ q. (c : ℕ) → (carried_out d v f old new q).answer ≡ Matching c → Altered d v f (Matches d v f chapter old) new (carried_out d v f old new q).volume) d v f chapter
+        by_plan_lem (λ q. (c : ℕ) → (carried_out d v f old new q).answer ≡ Ok c → Altered d v f (Matches d v f chapter old) new (carried_out d v f old new q).volume) d v f chapter
         (λ no c e. let z : ◌≡◌ {A = ℕ} 0 1 = cc in absurd (omega arith)) (λ first k g c e. go_altered first k g);
     counts =
-        by_plan_lem (λ q. (c : ℕ) → (carried_out d v f old new q).answer ≡ Matching c → c ≡ count_from p (body_first d v f chapter) (body_count d v f chapter)) d v f chapter
+        by_plan_lem (λ q. (c : ℕ) → (carried_out d v f old new q).answer ≡ Ok c → c ≡ count_from p (body_first d v f chapter) (body_count d v f chapter)) d v f chapter
         (λ no c e. let z : ◌≡◌ {A = ℕ} 0 1 = cc in absurd (omega arith)) (λ first k g c e. let q : c ≡ count_from p first k = cc in q ∙ ap (λ (i : ℕ). count_from p i k) g.first_is ∙ ap (λ (j : ℕ). count_from p (body_first d v f chapter) j) g.count_is);
     state_stays = drive_stays d v f chapter old new;
     each_write =
-        by_plan_lem (λ q. (c : ℕ) → (carried_out d v f old new q).answer ≡ Matching c → (n : ℕ) → Matches d v f chapter old n
+        by_plan_lem (λ q. (c : ℕ) → (carried_out d v f old new q).answer ≡ Ok c → (n : ℕ) → Matches d v f chapter old n
         → ((write_of d (at_turn d v f chapter old new n) f new n).answer ≡ Done 0) × ((write_of d (at_turn d v f chapter old new n) f new n).drive ≡ d)) d v f chapter
         (λ no c e. let z : ◌≡◌ {A = ℕ} 0 1 = cc in absurd (omega arith)) (λ first k g c e. go_write first k g);
     cut_short =

@@ -30,8 +30,7 @@ use Rattle.filecalls.specs.declared.Drive.{Drive}
 use Rattle.filecalls.specs.Outcome.{Outcome}
 use Rattle.desk_contents.specs.Contents.{first_at, count_at, chapter_place}
 use Rattle.desk.specs.declared.Why.{Why}
-use Rattle.desk.specs.declared.Plan.TheVariants.{No, Go}
-use Rattle.desk.specs.declared.Answer.TheVariants.{Matching, Refused}
+use Rattle.std.specs.Prelude.{Ok, Err}
 use Rattle.desk.specs.Records.{record_shown, bears, with_siglum, written}
 use Rattle.desk.specs.Replace.{Desk, plan, rewrite_all, replacement}
 use Rattle.desk.specs.Stores.{replacement_stores}
@@ -94,16 +93,16 @@ Storing = Drive → List ℕ → List ℕ → ℕ → ℕ → ℕ → List Store
 
 -- what is said of a desk
 pub record ReplacesBy (way : Way) (stores : Storing) (d : Drive) (v fcb : List ℕ) (chapter old new : ℕ) : Type 0 where
-  pub goes_when : (first count : ℕ) → plan d v fcb chapter ≡ Go first count
-      → (way d v fcb chapter old new).answer ≡ Matching (count_from (bears d v fcb old) first count)
-  pub refused_when : (why : Why) → plan d v fcb chapter ≡ No why → (way d v fcb chapter old new).answer ≡ Refused why
-  pub refused_keeps : (why : Why) → (way d v fcb chapter old new).answer ≡ Refused why → (way d v fcb chapter old new).volume ≡ v
-  pub altered : (c : ℕ) → (way d v fcb chapter old new).answer ≡ Matching c
+  pub goes_when : (first count : ℕ) → plan d v fcb chapter ≡ Ok (first, count)
+      → (way d v fcb chapter old new).answer ≡ Ok (count_from (bears d v fcb old) first count)
+  pub refused_when : (why : Why) → plan d v fcb chapter ≡ Err why → (way d v fcb chapter old new).answer ≡ Err why
+  pub refused_keeps : (why : Why) → (way d v fcb chapter old new).answer ≡ Err why → (way d v fcb chapter old new).volume ≡ v
+  pub altered : (c : ℕ) → (way d v fcb chapter old new).answer ≡ Ok c
       → Altered d v fcb (Matches d v fcb chapter old) new (way d v fcb chapter old new).volume
-  pub counts : (c : ℕ) → (way d v fcb chapter old new).answer ≡ Matching c
+  pub counts : (c : ℕ) → (way d v fcb chapter old new).answer ≡ Ok c
       → c ≡ count_from (bears d v fcb old) (body_first d v fcb chapter) (body_count d v fcb chapter)
   pub state_stays : (way d v fcb chapter old new).drive ≡ d
-  pub each_write : (c : ℕ) → (way d v fcb chapter old new).answer ≡ Matching c → (n : ℕ) → Matches d v fcb chapter old n
+  pub each_write : (c : ℕ) → (way d v fcb chapter old new).answer ≡ Ok c → (n : ℕ) → Matches d v fcb chapter old n
       → ((write_of d (at_turn d v fcb chapter old new n) fcb new n).answer ≡ Done 0)
       × ((write_of d (at_turn d v fcb chapter old new n) fcb new n).drive ≡ d)
   pub cut_short : (k : ℕ) → CutShort d v fcb chapter old new (cut d.geometry v k (stores d v fcb chapter old new))

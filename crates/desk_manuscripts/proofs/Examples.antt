@@ -6,8 +6,11 @@ use lib.ListN.{replicate}
 use denote.Ref.{Bor}
 use Rattle.lists.specs.Bounded.{low_from}
 use Rattle.lists.specs.Bytes.{part}
-use Rattle.desk_manuscripts.specs.declared.Where.{Where}
-use Rattle.desk_manuscripts.specs.declared.Where.TheVariants.{Own, House, Neither, Lists}
+use Rattle.std.specs.Prelude.{Result, Ok, Err}
+use Rattle.desk_manuscripts.specs.declared.Place.{Place}
+use Rattle.desk_manuscripts.specs.declared.Place.TheVariants.{Own, House}
+use Rattle.desk_manuscripts.specs.declared.Unexplained.{Unexplained}
+use Rattle.desk_manuscripts.specs.declared.Unexplained.TheVariants.{Neither, Lists}
 use Rattle.desk_manuscripts.specs.Manuscript.{line_of, where_of, number_of, part_for}
 
 -- siglum, and thirty times the same byte as a name
@@ -20,19 +23,19 @@ own = line 65 32 97 ++ line 66 32 98 ++ line 66 32 99
 abbrev pub house : List ℕ
 house = line 66 32 100 ++ line 67 32 101
 
-abbrev pub answers : List Where
+abbrev pub answers : List (Result Place Unexplained)
 answers = where_of 8258 own house ∷ where_of 8259 own house ∷ where_of 8260 own house ∷ []
 
-pub explained : answers ≡ Own 1 ∷ House 1 ∷ Neither ∷ []
+pub explained : answers ≡ Ok (Own 1) ∷ Ok (House 1) ∷ Err Neither ∷ []
 unfolding where_of line_of low_from
 explained = refl
 
 -- a byte too much in the house list or in the own list: 52 before what the own list explains, and before 51
-abbrev pub uneven_answers : List Where
+abbrev pub uneven_answers : List (Result Place Unexplained)
 uneven_answers =
     where_of 8258 own (66 ∷ house) ∷ where_of 8260 own (66 ∷ house) ∷ where_of 8259 (own ++ 66 ∷ []) house ∷ where_of 8260 (66 ∷ own) house ∷ []
 
-pub uneven_first : uneven_answers ≡ Lists ∷ Lists ∷ Lists ∷ Lists ∷ []
+pub uneven_first : uneven_answers ≡ Err Lists ∷ Err Lists ∷ Err Lists ∷ Err Lists ∷ []
 unfolding where_of line_of low_from
 uneven_first = refl
 

@@ -13,8 +13,8 @@ use Rattle.filecalls.specs.State.{closed}
 use Rattle.call_served.specs.Calls.{call_of}
 use Rattle.bdos.specs.Step.{does, step}
 use Rattle.drive_bytes.specs.Layout.{decoded}
-use Rattle.desk.specs.declared.Answer.{Answer}
-use Rattle.desk.specs.declared.Answer.TheVariants.{Matching, Refused}
+use Rattle.std.specs.Prelude.{Result, Ok, Err}
+use Rattle.desk.specs.declared.Why.{Why}
 use Rattle.desk.specs.Replace.{replacement}
 use Rattle.seam_words.specs.Answered.{answered}
 use Rattle.seam_desk.specs.Sigla.{replace_at_seam}
@@ -36,9 +36,9 @@ module _ (d : Drive) (v fcb : List ℕ) (chapter old new : ℕ) (all : ByColumn 
   sound_after : Sound (replacement d v fcb chapter old new).volume
   sound_after = go (replacement d v fcb chapter old new).answer refl
     where
-      go : (r : Answer) → (replacement d v fcb chapter old new).answer ≡ r → Sound (replacement d v fcb chapter old new).volume
-      go (Refused why) e = rw (all.replaces.refused_keeps why e) (record { size = refl; good = all.inspected })
-      go (Matching n) e = let a = all.replaces.altered n e in record { size = a.length_stays; good = a.inspected all.inspected }
+      go : (r : Result ℕ Why) → (replacement d v fcb chapter old new).answer ≡ r → Sound (replacement d v fcb chapter old new).volume
+      go (Err why) e = rw (all.replaces.refused_keeps why e) (record { size = refl; good = all.inspected })
+      go (Ok n) e = let a = all.replaces.altered n e in record { size = a.length_stays; good = a.inspected all.inspected }
 
 -- so the exported function leaves a volume that a log-in accepts
 module _ (g : Geometry) (law : lawful g ≡ true) (s w : List ℕ) (own : (decoded s).geometry ≡ g) (size : length w ≡ bytes (decoded s).geometry) {fcb : List ℕ} {chapter old new : ℕ} where

@@ -20,8 +20,8 @@ use Rattle.filecalls.specs.declared.Reply.{Reply}
 use Rattle.bdos.specs.Step.{step}
 use Rattle.drive_bytes.specs.Layout.{drive_bytes, decoded}
 use Rattle.drive_bytes.proofs.LentLaws.{open_length}
-use Rattle.desk.specs.declared.Answer.{Answer}
-use Rattle.desk.specs.declared.Answer.TheVariants.{Matching, Refused}
+use Rattle.std.specs.Prelude.{Result, Ok, Err}
+use Rattle.desk.specs.declared.Why.{Why}
 use Rattle.desk.specs.Answer.{number_of, value_of}
 use Rattle.desk.specs.Replace.{replacement}
 use Rattle.seam_calls.specs.Seam.{Sealed, log_in_at_seam}
@@ -74,9 +74,9 @@ same_call c s v small l k =
     }
 
 -- a count has the number 0
-done_number : (a : Answer) → is_done a ≡ true → eqb ((number_of a + 65536 * value_of a) % 65536) 0 ≡ true
-done_number (Matching n) t = let z : (0 + 65536 * n) % 65536 ≡ 0 = omega arith in eq-eqb _ _ z
-done_number (Refused why) t = absurd (false≢true t)
+done_number : (a : Result ℕ Why) → is_done a ≡ true → eqb ((number_of a + 65536 * value_of a) % 65536) 0 ≡ true
+done_number (Ok n) t = let z : (0 + 65536 * n) % 65536 ≡ 0 = omega arith in eq-eqb _ _ z
+done_number (Err why) t = absurd (false≢true t)
 
 same_deed : (g : Geometry) (x : Deed) (s v : List ℕ) → Carries g s v → HandedOver x v → SameDeed g x s v
 unfolding replace_at_seam

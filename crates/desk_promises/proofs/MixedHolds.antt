@@ -22,8 +22,8 @@ use Rattle.filecalls.specs.State.{logged_in}
 use Rattle.filecalls.specs.Outcome.{Outcome}
 use Rattle.call_answers.specs.Answer.{succeeded}
 use Rattle.demands.specs.Demand3.{touches}
-use Rattle.desk.specs.declared.Answer.{Answer}
-use Rattle.desk.specs.declared.Answer.TheVariants.{Matching, Refused}
+use Rattle.std.specs.Prelude.{Result, Ok, Err}
+use Rattle.desk.specs.declared.Why.{Why}
 use Rattle.desk.specs.Replace.{replacement}
 use Rattle.demands.proofs.Inspected.{accepted_sound, sound_accepted}
 use Rattle.demands.proofs.Orderly.{Directory, Changed, held_changed}
@@ -93,11 +93,11 @@ deed_keeps g (replaces fcb chapter old new) d v is-g c small = go (replacement d
     s : (replacement d v fcb chapter old new).drive ≡ d
     s = all.state_stays
 
-    go : (r : Answer) → (replacement d v fcb chapter old new).answer ≡ r → DeedKeeps g (replaces fcb chapter old new) d v
-    go (Refused why) e =
+    go : (r : Result ℕ Why) → (replacement d v fcb chapter old new).answer ≡ r → DeedKeeps g (replaces fcb chapter old new) d v
+    go (Err why) e =
         let z = all.refused_keeps why e in
         record { consistent = rw (s, z) c; geometry = ap (λ (x : Drive). x.geometry) s; others = λ u name u15 h. rw z leaves_all }
-    go (Matching n) e =
+    go (Ok n) e =
         let a = all.altered n e in
         record {
           consistent = rw s (altered_consistent d v fcb chapter old new _ c a);

@@ -19,8 +19,8 @@ use Rattle.call_served.specs.Asked.{Asked}
 use Rattle.call_served.specs.Calls.{call_of}
 use Rattle.filecalls.specs.declared.Drive.{Drive}
 use Rattle.bdos.specs.Step.{step}
-use Rattle.desk.specs.declared.Answer.{Answer}
-use Rattle.desk.specs.declared.Answer.TheVariants.{Matching, Refused}
+use Rattle.std.specs.Prelude.{Result, Ok, Err}
+use Rattle.desk.specs.declared.Why.{Why}
 use Rattle.desk.specs.Replace.{replacement}
 use Rattle.demands.specs.Demand3.{touches}
 use Rattle.desk_promises.specs.Columns.{ByColumn}
@@ -40,9 +40,9 @@ volume_after g (calls c) d v = (step g c d v).volume
 volume_after g (replaces fcb chapter old new) d v = (replacement d v fcb chapter old new).volume
 
 -- it was not refused
-abbrev pub is_done : Answer → Bool
-is_done (Matching n) = true
-is_done (Refused why) = false
+abbrev pub is_done : Result ℕ Why → Bool
+is_done (Ok n) = true
+is_done (Err why) = false
 
 abbrev pub was_done : Geometry → Deed → Drive → List ℕ → Bool
 was_done g (calls c) d v = succeeded (step g c d v).answer

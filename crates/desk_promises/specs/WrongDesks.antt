@@ -7,10 +7,8 @@ use Rattle.disk_stores.specs.Stores.{Store}
 use Rattle.filecalls.specs.declared.Drive.{Drive}
 use Rattle.desk_contents.specs.Contents.{listed}
 use Rattle.desk.specs.declared.Why.TheVariants.{Contents}
-use Rattle.desk.specs.declared.Plan.{Plan}
-use Rattle.desk.specs.declared.Plan.TheVariants.{No, Go}
-use Rattle.desk.specs.declared.Answer.{Answer}
-use Rattle.desk.specs.declared.Answer.TheVariants.{Matching, Refused}
+use Rattle.std.specs.Prelude.{Result, Ok, Err}
+use Rattle.desk.specs.declared.Why.{Why}
 use Rattle.desk.specs.Records.{readable, record_shown, bears, with_siglum, written}
 use Rattle.desk.specs.Replace.{Desk, plan, rewrite_if, rewrite_all, replacement}
 use Rattle.desk.specs.Stores.{stores_if}
@@ -18,22 +16,22 @@ use Rattle.desk_keeps.specs.Sigla.{body_first, body_count, Way, Storing, OnAnyVo
 
 -- ---- what they are written with
 -- one thing for a refusal, another for a body that is replaced
-abbrev by_plan : {A : Type 0} → A → (ℕ → ℕ → A) → Plan → A
-by_plan kept done (No why) = kept
-by_plan kept done (Go first count) = done first count
+abbrev by_plan : {A : Type 0} → A → (ℕ → ℕ → A) → Result (ℕ × ℕ) Why → A
+by_plan kept done (Err why) = kept
+by_plan kept done (Ok (first, count)) = done first count
 
 -- an answer and a volume, and the state as given
-abbrev leaving : Answer → Drive → List ℕ → Desk
+abbrev leaving : Result ℕ Why → Drive → List ℕ → Desk
 leaving answer d v = record { answer = answer; drive = d; volume = v }
 
 -- ---- the wrong desks
 -- it refuses everything (`goes-when`)
 abbrev pub refuses_all : Way
-refuses_all d v fcb chapter old new = leaving (Refused Contents) d v
+refuses_all d v fcb chapter old new = leaving (Err Contents) d v
 
 -- it answers 50 for every refusal (`refused-when`)
 abbrev pub always_fifty : Way
-always_fifty d v fcb chapter old new = by_plan (leaving (Refused Contents) d v) (λ first count. replacement d v fcb chapter old new) (plan d v fcb chapter)
+always_fifty d v fcb chapter old new = by_plan (leaving (Err Contents) d v) (λ first count. replacement d v fcb chapter old new) (plan d v fcb chapter)
 
 -- it rewrites the whole record, with the bytes of the contents (`altered`)
 abbrev pub from_contents : Way
@@ -61,7 +59,7 @@ changes_first d v fcb chapter old new =
 abbrev pub counts_listed : Way
 counts_listed d v fcb chapter old new =
     let r = replacement d v fcb chapter old new in
-    by_plan r (λ first count. leaving (Matching count) d r.volume) (plan d v fcb chapter)
+    by_plan r (λ first count. leaving (Ok count) d r.volume) (plan d v fcb chapter)
 
 -- it looks for matches in what it has changed by then (`counts`)
 unfoldable pub count_in_turn : Drive → List ℕ → ℕ → ℕ → List ℕ → ℕ → ℕ → ℕ
@@ -72,7 +70,7 @@ count_in_turn d fcb old new v n (suc k) =
 abbrev pub decides_in_turn : Way
 decides_in_turn d v fcb chapter old new =
     let r = replacement d v fcb chapter old new in
-    by_plan r (λ first count. leaving (Matching (count_in_turn d fcb old new v first count)) d r.volume) (plan d v fcb chapter)
+    by_plan r (λ first count. leaving (Ok (count_in_turn d fcb old new v first count)) d r.volume) (plan d v fcb chapter)
 
 -- its stores are those of the highest record first (`cut_short`)
 unfoldable pub stores_down : (ℕ → Bool) → Drive → List ℕ → ℕ → List ℕ → ℕ → ℕ → List Store

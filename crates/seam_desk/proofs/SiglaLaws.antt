@@ -11,8 +11,11 @@ use Rattle.filecalls.specs.declared.Front.{Front}
 use Rattle.filecalls.specs.declared.Drive.{Drive}
 use Rattle.filecalls.specs.CodeFront.{front_of, joined}
 use Rattle.drive_bytes.specs.Layout.{fields, is_drive, decoded}
-use Rattle.desk_manuscripts.specs.declared.Where.{Where}
-use Rattle.desk_manuscripts.specs.declared.Where.TheVariants.{Own, House, Neither, Lists}
+use Rattle.std.specs.Prelude.{Result, Ok, Err}
+use Rattle.desk_manuscripts.specs.declared.Place.{Place}
+use Rattle.desk_manuscripts.specs.declared.Place.TheVariants.{Own, House}
+use Rattle.desk_manuscripts.specs.declared.Unexplained.{Unexplained}
+use Rattle.desk_manuscripts.specs.declared.Unexplained.TheVariants.{Lists}
 use Rattle.desk_manuscripts.specs.Manuscript.{where_of, InLists}
 use Rattle.desk.specs.declared.Reply.{Reply}
 use Rattle.desk.specs.Answer.{number_of, value_of}
@@ -41,23 +44,22 @@ module _ (d : Drive) (v fcb : List ℕ) (chapter old new : ℕ) (reply : Reply) 
   replaced_is s ed en em er = rw (er, en, em, answer_is, ap (λ (x : Desk). x.volume) e, ed)
 
 -- ---- which manuscript a siglum means
-start_fits : (o h : ℕ) → o < in_high → h < in_high → (w : Where) → InLists o h w → start_of w < in_high
-start_fits o h x y (Own i) k = omega (arith, x, k)
-start_fits o h x y (House j) k = omega (arith, y, k)
-start_fits o h x y Neither k = omega arith
-start_fits o h x y Lists k = omega arith
+start_fits : (o h : ℕ) → o < in_high → h < in_high → (w : Result Place Unexplained) → InLists o h w → start_of w < in_high
+start_fits o h x y (Ok (Own i)) k = omega (arith, x, k)
+start_fits o h x y (Ok (House j)) k = omega (arith, y, k)
+start_fits o h x y (Err why) k = omega arith
 
 module _ (own house : List ℕ) {a b : Bool} (x : a ≡ too_long own) (y : b ≡ too_long house) where
-  pub told_too_long : (siglum : ℕ) {r : ℕ} → (a || b) ≡ true → r ≡ sealed_where Lists → r ≡ manuscript_at_seam siglum own house
+  pub told_too_long : (siglum : ℕ) {r : ℕ} → (a || b) ≡ true → r ≡ sealed_where (Err Lists) → r ≡ manuscript_at_seam siglum own house
   unfolding manuscript_at_seam
   told_too_long siglum t e = rw (← x, ← y, t) e
 
   module _ (short : (a || b) ≡ false) where
-    pub told_fits : (w : Where) → InLists (length own) (length house) w → start_of w < in_high
+    pub told_fits : (w : Result Place Unexplained) → InLists (length own) (length house) w → start_of w < in_high
     told_fits w k =
         let s = or_parts a b short in
         start_fits (length own) (length house) (leb-false in_high (length own) (rw (← x) s.0)) (leb-false in_high (length house) (rw (← y) s.1)) w k
 
-    pub told_where : (siglum : ℕ) {w : Where} {r : ℕ} → w ≡ where_of siglum own house → r ≡ sealed_where w → r ≡ manuscript_at_seam siglum own house
+    pub told_where : (siglum : ℕ) {w : Result Place Unexplained} {r : ℕ} → w ≡ where_of siglum own house → r ≡ sealed_where w → r ≡ manuscript_at_seam siglum own house
     unfolding manuscript_at_seam
     told_where siglum k e = rw (← x, ← y, short, ← k) e

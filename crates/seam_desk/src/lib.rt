@@ -6,10 +6,9 @@ ghost use Rattle.drive_bytes.specs.Layout.{decoded};
 ghost use Rattle.desk_manuscripts.specs.Manuscript.{line_bytes, name_at};
 ghost use Rattle.seam_desk.specs.Sigla.{replaced, replace_at_seam, start_of, in_high, too_long, sealed_where, manuscript_at_seam};
 
-use desk_manuscripts::{LINE_BYTES, NAME_AT, Where};
+use desk_manuscripts::{LINE_BYTES, NAME_AT, Place, Unexplained};
 use disk_held::WORDS;
 use filecalls::Drive;
-use seam_words::wide;
 
 // One in the high 16 bits of an answer of 32; one in the next 16 bits of an answer of 64, and one in its high 32.
 const VALUE: u32 = 65536;
@@ -31,13 +30,11 @@ fn state(drive: &[u8]) -> Drive
     let front = drive_bytes::fields(drive);
     let mut held = [0u64; WORDS];
     drive_bytes::load_words(drive, &mut held);
-    let geometry = front.geometry;
-    let search = front.search;
     Drive {
-        geometry,
+        geometry: front.geometry,
         user: front.user,
         protected: front.protected,
-        search,
+        search: front.search,
         held,
     }
 }
@@ -47,9 +44,7 @@ fn halves(low: u8, high: usize) -> u32
     requires { high < 65536 }
     ensures { result ≡ low + 65536 * high }
 {
-    let number = wide(low);
-    let value = high as u32;
-    number + VALUE * value
+    u32::from(low) + VALUE * (high as u32)
 }
 
 // Replaces a siglum by another in one chapter of a collation file. A present record is rewritten in its place, so the drive stays as
@@ -67,8 +62,7 @@ pub fn replace_siglum(
 {
     let d = state(drive);
     let reply = desk::replace::replace(d, volume, fcb, chapter, old, new);
-    let answer = reply.answer;
-    halves(desk::number(answer), desk::value(answer))
+    halves(desk::number(reply.answer), desk::value(reply.answer))
 }
 
 // Is the list too long for its places?
@@ -87,15 +81,14 @@ fn high(i: usize) -> u64
 }
 
 // Where a siglum is explained as one number: the answer's number, which list, and where the name begins.
-fn told(place: Where) -> u64
+fn told(place: Result<Place, Unexplained>) -> u64
     requires { start_of place < in_high }
     ensures { result ≡ sealed_where place }
 {
     match place {
-        Where::Own(i) => high(i),
-        Where::House(j) => HOUSE + high(j),
-        Where::Neither => desk_manuscripts::NEITHER as u64,
-        Where::Lists => desk_manuscripts::LISTS as u64,
+        Ok(Place::Own(i)) => high(i),
+        Ok(Place::House(j)) => HOUSE + high(j),
+        Err(why) => u64::from(u8::from(why)),
     }
 }
 
@@ -104,7 +97,7 @@ pub fn manuscript(siglum: u16, own: &[u8], house: &[u8]) -> u64
     ensures { result ≡ manuscript_at_seam siglum own.now house.now }
 {
     if is_too_long(own) | is_too_long(house) {
-        return told(Where::Lists);
+        return told(Err(Unexplained::Lists));
     }
     told(desk_manuscripts::where_is(siglum, own, house))
 }

@@ -19,7 +19,7 @@ use Rattle.disk_stores.specs.Stores.{Store, cut}
 use Rattle.disk_stores.proofs.CodeLaws.{cut_none, then_cut, then_left}
 use Rattle.filecalls.specs.declared.Drive.{Drive}
 use Rattle.filecalls.specs.declared.Reply.{Reply}
-use Rattle.filecalls.specs.Outcome.{deny, unless, Outcome, outcome, left}
+use Rattle.filecalls.specs.Outcome.{deny, unless, Outcome, outcome}
 use Rattle.filecalls.specs.Read.{sequential_tests}
 use Rattle.filecalls.specs.Write.{directory_tests, write_done, write_sequential_act}
 use Rattle.filecalls.specs.Leaves.{write_sequential_leaves}

@@ -31,9 +31,11 @@ fn several_why(front: Front, volume: &[u8], fcb: &[u8], buffer: &[u8], k: u8) ->
     if !front.is_open() {
         return Refusal::Closed;
     }
-    let g = front.geometry;
-    let n = lists::wide(k);
-    let a = call_answers::refuse(Refusal::VolumeLength, volume.len() != g.bytes());
+    let n = usize::from(k);
+    let a = call_answers::refuse(
+        Refusal::VolumeLength,
+        volume.len() != front.geometry.bytes(),
+    );
     let b = call_answers::refuse(Refusal::FcbLength, fcb.len() != FCB_BYTES);
     let c = call_answers::refuse(Refusal::BadCount, !((1 <= n) & (n <= 16)));
     let d = call_answers::refuse(
@@ -88,18 +90,14 @@ fn read_pieces(
         ≡ singles read_sequential_leaves 0 k (joined front held) volume.now fcb.old buffer.old }
 {
     let mut d = front;
-    let mut i = 0;
-    while i < k {
+    for i in 0..k {
         let reply = read_piece(d, volume, fcb, buffer, i);
-        let answer = reply.answer;
-        let next = reply.front;
-        if !call_answers::succeeded(answer) {
-            return ended(next, i, call_answers::why_of(answer));
+        if !call_answers::succeeded(reply.answer) {
+            return ended(reply.front, i, call_answers::why_of(reply.answer));
         }
-        d = next;
-        i += 1;
+        d = reply.front;
     }
-    ended(d, i, Refusal::None)
+    ended(d, k, Refusal::None)
 }
 
 // The single write of piece i, as long as a store is left.
@@ -142,18 +140,14 @@ fn write_pieces(
         (cut_left (joined_reply result held.new) volume.new fcb.new buffer.now left.new) }
 {
     let mut d = front;
-    let mut i = 0;
-    while i < k {
+    for i in 0..k {
         let written = write_piece(d, held, volume, fcb, buffer, i, left);
-        let answer = written.answer;
-        let after = written.front;
-        if !call_answers::succeeded(answer) {
-            return ended(after, i, call_answers::why_of(answer));
+        if !call_answers::succeeded(written.answer) {
+            return ended(written.front, i, call_answers::why_of(written.answer));
         }
-        d = after;
-        i += 1;
+        d = written.front;
     }
-    ended(d, i, Refusal::None)
+    ended(d, k, Refusal::None)
 }
 
 // Function 220: reads k records at the sequential position, and moves it on.
@@ -166,7 +160,7 @@ pub fn read(front: Front, volume: &[u8], fcb: &mut [u8], buffer: &mut [u8], k: u
     if !call_answers::is_none(why) {
         return ended(front, 0, why);
     }
-    read_pieces(front, volume, fcb, buffer, lists::wide(k))
+    read_pieces(front, volume, fcb, buffer, usize::from(k))
 }
 
 // Function 221 as long as a store is left.
@@ -186,5 +180,5 @@ pub fn write_most(
     if !call_answers::is_none(why) {
         return ended(front, 0, why);
     }
-    write_pieces(front, held, volume, fcb, buffer, lists::wide(k), left)
+    write_pieces(front, held, volume, fcb, buffer, usize::from(k), left)
 }

@@ -1,12 +1,8 @@
 use Rattle.desk_contents.specs.Contents.{differs}
 use Rattle.lists.proofs.BoundedLaws.{Passed}
-use Prim.Native.Nat.{◌≤◌, ◌-◌}
 use Rattle.desk_contents.proofs.are_others.Given as goal
 
 -- Each place passed so far is used and for another chapter, so what is still to be asked gives the whole.
 
 abbrev pub invariant-loop-j : goal.invariant-loop-j
-invariant-loop-j l = (l.j ≤ l.i) × Passed (differs l.s l.chapter) 0 l.i l.j
-
-abbrev pub decreases-loop-j : goal.decreases-loop-j
-decreases-loop-j l = l.i - l.j
+invariant-loop-j l = Passed (differs l.s l.chapter) 0 l.i l.j

@@ -2,12 +2,8 @@
 use Rattle.desk_manuscripts.specs.Manuscript.{line_is}
 use Rattle.lists.proofs.BoundedLaws.{Searched}
 use lib.ListN.{length}
-use Prim.Native.Nat.{◌≤◌, ◌-◌, ◌/◌}
-use mathlib.Core.Path.{◌≡◌}
+use Prim.Native.Nat.{◌/◌}
 use Rattle.desk_manuscripts.proofs.line_of.Given as goal
 
 abbrev pub invariant-loop-i : goal.invariant-loop-i
-invariant-loop-i l = (l.n ≡ length l.list / 32) × ((l.i ≤ l.n) × Searched (line_is l.list l.siglum) 0 l.n l.i)
-
-abbrev pub decreases-loop-i : goal.decreases-loop-i
-decreases-loop-i l = l.n - l.i
+invariant-loop-i l = Searched (line_is l.list l.siglum) 0 (length l.list / 32) l.i

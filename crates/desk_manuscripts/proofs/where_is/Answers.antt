@@ -1,34 +1,18 @@
 -- The lengths, then the own list, then the house list.
 use Rattle.desk_manuscripts.proofs.WhereLaws.{in_own, in_house, in_neither}
 use Rattle.desk_manuscripts.specs.Manuscript.{where_of}
-use native.Mathlib.Omega.{arith}
 use Rattle.desk_manuscripts.proofs.where_is.Goals as goal
 
-pub returns-then-own-house : goal.returns-then-own-house
+pub returns-then-own-house-clause-value : goal.returns-then-own-house-clause-value
 unfolding where_of
-returns-then-own-house c =
-    record {
-      value = rw c.if-own-house.true;
-      in_lists = tt;
-    }
+returns-then-own-house-clause-value c = rw c.if-own-house.true
 
-pub returns-then-i-own : goal.returns-then-i-own
-returns-then-i-own c = let h = c.if-i-own.true in
-    record {
-      value = in_own _ _ _ c.if-own-house.false c.line_of-i.ensures h;
-      in_lists = omega arith;
-    }
+pub returns-in-Some-clause-value : goal.returns-in-Some-clause-value
+returns-in-Some-clause-value c = in_own _ _ _ c.if-own-house.false c.in-Some.ensures.0 c.in-Some.ensures.1
 
-pub returns-then-j-house : goal.returns-then-j-house
-returns-then-j-house c = let h = c.if-j-house.true in
-    record {
-      value = in_house _ _ _ c.if-own-house.false c.line_of-i.ensures c.if-i-own.false c.line_of-j.ensures h;
-      in_lists = omega arith;
-    }
+pub returns-in-Some-line_of-clause-value : goal.returns-in-Some-line_of-clause-value
+returns-in-Some-line_of-clause-value c =
+    in_house _ _ _ c.if-own-house.false c.in_default.ensures c.in-Some-line_of.ensures.0 c.in-Some-line_of.ensures.1
 
-pub returns : goal.returns
-returns c =
-    record {
-      value = in_neither _ _ _ c.if-own-house.false c.line_of-i.ensures c.if-i-own.false c.line_of-j.ensures c.if-j-house.false;
-      in_lists = tt;
-    }
+pub returns-clause-value : goal.returns-clause-value
+returns-clause-value c = in_neither _ _ _ c.if-own-house.false c.in_default.ensures c.in_default-line_of.ensures

@@ -17,13 +17,13 @@ returns-then-not-is_none c = λ (held : List ℕ).
 pub read_pieces-requires : goal.read_pieces-requires
 read_pieces-requires c =
     let a = c.args in
-    rw c.wide.ensures.0
+    rw c.from.ensures
     (lent_pieces (joined a.front []) a.volume.now a.fcb.now a.buffer.now a.k
     (code_passed read_sequential_leaves (joined a.front []) a.volume.now a.fcb.now a.buffer.now a.k (c.several_why-why.ensures []) c.is_none.ensures (ap not c.if-not-is_none.false))).buffer
 
 pub returns : goal.returns
 returns c = λ (held : List ℕ).
     let a = c.args in
-    (rw c.wide.ensures.0 at (c.read_pieces.ensures held))
+    (rw c.from.ensures at (c.read_pieces.ensures held))
     ∙ sym (several_passed read_sequential_leaves (joined a.front held) a.volume.now a.fcb.now a.buffer.now a.k
     (code_passed read_sequential_leaves (joined a.front held) a.volume.now a.fcb.now a.buffer.now a.k (c.several_why-why.ensures held) c.is_none.ensures (ap not c.if-not-is_none.false)))

@@ -33,6 +33,6 @@ returns c = λ (held : List ℕ).
     let b = not (eqb (length a.buffer.now) (128 * a.k)) in
     let h : is_none (first_met (closed_state (joined a.front held) ∷ [])) ≡ true = rw (← c.is_open.ensures held, c.if-not-is_open.false) in
     c.first_of-3.ensures
-    ∙ rw (c.first_of-2.ensures, c.first_of.ensures, c.refuse-a.ensures, c.refuse-b.ensures, c.refuse-c.ensures, c.refuse-d.ensures, c.bytes.ensures, c.wide-n.ensures.0)
+    ∙ rw (c.first_of-2.ensures, c.first_of.ensures, c.refuse-a.ensures, c.refuse-b.ensures, c.refuse-c.ensures, c.refuse-d.ensures, c.bytes.ensures, c.from-n.ensures)
     (ladder_four VolumeLength FcbLength BadCount BufferLength v f n b refl)
     ∙ sym (ladder_pass (closed_state (joined a.front held) ∷ []) (test VolumeLength v ∷ test FcbLength f ∷ test BadCount n ∷ test BufferLength b ∷ []) h)

@@ -18,7 +18,7 @@ pub write_pieces-requires : goal.write_pieces-requires
 write_pieces-requires c =
     let a = c.args in
     let d = joined a.front [] in
-    rw c.wide.ensures.0
+    rw c.from.ensures
     (lent_pieces d a.volume.now a.fcb.now a.buffer.now a.k
     (code_passed write_sequential_leaves d a.volume.now a.fcb.now a.buffer.now a.k (c.several_why-why.ensures []) c.is_none.ensures (ap not c.if-not-is_none.false))).buffer
 
@@ -28,4 +28,4 @@ returns c =
     let d = joined a.front a.held.now in
     several_cut_passed d a.volume.now a.fcb.now a.buffer.now a.k a.left.now
     (code_passed write_sequential_leaves d a.volume.now a.fcb.now a.buffer.now a.k (c.several_why-why.ensures d.held) c.is_none.ensures (ap not c.if-not-is_none.false))
-    (rw c.wide.ensures.0 at c.write_pieces.ensures)
+    (rw c.from.ensures at c.write_pieces.ensures)

@@ -1,14 +1,8 @@
 -- What is still to be written from piece i on with the stores that are left gives the whole; a refused write ends it.
-use mathlib.Core.Path.{◌≡◌}
-use Prim.Native.Nat.{◌-◌, ◌≤◌}
-use lib.ListN.{length}
 use Rattle.several.proofs.SinglesCutLaws.{CutLeft}
 use Rattle.filecalls.specs.CodeFront.{joined}
 use Rattle.several.proofs.write_pieces.Given as goal
 
 abbrev pub invariant-loop-i : goal.invariant-loop-i
 invariant-loop-i l =
-    (l.i ≤ l.k) × ((length l.volume ≡ length l.initial.volume) × ((length l.fcb ≡ length l.initial.fcb) × CutLeft l.k (joined l.initial.d l.initial.held) l.initial.volume l.initial.fcb l.buffer l.initial.left (joined l.d l.held) l.volume l.fcb l.left l.i))
-
-abbrev pub decreases-loop-i : goal.decreases-loop-i
-decreases-loop-i l = l.k - l.i
+    CutLeft l.k (joined l.initial.d l.initial.held) l.initial.volume l.initial.fcb l.buffer l.initial.left (joined l.d l.held) l.volume l.fcb l.left l.i

@@ -8,4 +8,4 @@ use borrow.Author.Rules.{rules}
 use Rattle.desk.proofs.records.show.Goals as goal
 
 pub returns : goal.returns
-returns c = λ (held : List ℕ). shows _ _ _ _ (joined_reply c.read_random-r.result held) {k = length c.args.buffer.now} c.point.ensures c.fill.ensures (search rules) (c.read_random-r.ensures held) c.why_of.ensures
+returns c = λ (held : List ℕ). shows _ _ _ _ (joined_reply c.read_random-reply.result held) {k = length c.args.buffer.now} c.point.ensures (c.fill.ensures.after (λ y e. e)) (search rules) (c.read_random-reply.ensures held) c.why_of.ensures

@@ -1,8 +1,0 @@
--- One byte is set.
-use Rattle.desk.proofs.replace.mark.Goals as goal
-
-pub returns-then-hit : goal.returns-then-hit
-returns-then-hit c = rw c.if-hit.true
-
-pub returns : goal.returns
-returns c = rw c.if-hit.false
