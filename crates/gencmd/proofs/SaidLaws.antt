@@ -11,7 +11,7 @@ use Rattle.text.specs.Letters.{letters}
 use Rattle.text.proofs.TextLaws.{puts_room, puts_within}
 use Rattle.text.proofs.DecimalLaws.{decimal_short}
 use Rattle.gencmd_lines.specs.declared.Refusal.{Refusal}
-use Rattle.gencmd_lines.specs.declared.Refusal.TheVariants.{None, Digits, Sum, OtherType, Beyond, NoEnd, NoCode, Room}
+use Rattle.gencmd_lines.specs.declared.Refusal.TheVariants.{Digits, Sum, OtherType, Beyond, NoEnd, NoCode, Room}
 use Rattle.gencmd_lines.specs.Refusal.{refusal_number}
 use Rattle.gencmd.specs.Said.{text_most, line_bytes, refused, too_long}
 
@@ -27,7 +27,6 @@ examples = record { first = refl; last = refl; long = refl }
 
 -- ---- lines fit
 small : (why : Refusal) → refusal_number why < 10 ^ 2
-small None = omega arith
 small Digits = omega arith
 small Sum = omega arith
 small OtherType = omega arith

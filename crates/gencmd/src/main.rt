@@ -7,7 +7,7 @@ ghost use Rattle.std.specs.Prelude.{◌≡◌, ◌≤◌, length, take};
 ghost use Rattle.gencmd_file.specs.Longest.{longest};
 ghost use Rattle.gencmd.specs.Said.{line_bytes, refused, too_long};
 
-use gencmd_file::{Answer, LONGEST};
+use gencmd_file::LONGEST;
 use gencmd_lines::Refusal;
 use std::io::Write;
 
@@ -25,7 +25,7 @@ fn lay_refusal(line: &mut [u8], why: Refusal) -> usize
         × (result ≤ length line.new) }
 {
     let a = text::put_bytes(line, 0, b"REFUSED ");
-    let b = text::put_decimal(line, a, lists::wide(gencmd_lines::number_of(why)));
+    let b = text::put_decimal(line, a, usize::from(gencmd_lines::number_of(why)));
     text::put_byte(line, b, b'\n')
 }
 
@@ -44,7 +44,7 @@ fn lay_too_long(line: &mut [u8]) -> usize
 fn complain<E: Write>(errors: &mut E, line: &[u8], n: usize)
     requires { n ≤ length line.now }
 {
-    let _ = errors.write_all(&line[0..n]);
+    let _ = errors.write_all(&line[..n]);
 }
 
 fn refuse<E: Write>(errors: &mut E, why: Refusal) {
@@ -71,8 +71,8 @@ fn convert<W: Write, E: Write>(text: &[u8], out: &mut [u8], to: &mut W, errors: 
     requires { longest ≤ length out.old }
 {
     match gencmd_file::gencmd(text, out) {
-        Answer::Written(n) => deliver(to, errors, &out[0..n]),
-        Answer::Refused(why) => refuse(errors, why),
+        Ok(n) => deliver(to, errors, &out[..n]),
+        Err(why) => refuse(errors, why),
     }
 }
 

@@ -1,15 +1,15 @@
 -- What becomes of the texts: whole files, byte by byte, over a buffer full of EEH; and the number of each refusal at its border.
-use Rattle.std.specs.Prelude.{◌≡◌, refl, List, [], ◌∷◌, ◌++◌, ℕ, replicate}
+use Rattle.std.specs.Prelude.{◌≡◌, refl, Option, Some, None, Ok, Err, List, [], ◌∷◌, ◌++◌, ℕ, replicate}
 use Rattle.lists.specs.Bounded.{every_from}
 use Rattle.numbers.specs.Numbers.{bytes_of}
+use Rattle.gencmd_lines.specs.declared.Refusal.{Refusal}
+use Rattle.gencmd_lines.specs.declared.Refusal.TheVariants.{Room}
 use Rattle.gencmd_lines.specs.Refusal.{refusal_number}
 use Rattle.gencmd_lines.specs.Digits.{digit_of, line_byte}
 use Rattle.gencmd_lines.specs.Line.{is_spelled, sum_from, sum_of, group_of_type, data_refusal, line_refusal}
 use Rattle.gencmd_lines.specs.Lines.{lines_of, lines_in, lines_from, lines_refusal, data_lines}
 use Rattle.gencmd_groups.specs.declared.Groups.{Groups}
 use Rattle.gencmd_groups.specs.Groups.{given, byte_at, list_from, reach_of, reaches, sizes_of}
-use Rattle.gencmd_file.specs.declared.Answer.TheVariants.{Written, Refused}
-use Rattle.gencmd_lines.specs.declared.Refusal.TheVariants.{Room}
 use Rattle.gencmd_file.specs.File.{descriptor, descriptors, header, image, file_length, file_with}
 use Rattle.gencmd_file.specs.Gencmd.{after, refusal_of, gencmd}
 use Rattle.gencmd_file.specs.Longest.{longest}
@@ -42,13 +42,18 @@ four_file =
     ++ (zeros 15 ++ ((0x44 ∷ [])
     ++ zeros 48)))))))))))
 
--- the number for a text with a buffer of so many bytes; 0 where it is not refused
+-- the number of a refusal; 0 where there is none
+abbrev told : Option Refusal → ℕ
+told None = 0
+told (Some why) = refusal_number why
+
+-- the number for a text with a buffer of so many bytes
 abbrev number : List ℕ → ℕ → ℕ
-number text room = refusal_number (refusal_of text room)
+number text room = told (refusal_of text room)
 
 -- and that of its lines alone
 abbrev lines : List ℕ → ℕ
-lines text = refusal_number (lines_refusal (lines_of text))
+lines text = told (lines_refusal (lines_of text))
 
 -- the paragraphs of a text's groups, and the length of its file, without its bytes
 abbrev sizes_in : List ℕ → Groups
@@ -61,14 +66,14 @@ abbrev long_file : List ℕ → ℕ
 long_file text = file_length (sizes_in text)
 
 pub record Examples : Type 0 where
-  code_alone_lem : gencmd (three ++ end) (buffer 400) ≡ after (Written 384) (three_file ++ buffer 16)
-  four_groups : gencmd four (buffer 513) ≡ after (Written 512) (four_file ++ buffer 1)
+  code_alone_lem : gencmd (three ++ end) (buffer 400) ≡ after (Ok 384) (three_file ++ buffer 16)
+  four_groups : gencmd four (buffer 513) ≡ after (Ok 512) (four_file ++ buffer 1)
   -- text around lines is ignored, and nothing is read behind the end line: a line there is not refused, and gives no byte
-  ignored : gencmd among (buffer 384) ≡ after (Written 384) three_file
+  ignored : gencmd among (buffer 384) ≡ after (Ok 384) three_file
   -- the base page is in the data group, or else in the code group, and that one has 16 paragraphs; the others as many as their bytes need
   page_groups : (sizes_in code_and_data ≡ sizes 1 16 0 0) × (sizes_in code_and_extra ≡ sizes 16 0 2 0)
   -- refused: every byte stays
-  refused : gencmd (three ++ end) (buffer 383) ≡ after (Refused Room) (buffer 383)
+  refused : gencmd (three ++ end) (buffer 383) ≡ after (Err Room) (buffer 383)
   -- 70: small letters, a letter behind F, a colon within a line, a line that the text's end cuts off
   digits : (number (small ++ end) 400 ∷ number (letter_g ++ end) 400 ∷ number (colon_within ++ end) 400 ∷ number short 400 ∷ number (58 ∷ []) 400 ∷ [])
       ≡ (70 ∷ 70 ∷ 70 ∷ 70 ∷ 70 ∷ [])

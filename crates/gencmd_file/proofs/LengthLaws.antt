@@ -1,21 +1,19 @@
 -- How long a file is: at most so long, and no longer than the buffer that it was written into.
-use mathlib.Core.Path.{◌≡◌, refl, sym, ap, ◌∙◌}
-use mathlib.Core.Bool.{Bool, true, false, cond}
+use mathlib.Core.Path.{◌≡◌, refl, ap}
 use mathlib.Core.List.{List, ◌++◌}
 use Prim.Native.Nat.{ℕ, ◌≤◌}
 use native.Mathlib.Omega.{arith}
 use lib.ListN.{length, drop, length-append}
-use Rattle.gencmd_lines.specs.Refusal.{is_none}
+use Rattle.std.specs.Prelude.{is_none, Option, Some, None, Result, Ok, Err}
+use Rattle.gencmd_lines.specs.declared.Refusal.{Refusal}
 use Rattle.gencmd_lines.specs.Lines.{lines_of, lines_refusal, lines_in}
 use Rattle.gencmd_lines.proofs.RefusalLaws.{first_parts}
 use Rattle.gencmd_groups.specs.declared.Groups.{Groups}
 use Rattle.gencmd_groups.specs.Groups.{reaches, sizes_of}
 use Rattle.gencmd_groups.specs.CodeMeasure.{SizeWithin}
 use Rattle.gencmd_groups.proofs.ReachLaws.{reaches_within, sizes_within}
-use Rattle.gencmd_file.specs.declared.Answer.{Answer}
-use Rattle.gencmd_file.specs.declared.Answer.TheVariants.{Written, Refused}
 use Rattle.gencmd_file.specs.File.{file_length, file_of}
-use Rattle.gencmd_file.specs.Gencmd.{After, after, written, length_of, refusal_of, gencmd}
+use Rattle.gencmd_file.specs.Gencmd.{After, after, answered, length_of, refusal_of, gencmd}
 use Rattle.gencmd_file.specs.Longest.{longest, NotLonger}
 use Rattle.gencmd_file.proofs.FileLaws.{length_file}
 
@@ -34,23 +32,20 @@ module _ (text out : List ℕ) where
 
   pub answer_within : length_of (gencmd text out).answer ≤ longest
   unfolding gencmd refusal_of
-  answer_within = go (is_none (refusal_of text (length out))) refl
+  answer_within = go (refusal_of text (length out)) refl
     where
-      go : (t : Bool) → is_none (refusal_of text (length out)) ≡ t → length_of (cond t (written file out) (after (Refused (refusal_of text (length out))) out)).answer ≤ longest
-      go true e = (not_longer text).file (first_parts (lines_refusal (lines_of text)) _ e).0
-      go false e = omega arith
+      go : (r : Option Refusal) → refusal_of text (length out) ≡ r → length_of (answered r file out).answer ≤ longest
+      go None e = (not_longer text).file (first_parts (lines_refusal (lines_of text)) _ (ap is_none e)).0
+      go (Some why) e = omega arith
 
-  pub written_within : {a : Answer} {n : ℕ} {l : List ℕ} → a ≡ Written n → after a l ≡ gencmd text out → n ≤ length l
+  pub written_within : {n : ℕ} {l : List ℕ} → after (Ok n) l ≡ gencmd text out → n ≤ length l
   unfolding gencmd
-  written_within {a} {n} {l} w e = go (is_none (refusal_of text (length out))) (ap (λ (x : Answer). after x l) (sym w) ∙ e)
+  written_within {n} {l} e = go (refusal_of text (length out)) e
     where
-      go : (t : Bool) → after (Written n) l ≡ cond t (written file out) (after (Refused (refusal_of text (length out))) out) → n ≤ length l
-      go true f =
-          let a : Written n ≡ Written (length file) = ap (λ (x : After). x.answer) f in
+      go : (r : Option Refusal) → after (Ok n) l ≡ answered r file out → n ≤ length l
+      go None f =
+          let a : ◌≡◌ {A = Result ℕ Refusal} (Ok n) (Ok (length file)) = ap (λ (x : After). x.answer) f in
           let z : n ≡ length file = cc in
           let y : l ≡ file ++ drop (length file) out = ap (λ (x : After). x.out) f in
           rw y (rw length-append (omega arith))
-      go false f =
-          let a : Written n ≡ Refused (refusal_of text (length out)) = ap (λ (x : After). x.answer) f in
-          let z : ◌≡◌ {A = ℕ} 0 1 = cc in
-          absurd (omega arith)
+      go (Some why) f = let a : ◌≡◌ {A = Result ℕ Refusal} (Ok n) (Err why) = ap (λ (x : After). x.answer) f in cc

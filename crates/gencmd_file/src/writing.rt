@@ -29,7 +29,7 @@ fn put_zeros(out: &mut [u8], at: usize, n: usize)
     requires { at + n ≤ length out.old }
     ensures { out.new ≡ put out.old at n (replicate n 0) }
 {
-    lists::fill(&mut out[at..at + n], 0);
+    out[at..at + n].fill(0);
 }
 
 // Four groups of so many bytes, one behind the other from a place on.

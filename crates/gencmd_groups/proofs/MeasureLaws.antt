@@ -8,14 +8,14 @@ use lib.ListN.{length}
 use Rattle.load_header.specs.Header.{CODE, DATA, EXTRA, STACK}
 use Rattle.gencmd_lines.specs.declared.Refusal.{Refusal}
 use Rattle.gencmd_lines.specs.declared.Refusal.TheVariants.{NoEnd}
-use Rattle.gencmd_lines.specs.Refusal.{is_none}
+use Rattle.gencmd_lines.specs.Refusal.{unless}
+use Rattle.gencmd_lines.proofs.RefusalLaws.{not_refused, is_refused}
+use Rattle.std.specs.Prelude.{is_none, Some, Result, Ok, Err}
 use Rattle.gencmd_lines.specs.Line.{Line, is_end, line_refusal}
 use Rattle.gencmd_lines.specs.Lines.{lines_of, lines_refusal, data_lines}
 use Rattle.gencmd_lines.specs.CodeWalk.{next_colon, next_line}
 use Rattle.gencmd_lines.proofs.LinesLaws.{Walk, lines_at, lent_line, lines_here, lines_end, lines_next_colon, next_colon_walk, next_line_walk}
 use Rattle.gencmd_groups.specs.declared.Groups.{Groups}
-use Rattle.gencmd_groups.specs.declared.Measured.{Measured}
-use Rattle.gencmd_groups.specs.declared.Measured.TheVariants.{Refused, Reached}
 use Rattle.gencmd_groups.specs.Groups.{end_of, reach_of, reaches}
 use Rattle.gencmd_groups.specs.CodeMeasure.{reach_over, measured}
 
@@ -32,8 +32,8 @@ abbrev pub nothing : Groups
 nothing = record { code = 0; «data» = 0; extra = 0; stack = 0 }
 
 -- what measuring tells that has reached r and has these lines left
-abbrev pub after : Groups → List Line → Measured
-after r ls = cond (is_none (lines_refusal ls)) (Reached (joined r (reaches (data_lines ls)))) (Refused (lines_refusal ls))
+abbrev pub after : Groups → List Line → Result Groups Refusal
+after r ls = unless (lines_refusal ls) (joined r (reaches (data_lines ls)))
 
 from_zero : (n : ℕ) → max 0 n ≡ n
 from_zero n = omega arith
@@ -47,16 +47,16 @@ regroup a b c = omega arith
 pub after_nothing : (ls : List Line) → after nothing ls ≡ measured ls
 after_nothing ls = rw (from_zero (reach_of (data_lines ls) CODE), from_zero (reach_of (data_lines ls) DATA), from_zero (reach_of (data_lines ls) EXTRA), from_zero (reach_of (data_lines ls) STACK))
 
-after_none : (r : Groups) → after r [] ≡ Refused NoEnd
+after_none : (r : Groups) → after r [] ≡ Err NoEnd
 unfolding lines_refusal
 after_none r = refl
 
 module _ (r : Groups) (l : Line) (ls : List Line) where
-  after_refused : is_none (line_refusal l) ≡ false → after r (l ∷ ls) ≡ Refused (line_refusal l)
+  after_refused : {why : Refusal} → line_refusal l ≡ Some why → after r (l ∷ ls) ≡ Err why
   unfolding lines_refusal
-  after_refused e = rw (e, e)
+  after_refused e = rw e
 
-  after_end : is_none (line_refusal l) ≡ true → is_end l ≡ true → after r (l ∷ ls) ≡ Reached r
+  after_end : is_none (line_refusal l) ≡ true → is_end l ≡ true → after r (l ∷ ls) ≡ Ok r
   unfolding lines_refusal data_lines reach_of
   after_end e f = rw (e, f, to_zero r.code, to_zero r.«data», to_zero r.extra, to_zero r.stack)
 
@@ -85,16 +85,16 @@ module _ {t : List ℕ} {r : Groups} {at : ℕ} (m : Measuring t r at) where
   whole : (h : at < length t) → after r (lent_line t at ∷ lines_at t (next_line t at)) ≡ measured (lines_of t)
   whole h = ap (after r) (sym (lines_here t at m.walk h)) ∙ m.rest
 
-  pub measuring_refused : {why : Refusal} → at < length t → why ≡ line_refusal (lent_line t at) → is_none why ≡ false → Refused why ≡ measured (lines_of t)
-  measuring_refused h e f = rw e (sym (after_refused r (lent_line t at) _ (rw (← e) f)) ∙ whole h)
+  pub measuring_refused : {why : Refusal} → at < length t → Err why ≡ unless (line_refusal (lent_line t at)) (tt {0}) → Err why ≡ measured (lines_of t)
+  measuring_refused h e = sym (after_refused r (lent_line t at) _ (is_refused (line_refusal (lent_line t at)) (tt {0}) e)) ∙ whole h
 
-  pub measuring_end : at < length t → is_none (line_refusal (lent_line t at)) ≡ true → is_end (lent_line t at) ≡ true → Reached r ≡ measured (lines_of t)
-  measuring_end h e f = sym (after_end r (lent_line t at) _ e f) ∙ whole h
+  pub measuring_end : at < length t → Ok (tt {0}) ≡ unless (line_refusal (lent_line t at)) (tt {0}) → is_end (lent_line t at) ≡ true → Ok r ≡ measured (lines_of t)
+  measuring_end h e f = sym (after_end r (lent_line t at) _ (not_refused (line_refusal (lent_line t at)) (tt {0}) e) f) ∙ whole h
 
-  pub measuring_next : {s : Groups} {to : ℕ} → at < length t → is_none (line_refusal (lent_line t at)) ≡ true → is_end (lent_line t at) ≡ false
+  pub measuring_next : {s : Groups} {to : ℕ} → at < length t → Ok (tt {0}) ≡ unless (line_refusal (lent_line t at)) (tt {0}) → is_end (lent_line t at) ≡ false
       → s ≡ reach_over r (lent_line t at) → to ≡ next_line t at → Measuring t s to
   measuring_next h e f x y =
-      record { walk = rw y (next_line_walk t at m.walk h); rest = rw (x, y) (sym (after_next r (lent_line t at) _ e f) ∙ whole h) }
+      record { walk = rw y (next_line_walk t at m.walk h); rest = rw (x, y) (sym (after_next r (lent_line t at) _ (not_refused (line_refusal (lent_line t at)) (tt {0}) e) f) ∙ whole h) }
 
-  pub measuring_none : length t ≤ at → Refused NoEnd ≡ measured (lines_of t)
+  pub measuring_none : length t ≤ at → Err NoEnd ≡ measured (lines_of t)
   measuring_none h = sym (after_none r) ∙ ap (after r) (sym (lines_end t at h)) ∙ m.rest

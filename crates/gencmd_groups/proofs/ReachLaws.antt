@@ -10,8 +10,7 @@ use borrow.Author.Tests.{ltb-true, leb-true, lt-ltb, le-leb}
 use Rattle.lists.proofs.BoolLaws.{and_left, and_right}
 use Rattle.memory_spans.specs.Span.{paragraph_bytes}
 use Rattle.load_header.specs.Header.{CODE, DATA, EXTRA, STACK, page_paragraphs}
-use Rattle.gencmd_lines.specs.declared.Refusal.TheVariants.{None}
-use Rattle.gencmd_lines.specs.Refusal.{is_none}
+use Rattle.std.specs.Prelude.{is_none, None}
 use Rattle.gencmd_lines.specs.Line.{Line, addresses, count_of, address_of, group_of, is_end, line_refusal}
 use Rattle.gencmd_lines.specs.Lines.{lines_refusal, data_lines}
 use Rattle.gencmd_lines.proofs.RefusalLaws.{first_parts, line_within}

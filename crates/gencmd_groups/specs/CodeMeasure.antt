@@ -1,17 +1,16 @@
 -- What the first walk over the lines tells: the first refusal, or how far the groups reach; and how large these numbers are.
-use Rattle.std.specs.Prelude.{cond, List, ℕ, ◌/◌, ◌≤◌, max}
+use Rattle.std.specs.Prelude.{List, Result, ℕ, ◌/◌, ◌≤◌, max}
 use Rattle.memory_spans.specs.Span.{paragraph_bytes}
 use Rattle.load_header.specs.Header.{CODE, DATA, EXTRA, STACK}
-use Rattle.gencmd_lines.specs.Refusal.{is_none}
+use Rattle.gencmd_lines.specs.declared.Refusal.{Refusal}
+use Rattle.gencmd_lines.specs.Refusal.{unless}
 use Rattle.gencmd_lines.specs.Line.{Line, addresses}
 use Rattle.gencmd_lines.specs.Lines.{lines_refusal, data_lines}
 use Rattle.gencmd_groups.specs.declared.Groups.{Groups}
-use Rattle.gencmd_groups.specs.declared.Measured.{Measured}
-use Rattle.gencmd_groups.specs.declared.Measured.TheVariants.{Refused, Reached}
 use Rattle.gencmd_groups.specs.Groups.{end_of, reaches}
 
-abbrev pub measured : List Line → Measured
-measured ls = cond (is_none (lines_refusal ls)) (Reached (reaches (data_lines ls))) (Refused (lines_refusal ls))
+abbrev pub measured : List Line → Result Groups Refusal
+measured ls = unless (lines_refusal ls) (reaches (data_lines ls))
 
 -- with one more line
 abbrev pub reach_over : Groups → Line → Groups

@@ -41,11 +41,11 @@ pub fn lay_group(part: &mut [u8], text: &[u8], group: usize)
     let mut at = walk::next_colon(text, 0);
     // No for: the walk goes from colon to colon.
     while at < text.len() {
-        let from = at + 1;
-        if line::is_end(&text[from..]) {
+        let line = &text[at + 1..];
+        if line::is_end(line) {
             return;
         }
-        lay_line(part, &text[from..], group);
+        lay_line(part, line, group);
         at = walk::next_line(text, at);
     }
 }

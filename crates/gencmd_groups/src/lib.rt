@@ -7,17 +7,10 @@ pub mod measuring;
 pub mod sizing;
 
 // A number for each group: how far it reaches, or how many paragraphs it has; 0 where it is not there.
-#[derive(Clone, Copy)]
+#[derive(Clone, Copy, PartialEq, Eq, Debug)]
 pub struct Groups {
     pub code: usize,
     pub data: usize,
     pub extra: usize,
     pub stack: usize,
-}
-
-// What measuring tells: why the lines are refused, or how far the groups reach.
-#[derive(Clone, Copy)]
-pub enum Measured {
-    Refused(gencmd_lines::Refusal),
-    Reached(Groups),
 }

@@ -3,7 +3,7 @@ ghost use Rattle.std.specs.Prelude.{◌≡◌, cond, max};
 ghost use Rattle.gencmd_lines.specs.Lines.{lines_of};
 ghost use Rattle.gencmd_groups.specs.CodeMeasure.{reach_over, measured};
 
-use crate::{Groups, Measured};
+use crate::Groups;
 use gencmd_lines::{Refusal, line, walk};
 use load_header::{CODE, DATA, EXTRA, STACK};
 
@@ -31,7 +31,7 @@ fn reach_over(reach: Groups, line: &[u8]) -> Groups
 }
 
 // Why the lines of a text are refused, or how far the groups of those before the end line reach.
-pub fn measure(text: &[u8]) -> Measured
+pub fn measure(text: &[u8]) -> Result<Groups, Refusal>
     ensures { result ≡ measured (lines_of text.now) }
 {
     let mut reach = Groups {
@@ -43,16 +43,13 @@ pub fn measure(text: &[u8]) -> Measured
     let mut at = walk::next_colon(text, 0);
     // No for: the walk goes from colon to colon.
     while at < text.len() {
-        let from = at + 1;
-        let why = line::line_why(&text[from..]);
-        if !gencmd_lines::is_none(why) {
-            return Measured::Refused(why);
+        let line = &text[at + 1..];
+        line::line_why(line)?;
+        if line::is_end(line) {
+            return Ok(reach);
         }
-        if line::is_end(&text[from..]) {
-            return Measured::Reached(reach);
-        }
-        reach = reach_over(reach, &text[from..]);
+        reach = reach_over(reach, line);
         at = walk::next_line(text, at);
     }
-    Measured::Refused(Refusal::NoEnd)
+    Err(Refusal::NoEnd)
 }

@@ -1,11 +1,11 @@
 -- One line, from behind its colon on: "ll aaaa tt d .. cc" (000, table 2), each byte two digits. What stands behind the
 -- checksum is not the line's.
-use Rattle.std.specs.Prelude.{ℕ, zero, suc, ◌+◌, ◌*◌, ◌%◌, Bool, cond, not, ◌&&◌, List, length, ◌==◌, nat_le, nat_lt}
+use Rattle.std.specs.Prelude.{ℕ, zero, suc, ◌+◌, ◌*◌, ◌%◌, Bool, cond, not, Option, None, ◌&&◌, List, length, ◌==◌, nat_le, nat_lt}
 use Rattle.lists.specs.Bytes.{byte}
 use Rattle.lists.specs.Bounded.{every}
 use Rattle.load_header.specs.Header.{CODE, DATA, EXTRA, STACK}
 use Rattle.gencmd_lines.specs.declared.Refusal.{Refusal}
-use Rattle.gencmd_lines.specs.declared.Refusal.TheVariants.{None, Digits, Sum, OtherType, Beyond}
+use Rattle.gencmd_lines.specs.declared.Refusal.TheVariants.{Digits, Sum, OtherType, Beyond}
 use Rattle.gencmd_lines.specs.Refusal.{first, refusing}
 use Rattle.gencmd_lines.specs.Digits.{is_digit, line_byte}
 
@@ -72,12 +72,12 @@ abbrev pub is_end : Line → Bool
 is_end l = type_of l == 0x01
 
 -- why a line is refused: 70, 71, and, of a line that is not the end, 72, 73
-unfoldable pub data_refusal : Line → Refusal
+unfoldable pub data_refusal : Line → Option Refusal
 data_refusal l =
     first (refusing OtherType (group_of l == 0))
     (refusing Beyond (nat_lt addresses (address_of l + count_of l)))
 
-unfoldable pub line_refusal : Line → Refusal
+unfoldable pub line_refusal : Line → Option Refusal
 line_refusal l =
     first (refusing Digits (not (is_spelled l)))
     (first (refusing Sum (not (sum_of l == 0)))

@@ -1,8 +1,8 @@
 -- The lines of a text: "a line runs from a colon through its checksum, and text between lines is ignored".
-use Rattle.std.specs.Prelude.{ℕ, zero, suc, cond, List, [], ◌∷◌, ◌==◌}
+use Rattle.std.specs.Prelude.{ℕ, zero, suc, cond, Option, Some, None, List, [], ◌∷◌, ◌==◌}
 use Prim.Native.Char.{code}
 use Rattle.gencmd_lines.specs.declared.Refusal.{Refusal}
-use Rattle.gencmd_lines.specs.declared.Refusal.TheVariants.{None, NoEnd}
+use Rattle.gencmd_lines.specs.declared.Refusal.TheVariants.{NoEnd}
 use Rattle.gencmd_lines.specs.Refusal.{first}
 use Rattle.gencmd_lines.specs.Line.{Line, digits_in, is_end, line_refusal}
 
@@ -22,8 +22,8 @@ abbrev pub lines_of : List ℕ → List Line
 lines_of text = lines_from 0 text
 
 -- "first line first .. then 74 no 01 line"; nothing behind the end line is read
-unfoldable pub lines_refusal : List Line → Refusal
-lines_refusal [] = NoEnd
+unfoldable pub lines_refusal : List Line → Option Refusal
+lines_refusal [] = Some NoEnd
 lines_refusal (l ∷ ls) =
     let later = lines_refusal ls in
     first (line_refusal l) (cond (is_end l) None later)

@@ -1,10 +1,10 @@
--- "Refusals, first line first: 70 .. 76": each case of the enum with the paper's number.
-use Rattle.std.specs.Prelude.{ℕ, Bool, cond, ◌==◌}
+-- "Refusals, first line first: 70 .. 76": each case of the enum with the paper's number. Why something is refused is an `Option`: `None`
+-- where it is not.
+use Rattle.std.specs.Prelude.{ℕ, Bool, cond, is_none, Option, Some, None, Result, Ok, Err}
 use Rattle.gencmd_lines.specs.declared.Refusal.{Refusal}
-use Rattle.gencmd_lines.specs.declared.Refusal.TheVariants.{None, Digits, Sum, OtherType, Beyond, NoEnd, NoCode, Room}
+use Rattle.gencmd_lines.specs.declared.Refusal.TheVariants.{Digits, Sum, OtherType, Beyond, NoEnd, NoCode, Room}
 
 abbrev pub refusal_number : Refusal → ℕ
-refusal_number None = 0
 -- "not 0 to 9 or A to F, or short"
 refusal_number Digits = 70
 -- "sum"
@@ -20,12 +20,14 @@ refusal_number NoCode = 75
 -- "output buffer too short"
 refusal_number Room = 76
 
-abbrev pub is_none : Refusal → Bool
-is_none why = refusal_number why == 0
-
 -- the first of two refusals
-abbrev pub first : Refusal → Refusal → Refusal
+abbrev pub first : Option Refusal → Option Refusal → Option Refusal
 first a b = cond (is_none a) b a
 
-abbrev pub refusing : Refusal → Bool → Refusal
-refusing why met = cond met why None
+abbrev pub refusing : Refusal → Bool → Option Refusal
+refusing why met = cond met (Some why) None
+
+-- the refusal, or else a value
+abbrev pub unless : {A : Type 0} → Option Refusal → A → Result A Refusal
+unless None a = Ok a
+unless (Some why) a = Err why

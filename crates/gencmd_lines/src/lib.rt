@@ -3,16 +3,15 @@
 #![tactic(auto)]
 
 ghost use Rattle.std.specs.Prelude.{◌≡◌};
-ghost use Rattle.gencmd_lines.specs.Refusal.{refusal_number, is_none};
+ghost use Rattle.gencmd_lines.specs.Refusal.{refusal_number};
 
 mod digits;
 pub mod line;
 pub mod walk;
 
-// Why a text is refused, in the order of the tests; None is no refusal.
-#[derive(Clone, Copy)]
+// Why a text is refused, in the order of the tests.
+#[derive(Clone, Copy, PartialEq, Eq, Debug)]
 pub enum Refusal {
-    None,
     Digits,
     Sum,
     OtherType,
@@ -27,7 +26,6 @@ pub fn number_of(why: Refusal) -> u8
     ensures { result ≡ refusal_number why }
 {
     match why {
-        Refusal::None => 0,
         Refusal::Digits => 70,
         Refusal::Sum => 71,
         Refusal::OtherType => 72,
@@ -36,11 +34,4 @@ pub fn number_of(why: Refusal) -> u8
         Refusal::NoCode => 75,
         Refusal::Room => 76,
     }
-}
-
-// Is it no refusal?
-pub fn is_none(why: Refusal) -> bool
-    ensures { result ≡ is_none why }
-{
-    number_of(why) == 0
 }

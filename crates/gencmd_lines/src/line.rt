@@ -1,6 +1,7 @@
 // One line: its fields, its sum, and why it is refused.
 ghost use Rattle.std.specs.Prelude.{◌≡◌, ◌*◌, ◌<◌, ◌≤◌};
 ghost use Rattle.gencmd_lines.specs.Line.{addresses, data_most, count_of, address_of, data_of, digits_in, is_spelled, sum_of, group_of_type, group_of, is_end, data_refusal, line_refusal};
+ghost use Rattle.gencmd_lines.specs.Refusal.{unless};
 ghost use Rattle.gencmd_lines.specs.CodeWalk.{most_bytes};
 
 use crate::Refusal;
@@ -110,30 +111,30 @@ pub fn is_end(line: &[u8]) -> bool
 }
 
 // Why a line that is not the end line is refused for what it says.
-fn data_why(line: &[u8]) -> Refusal
-    ensures { result ≡ data_refusal line.now }
+fn data_why(line: &[u8]) -> Result<(), Refusal>
+    ensures { result ≡ unless (data_refusal line.now) tt }
 {
     if group_of(line) == 0 {
-        return Refusal::OtherType;
+        return Err(Refusal::OtherType);
     }
     if ADDRESSES < address_of(line) + count_of(line) {
-        return Refusal::Beyond;
+        return Err(Refusal::Beyond);
     }
-    Refusal::None
+    Ok(())
 }
 
 // Why the line is refused.
-pub fn line_why(line: &[u8]) -> Refusal
-    ensures { result ≡ line_refusal line.now }
+pub fn line_why(line: &[u8]) -> Result<(), Refusal>
+    ensures { result ≡ unless (line_refusal line.now) tt }
 {
     if !is_spelled(line) {
-        return Refusal::Digits;
+        return Err(Refusal::Digits);
     }
     if sum_of(line) != 0 {
-        return Refusal::Sum;
+        return Err(Refusal::Sum);
     }
     if is_end(line) {
-        return Refusal::None;
+        return Ok(());
     }
     data_why(line)
 }

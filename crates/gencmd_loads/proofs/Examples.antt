@@ -40,7 +40,7 @@ use Rattle.loading.specs.declared.LoadAnswer.TheVariants.{Loaded}
 use Rattle.loading.specs.Page.{region_of, shown_of, last_of, field_of, field, base_page, page_start}
 use Rattle.loading.specs.Laid.{group_laid, laid, with_page}
 use Rattle.loading.specs.Load.{after, loaded, placed, load}
-use Rattle.gencmd_lines.specs.Refusal.{is_none}
+use Rattle.std.specs.Prelude.{is_none}
 use Rattle.gencmd_lines.specs.Digits.{digit_of, line_byte}
 use Rattle.gencmd_lines.specs.Line.{is_spelled, sum_from, sum_of, group_of_type, data_refusal, line_refusal}
 use Rattle.gencmd_lines.specs.Lines.{lines_in, lines_from, lines_refusal, data_lines}

@@ -9,7 +9,7 @@ use lib.Dec.{eqb}
 use lib.ListN.{length, get_or}
 use Rattle.memory_spans.specs.Span.{paragraph_bytes}
 use Rattle.load_header.specs.Header.{CODE, DATA, EXTRA, STACK}
-use Rattle.gencmd_lines.specs.Refusal.{is_none}
+use Rattle.std.specs.Prelude.{is_none}
 use Rattle.gencmd_lines.specs.Line.{Line}
 use Rattle.gencmd_lines.specs.Lines.{lines_refusal, data_lines}
 use Rattle.gencmd_lines.proofs.RefusalLaws.{OfEach}

@@ -1,6 +1,6 @@
 -- The theorem: the file that gencmd writes loads.
 use mathlib.Core.Path.{◌≡◌, refl, sym, ap, ◌∙◌}
-use mathlib.Core.Bool.{Bool, true, false, false≢true}
+use mathlib.Core.Bool.{true, false}
 use mathlib.Core.List.{List, ◌++◌, append_assoc}
 use Prim.Native.Nat.{ℕ, ◌+◌, ◌*◌, ◌-◌, ◌≤◌, ◌<◌}
 use native.Mathlib.Omega.{arith}
@@ -24,9 +24,10 @@ use Rattle.load_grants.proofs.GrantsLaws.{Fits, grants_fit}
 use Rattle.loading.specs.Load.{grants_of, image_short, loaded, placed, load}
 use Rattle.loading.proofs.LoadLaws.{good_facts, page_below}
 use Rattle.gencmd_lines.specs.declared.Refusal.TheVariants.{NoCode}
-use Rattle.gencmd_lines.specs.Refusal.{is_none, refusing}
+use Rattle.std.specs.Prelude.{is_none}
+use Rattle.gencmd_lines.specs.Refusal.{refusing}
 use Rattle.gencmd_lines.specs.Lines.{lines_of, lines_in, lines_refusal}
-use Rattle.gencmd_lines.proofs.RefusalLaws.{first_parts}
+use Rattle.gencmd_lines.proofs.RefusalLaws.{first_parts, unmet}
 use Rattle.gencmd_groups.specs.Groups.{reach_of, reaches}
 use Rattle.gencmd_groups.specs.CodeMeasure.{SizeWithin}
 use Rattle.gencmd_groups.proofs.ReachLaws.{reaches_within, sizes_within}
@@ -52,17 +53,13 @@ unfolding refusal_of
 taken text room e =
     let a = first_parts (lines_refusal (lines_of text)) _ e in
     let b = first_parts (refusing NoCode (eqb (reach_of (lines_in text) CODE) 0)) _ a.1 in
-    let c = eqb-false (reach_of (lines_in text) CODE) 0 (unmet (eqb (reach_of (lines_in text) CODE) 0) b.0) in
+    let c = eqb-false (reach_of (lines_in text) CODE) 0 (unmet NoCode (eqb (reach_of (lines_in text) CODE) 0) b.0) in
     record {
       lines = a.0;
       within = sizes_within (reaches (lines_in text)) (reaches_within (lines_of text) a.0);
       pages = paged (reaches (lines_in text)) (some (reach_of (lines_in text) CODE) c);
     }
   where
-    unmet : (met : Bool) → is_none (refusing NoCode met) ≡ true → met ≡ false
-    unmet true e = absurd (false≢true e)
-    unmet false e = refl
-
     some : (n : ℕ) → (n ≡ 0 → ⊥) → 0 < n
     some n c = omega arith
 

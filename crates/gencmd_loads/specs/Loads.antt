@@ -2,7 +2,7 @@
 -- For every text that gencmd does not refuse, wherever its file stands on a volume: load answers 0, each group is granted just its
 -- paragraphs, every byte that a line gives lies in them, and the memory has at every offset the byte that the last line gave, or 0;
 -- but for the base page's offsets 0 to 2FH, which are load's own.
-use Rattle.std.specs.Prelude.{◌≡◌, true, cond, List, [], ◌∷◌, ◌++◌, ℕ, ◌+◌, ◌*◌, ◌≤◌, ◌<◌, eqb, length, get_or}
+use Rattle.std.specs.Prelude.{◌≡◌, true, is_none, cond, List, [], ◌∷◌, ◌++◌, ℕ, ◌+◌, ◌*◌, ◌≤◌, ◌<◌, eqb, length, get_or}
 use Rattle.lists.specs.Bytes.{byte}
 use Rattle.call_answers.specs.Refusal as calls
 use Rattle.filecalls.specs.declared.Drive.{Drive}
@@ -14,7 +14,6 @@ use Rattle.load_header.specs.Header.{CODE, DATA, EXTRA, STACK, length_at, base_a
 use Rattle.load_records.specs.Records.{record_of, image, read_why}
 use Rattle.loading.specs.Page.{page_bytes}
 use Rattle.loading.specs.Load.{After, number_of, grants_of, load}
-use Rattle.gencmd_lines.specs.Refusal.{is_none}
 use Rattle.gencmd_lines.specs.Line.{Line}
 use Rattle.gencmd_lines.specs.Lines.{lines_in}
 use Rattle.gencmd_groups.specs.declared.Groups.{Groups}

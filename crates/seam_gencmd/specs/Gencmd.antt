@@ -1,13 +1,13 @@
 -- A hex text made a CMD file, as an exported call does it: "low 16: 0 or 70 to 76; high 32: the length of the CMD file".
-use Rattle.std.specs.Prelude.{List, ℕ, ◌+◌, ◌*◌}
-use Rattle.gencmd_file.specs.declared.Answer.{Answer}
+use Rattle.std.specs.Prelude.{Result, List, ℕ, ◌+◌, ◌*◌}
+use Rattle.gencmd_lines.specs.declared.Refusal.{Refusal}
 use Rattle.gencmd_file.specs.Gencmd.{After, number_of, length_of, gencmd}
 
 -- what the high 32 bits count
 abbrev pub high : ℕ
 high = 4294967296
 
-unfoldable pub packed : Answer → ℕ
+unfoldable pub packed : Result ℕ Refusal → ℕ
 packed a = number_of a + high * length_of a
 
 -- the answer, and every byte of the output buffer

@@ -7,13 +7,6 @@ ghost use Rattle.seam_gencmd.specs.Gencmd.{made, gencmd_at_seam};
 // What the high 32 bits count.
 const HIGH: u64 = 4294967296;
 
-// A byte as a number of 64 bits.
-fn long(b: u8) -> u64
-    ensures { (result ≡ b) × (result < 256) }
-{
-    b as u64
-}
-
 // Writes the CMD file of a hex text into the first bytes of `out`. The refusal's number stands in the low 16 bits, 0 for none,
 // and the length of the file in the high 32.
 pub fn gencmd(text: &[u8], out: &mut [u8]) -> u64
@@ -21,7 +14,7 @@ pub fn gencmd(text: &[u8], out: &mut [u8]) -> u64
         ≡ gencmd_at_seam text.now out.old }
 {
     let answer = gencmd_file::gencmd(text, out);
-    let number = long(gencmd_file::number(answer));
+    let number = u64::from(gencmd_file::number(answer));
     let length = gencmd_file::length_of(answer);
     number + HIGH * (length as u64)
 }

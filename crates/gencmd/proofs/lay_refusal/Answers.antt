@@ -11,7 +11,7 @@ use Rattle.gencmd.proofs.lay_refusal.Goals as goal
 pub returns : goal.returns
 unfolding refused
 returns c =
-    let is = c.wide.ensures.0 ∙ c.number_of.ensures in
+    let is = c.from.ensures ∙ c.number_of.ensures in
     let word = wrote (letters "REFUSED ") c.put_bytes-a.ensures in
     let line = then (then word (wrote_number (refusal_number c.args.why) is c.put_decimal-b.ensures)) (wrote_byte 10 c.put_byte.ensures) in
     whole (refused c.args.why) c.args.line.now _ _ (omega (arith, refused_short c.args.why, c.requires)) line.is

@@ -14,8 +14,8 @@ overflow_mul-result c =
 pub overflow_add-result : goal.overflow_add-result
 overflow_add-result c =
     let a = c.args in
-    omega (arith, c.long-number.ensures.1, c.length_of-length.ensures, ap (λ (x : After). length_of x.answer) c.gencmd-answer.ensures, answer_within a.text.now a.out.now)
+    omega (arith, c.length_of-length.ensures, ap (λ (x : After). length_of x.answer) c.gencmd-answer.ensures, answer_within a.text.now a.out.now)
 
 pub returns : goal.returns
 unfolding packed gencmd_at_seam
-returns c = rw (c.length_of-length.ensures, c.long-number.ensures.0, c.number.ensures) (ap sealed_after c.gencmd-answer.ensures)
+returns c = rw (c.length_of-length.ensures, c.from-number.ensures, c.number.ensures) (ap sealed_after c.gencmd-answer.ensures)
