@@ -1,29 +1,38 @@
 -- Laws of bytes laid one by one and part after part.
 use mathlib.Core.Path.{◌≡◌, refl, sym, ap, ◌∙◌}
 use mathlib.Core.Bool.{Bool, true, false, cond}
-use mathlib.Core.List.{List, [], ◌∷◌, ◌++◌}
+use mathlib.Core.List.{List, [], ◌∷◌, ◌++◌, append-nil}
 use mir.Val.{bool_byte}
-use Prim.Native.Nat.{ℕ, ◌+◌, ◌/◌, ◌%◌, ◌≤◌}
+use Prim.Native.Nat.{ℕ, ◌+◌, ◌-◌, ◌/◌, ◌%◌, ◌≤◌}
 use native.Mathlib.Omega.{arith}
 use lib.ListN.{length, take, drop, set, take-append-drop}
 use lib.Seq.{length-take-le, take-append-add, take_at, take_all}
-use Rattle.lists.specs.Bytes.{part, put}
+use Rattle.std.specs.Int.{w64, to_le_bytes}
+use Rattle.lists.specs.Bytes.{byte, part, put}
 use Rattle.lists.proofs.PartLaws.{length_put}
 use Rattle.disk_geometry.specs.declared.Geometry.{Geometry}
 use Rattle.call_search.specs.declared.SearchKind.{SearchKind}
 use Rattle.call_search.specs.declared.SearchKind.TheVariants.{Nothing, Pattern, Everything}
-use Rattle.numbers.specs.Numbers.{Bytes, bytes_of, number, bytes_from}
+use Rattle.numbers.specs.Numbers.{bytes_of, bytes_from}
 use Rattle.drive_bytes.specs.Layout.{head_bytes, kept_bytes, search_bytes, placing_bytes}
-use Rattle.numbers.proofs.NumberLaws.{bytes_number, part_bytes, bytes_from_lem}
+use Rattle.numbers.proofs.NumberLaws.{part_bytes, bytes_from_lem}
 
--- four stores, four bytes and a word fill sixteen
-pub sixteen_stored : (l : List ℕ) → length l ≡ 16 → (a b c d : ℕ) (p : List ℕ) → length p ≡ 12 → Bytes p
-    → put (put (set (set (set (set l 0 a) 1 b) 2 c) 3 d) 4 4 (part p 0 4)) 8 8 (bytes_of 8 (number (part p 4 8)))
-    ≡ a ∷ b ∷ c ∷ d ∷ bytes_from p 0 12
+-- a number's two lowest bytes, as std lays them
+pub two_lowest : (x : ℕ) (l : List ℕ) → l ≡ to_le_bytes w64 x → bytes_of 2 x ≡ byte l 0 ∷ byte l 1 ∷ []
+unfolding bytes_of
+two_lowest x l e = rw e
+
+pub two_taken : (x : ℕ) (l : List ℕ) → l ≡ to_le_bytes w64 x → take 2 l ≡ bytes_of 2 x
+unfolding bytes_of
+two_taken x l e = rw e
+
+-- two stores, two bytes and what is behind them fill sixteen
+pub sixteen_stored : (l : List ℕ) → length l ≡ 16 → (a b c d : ℕ) (p : List ℕ) → length p ≡ 12
+    → (let x = put (set (set l 0 a) 1 b) 2 2 (c ∷ d ∷ []) in put x 4 (length x - 4) p) ≡ a ∷ b ∷ c ∷ d ∷ bytes_from p 0 12
 unfolding bytes_from put
-sixteen_stored l size a b c d p long bytes =
-    rw (part_bytes p 0 4 (omega arith), part_bytes p 4 8 (omega arith), bytes_number p bytes 4 8)
-    (ap (λ (x : List ℕ). put (put (set (set (set (set x 0 a) 1 b) 2 c) 3 d) 4 4 (bytes_from p 0 4)) 8 8 (bytes_from p 4 8)) (sym (bytes_from_lem l 16 size)))
+sixteen_stored l size a b c d p long =
+    ap (λ (y : List ℕ). let x = put (set (set y 0 a) 1 b) 2 2 (c ∷ d ∷ []) in put x 4 (length x - 4) p) (sym (bytes_from_lem l 16 size))
+    ∙ ap (λ (q : List ℕ). a ∷ b ∷ c ∷ d ∷ q) (append-nil p ∙ sym (bytes_from_lem p 12 long))
 
 -- ---- parts laid one after the other: the first k bytes are laid
 record Laid (size : ℕ) (l : List ℕ) (k : ℕ) (bytes : List ℕ) : Type 0 where

@@ -11,58 +11,48 @@ use crate::layout::{
     HELD_AT, LAST_AT, NARROW_WORDS, PATTERN_AT, PLACING_AT, PROTECTED_AT, SEARCH_AT,
     SEARCH_USER_AT, USER_AT,
 };
-use call_search::{PATTERN_BYTES, SearchKind};
+use call_search::SearchKind;
 use disk_geometry::Geometry;
 use disk_held::WORDS;
 use filecalls::{Drive, Front, KeptSearch};
-use numbers::{eight_of, put_eight};
+use numbers::put_eight;
 
 // Where the fields of a search stand in its own bytes.
 const USER: usize = SEARCH_USER_AT - SEARCH_AT;
 
 const LAST: usize = LAST_AT - SEARCH_AT;
 
-const LAST_HIGH: usize = LAST + 1;
-
 const PATTERN: usize = PATTERN_AT - SEARCH_AT;
-
-// The last eight bytes of the pattern fill the second of the search's two words.
-const SECOND: usize = 8;
-
-const SECOND_END: usize = SECOND + 8;
-
-const PATTERN_HEAD: usize = SECOND - PATTERN;
 
 // Lays B, T, D, user and protection into bytes 0 to 7.
 fn put_head(out: &mut [u8], g: Geometry, user: u8, protected: bool)
     requires { length out.old ≡ 8 }
     ensures { out.new ≡ head_bytes g user protected }
 {
-    let bytes = [
-        (g.block_bytes % 256) as u8,
-        (g.block_bytes / 256 % 256) as u8,
-        (g.blocks % 256) as u8,
-        (g.blocks / 256 % 256) as u8,
-        (g.directory_blocks % 256) as u8,
-        (g.directory_blocks / 256 % 256) as u8,
+    let block_bytes = g.block_bytes.to_le_bytes();
+    let blocks = g.blocks.to_le_bytes();
+    let directory_blocks = g.directory_blocks.to_le_bytes();
+    out.copy_from_slice(&[
+        block_bytes[0],
+        block_bytes[1],
+        blocks[0],
+        blocks[1],
+        directory_blocks[0],
+        directory_blocks[1],
         user,
-        protected as u8,
-    ];
-    lists::copy(out, &bytes);
+        u8::from(protected),
+    ]);
 }
 
-// Lays a search that is kept into bytes 8 to 23: what stands in the first word byte by byte, the second word at once.
+// Lays a search that is kept into bytes 8 to 23.
 fn put_kept(out: &mut [u8], kind: u8, user: u8, last: usize, pattern: &[u8])
     requires { (length out.old ≡ 16) × (length pattern.now ≡ pattern_bytes) }
     ensures { out.new ≡ kept_bytes kind user last pattern.now }
 {
     out[0] = kind;
     out[USER] = user;
-    out[LAST] = (last % 256) as u8;
-    out[LAST_HIGH] = (last / 256 % 256) as u8;
-    lists::copy(&mut out[PATTERN..SECOND], &pattern[0..PATTERN_HEAD]);
-    let second = eight_of(&pattern[PATTERN_HEAD..PATTERN_BYTES]);
-    put_eight(&mut out[SECOND..SECOND_END], second);
+    out[LAST..PATTERN].copy_from_slice(&last.to_le_bytes()[..2]);
+    out[PATTERN..].copy_from_slice(pattern);
 }
 
 // Lays the search into bytes 8 to 23: zeros where none is kept.
@@ -70,12 +60,10 @@ fn put_search(out: &mut [u8], q: KeptSearch)
     requires { length out.old ≡ 16 }
     ensures { out.new ≡ search_bytes q.kind q.user q.last q.pattern }
 {
-    let kind = q.kind;
-    let pattern = q.pattern;
-    match kind {
-        SearchKind::Nothing => lists::fill(out, 0),
-        SearchKind::Pattern => put_kept(out, 1, q.user, q.last, &pattern),
-        SearchKind::Everything => put_kept(out, 2, q.user, q.last, &pattern),
+    match q.kind {
+        SearchKind::Nothing => out.fill(0),
+        SearchKind::Pattern => put_kept(out, 1, q.user, q.last, &q.pattern),
+        SearchKind::Everything => put_kept(out, 2, q.user, q.last, &q.pattern),
     }
 }
 
@@ -84,11 +72,9 @@ pub(crate) fn words(out: &mut [u8], held: &[u64; WORDS], n: usize)
     requires { (length out.old ≡ HELD_AT + 8 * n) × (n ≤ held_words) }
     ensures { out.new ≡ take HELD_AT out.old ++ held_bytes held.now 0 n }
 {
-    let mut k = 0;
-    while k < n {
+    for k in 0..n {
         let at = HELD_AT + 8 * k;
         put_eight(&mut out[at..at + 8], held[k]);
-        k += 1;
     }
 }
 
@@ -97,10 +83,9 @@ pub(crate) fn front(out: &mut [u8], f: Front)
     requires { HELD_AT ≤ length out.old }
     ensures { out.new ≡ with_front out.old f }
 {
-    let q = f.search;
     out[USER_AT] = f.user;
-    out[PROTECTED_AT] = f.protected as u8;
-    put_search(&mut out[SEARCH_AT..PLACING_AT], q);
+    out[PROTECTED_AT] = u8::from(f.protected);
+    put_search(&mut out[SEARCH_AT..PLACING_AT], f.search);
 }
 
 // Lays the state into its bytes.
@@ -108,14 +93,14 @@ pub(crate) fn put_drive(out: &mut [u8], d: Drive)
     requires { length out.old ≡ drive_bytes (blocks d.geometry) }
     ensures { out.new ≡ encoded d }
 {
-    let g = d.geometry;
-    let q = d.search;
-    let held = d.held;
-    put_head(&mut out[0..SEARCH_AT], g, d.user, d.protected);
-    put_search(&mut out[SEARCH_AT..PLACING_AT], q);
-    put_eight(&mut out[PLACING_AT..HELD_AT], (g.placing % 256) as u64);
+    put_head(&mut out[..SEARCH_AT], d.geometry, d.user, d.protected);
+    put_search(&mut out[SEARCH_AT..PLACING_AT], d.search);
+    put_eight(
+        &mut out[PLACING_AT..HELD_AT],
+        (d.geometry.placing % 256) as u64,
+    );
     let n = words_in(out.len());
-    words(out, &held, n);
+    words(out, &d.held, n);
 }
 
 // How many held words a drive of so many bytes stores.

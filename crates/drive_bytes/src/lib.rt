@@ -98,9 +98,8 @@ pub fn lay_words(out: &mut [u8], held: &[u64; WORDS])
 pub fn encode(d: Drive, out: &mut [u8])
     ensures { out.new ≡ encoded_in d out.old }
 {
-    let g = d.geometry;
-    if out.len() != length_for(g.blocks) {
-        lists::fill(out, 0);
+    if out.len() != length_for(d.geometry.blocks) {
+        out.fill(0);
         return;
     }
     lay::put_drive(out, d);

@@ -27,7 +27,7 @@ pub(crate) fn is_laid(s: &[u8]) -> bool
     let a = eight_of(&s[SEARCH_AT..SEARCH_HALF]);
     let b = eight_of(&s[SEARCH_HALF..PLACING_AT]);
     let kind = s[SEARCH_AT];
-    let placing = lists::wide(s[PLACING_AT]) as u64;
+    let placing = u64::from(s[PLACING_AT]);
     (s[PROTECTED_AT] <= 1) & (kind <= 2) & (last == placing) & ((kind != 0) | ((a == 0) & (b == 0)))
 }
 
@@ -35,13 +35,11 @@ pub(crate) fn is_laid(s: &[u8]) -> bool
 fn kind_stored(b: u8) -> SearchKind
     ensures { result ≡ kind_stored b }
 {
-    if b == 0 {
-        return SearchKind::Nothing;
+    match b {
+        0 => SearchKind::Nothing,
+        1 => SearchKind::Pattern,
+        _ => SearchKind::Everything,
     }
-    if b == 1 {
-        return SearchKind::Pattern;
-    }
-    SearchKind::Everything
 }
 
 // Bytes 0 to 5 and byte 24: B, T, D and the placing.
@@ -49,14 +47,11 @@ fn geometry_at(s: &[u8]) -> Geometry
     requires { HELD_AT ≤ length s.now }
     ensures { result ≡ (fields s.now).geometry }
 {
-    let block_bytes = two_at(s, BLOCK_BYTES_AT);
-    let blocks = two_at(s, BLOCKS_AT);
-    let directory_blocks = two_at(s, DIRECTORY_BLOCKS_AT);
     Geometry {
-        block_bytes,
-        blocks,
-        directory_blocks,
-        placing: lists::wide(s[PLACING_AT]),
+        block_bytes: two_at(s, BLOCK_BYTES_AT),
+        blocks: two_at(s, BLOCKS_AT),
+        directory_blocks: two_at(s, DIRECTORY_BLOCKS_AT),
+        placing: usize::from(s[PLACING_AT]),
     }
 }
 
@@ -65,14 +60,12 @@ fn search_at(s: &[u8]) -> KeptSearch
     requires { HELD_AT ≤ length s.now }
     ensures { result ≡ (fields s.now).search }
 {
-    let kind = kind_stored(s[SEARCH_AT]);
-    let last = two_at(s, LAST_AT);
     let mut pattern = [0u8; PATTERN_BYTES];
-    lists::copy(&mut pattern, &s[PATTERN_AT..PLACING_AT]);
+    pattern.copy_from_slice(&s[PATTERN_AT..PLACING_AT]);
     KeptSearch {
-        kind,
+        kind: kind_stored(s[SEARCH_AT]),
         user: s[SEARCH_USER_AT],
-        last,
+        last: two_at(s, LAST_AT),
         pattern,
     }
 }
@@ -82,11 +75,9 @@ pub(crate) fn words(s: &[u8], held: &mut [u64; WORDS], n: usize)
     requires { (HELD_AT + 8 * n ≤ length s.now) × ((n ≤ held_words) × (held.old ≡ none_held)) }
     ensures { held.new ≡ held_at s.now n }
 {
-    let mut k = 0;
-    while k < n {
+    for k in 0..n {
         let at = HELD_AT + 8 * k;
         held[k] = eight_of(&s[at..at + 8]);
-        k += 1;
     }
 }
 
@@ -95,12 +86,10 @@ pub(crate) fn front(s: &[u8]) -> Front
     requires { HELD_AT ≤ length s.now }
     ensures { result ≡ front_of (fields s.now) }
 {
-    let geometry = geometry_at(s);
-    let search = search_at(s);
     Front {
-        geometry,
+        geometry: geometry_at(s),
         user: s[USER_AT],
         protected: s[PROTECTED_AT] == 1,
-        search,
+        search: search_at(s),
     }
 }

@@ -25,7 +25,7 @@ fn lay_record(g: Geometry, second: &mut [u8], b: usize, n: usize, sector: &[u8])
     ensures { second.new ≡ put_record g second.old b n sector.now }
 {
     let at = g.record_start(b, n);
-    lists::copy(&mut second[at..at + Geometry::RECORD_BYTES], sector);
+    second[at..at + Geometry::RECORD_BYTES].copy_from_slice(sector);
 }
 
 // Lays the entry of slot k.
@@ -35,7 +35,7 @@ fn lay_slot(g: Geometry, second: &mut [u8], k: usize, e: &[u8])
     ensures { second.new ≡ put_slot g second.old k e.now }
 {
     let at = g.slot_start(k);
-    lists::copy(&mut second[at..at + Geometry::ENTRY_BYTES], e);
+    second[at..at + Geometry::ENTRY_BYTES].copy_from_slice(e);
 }
 
 // Copies block b of the first disk to block c of the second.
@@ -44,12 +44,9 @@ fn copy_block(g: Geometry, first: &[u8], b: usize, second: &mut [u8], c: usize)
     requires b_bound { (b < blocks g) × (c < blocks g) }
     ensures { second.new ≡ put_block g second.old c (record_at g first.now b) }
 {
-    let n = g.records();
-    let mut k = 0;
-    while k < n {
+    for k in 0..g.records() {
         let at = g.record_start(b, k);
         lay_record(g, second, c, k, &first[at..at + Geometry::RECORD_BYTES]);
-        k += 1;
     }
 }
 
@@ -60,11 +57,8 @@ fn blank_block(g: Geometry, second: &mut [u8], b: usize)
     ensures { second.new ≡ blank_block g second.old b }
 {
     let blank = [fields::EMPTY; Geometry::RECORD_BYTES];
-    let n = g.records();
-    let mut k = 0;
-    while k < n {
+    for k in 0..g.records() {
         lay_record(g, second, b, k, &blank);
-        k += 1;
     }
 }
 
@@ -112,12 +106,9 @@ fn move_blocks(
     ensures second_after { second.new ≡ move_blocks g first.now e.now b second.old }
     ensures after { new.new ≡ fold (number_place g b e.now) new.old 0 (places g) }
 {
-    let n = g.places();
     let mut next = b;
-    let mut p = 0;
-    while p < n {
+    for p in 0..g.places() {
         next = move_place(g, first, e, p, second, new, next);
-        p += 1;
     }
     next
 }
@@ -133,7 +124,7 @@ fn lay_entry(g: Geometry, first: &[u8], i: usize, second: &mut [u8], k: usize, b
 {
     let at = g.slot_start(i);
     let mut new = [0u8; Geometry::ENTRY_BYTES];
-    lists::copy(&mut new[0..fields::MAP], &first[at..at + fields::MAP]);
+    new[..fields::MAP].copy_from_slice(&first[at..at + fields::MAP]);
     let next = move_blocks(
         g,
         first,
@@ -155,11 +146,8 @@ fn lay_entries(g: Geometry, first: &[u8], kept: &[usize], m: usize, second: &mut
         ≡ fold (lay_entry g first.now (order g first.now)) second.old 0 m }
 {
     let mut next = g.directory_blocks;
-    let mut k = 0;
-    while k < m {
-        let key = kept[k];
-        next = lay_entry(g, first, key % MOST_SLOTS, second, k, next);
-        k += 1;
+    for k in 0..m {
+        next = lay_entry(g, first, kept[k] % MOST_SLOTS, second, k, next);
     }
     next
 }
@@ -171,11 +159,8 @@ fn blank_slots(g: Geometry, second: &mut [u8], k: usize)
     ensures { second.new ≡ fold (blank_slot g) second.old k (slots g - k) }
 {
     let blank = [fields::EMPTY; Geometry::ENTRY_BYTES];
-    let n = g.slots();
-    let mut i = k;
-    while i < n {
+    for i in k..g.slots() {
         lay_slot(g, second, i, &blank);
-        i += 1;
     }
 }
 
@@ -185,11 +170,8 @@ fn blank_blocks(g: Geometry, second: &mut [u8], b: usize)
     requires b_bound { b ≤ blocks g }
     ensures { second.new ≡ fold (blank_block g) second.old b (blocks g - b) }
 {
-    let n = g.blocks;
-    let mut i = b;
-    while i < n {
+    for i in b..g.blocks {
         blank_block(g, second, i);
-        i += 1;
     }
 }
 

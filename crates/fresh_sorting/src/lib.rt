@@ -38,15 +38,13 @@ fn enter(kept: &mut [usize], m: usize, key: usize)
     ensures kept_after { take (m + 1) kept.new ≡ entered (take m kept.old) key }
     ensures kept_len_unchanged { length kept.new ≡ length kept.old }
 {
-    let mut k = m;
-    while 0 < k {
-        let lower = kept[k - 1];
+    for k in (0..m).rev() {
+        let lower = kept[k];
         if lower < key {
-            kept[k] = key;
+            kept[k + 1] = key;
             return;
         }
-        kept[k] = lower;
-        k -= 1;
+        kept[k + 1] = lower;
     }
     kept[0] = key;
 }
@@ -73,12 +71,9 @@ pub fn order_of(g: Geometry, volume: &[u8], kept: &mut [usize]) -> usize
     requires kept_len { length kept.old ≡ most_slots }
     ensures { InOrder g volume.now (slots g) kept.new result }
 {
-    let n = g.slots();
     let mut m = 0;
-    let mut i = 0;
-    while i < n {
+    for i in 0..g.slots() {
         m = enter_slot(g, volume, i, kept, m);
-        i += 1;
     }
     m
 }

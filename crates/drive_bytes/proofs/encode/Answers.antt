@@ -11,7 +11,7 @@ unfolding encoded_in
 returns-then-out-length_for c =
     let a = c.args in
     rw (ne_eqb (length a.out.now) (drive_bytes (blocks a.d.geometry)) (rw c.length_for.ensures at c.if-out-length_for.true))
-    c.fill.ensures
+    (c.fill.ensures.after (λ y h. h))
 
 pub returns : goal.returns
 unfolding encoded_in

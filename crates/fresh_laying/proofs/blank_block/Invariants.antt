@@ -1,17 +1,11 @@
 -- The records passed so far are blank, so what is still to be laid gives the whole.
-use mathlib.Core.Path.{◌≡◌}
 use mathlib.Core.List.{List}
-use Prim.Native.Nat.{ℕ, ◌-◌}
+use Prim.Native.Nat.{ℕ}
 use lib.ListN.{replicate}
-use lib.ListN.{length}
 use Rattle.lists.proofs.FoldLaws.{Folded}
 use Rattle.disk_geometry.specs.Geometry.{records}
 use Rattle.disk_volume.specs.Record.{put_record}
 use Rattle.fresh_laying.proofs.blank_block.Given as goal
 
 abbrev pub invariant-loop-k : goal.invariant-loop-k
-invariant-loop-k l =
-    (length l.second ≡ length l.initial.second) × Folded (λ (x : List ℕ) (i : ℕ). put_record l.g x l.b i (replicate 128 229)) l.initial.second (records l.g) l.second l.k
-
-abbrev pub decreases-loop-k : goal.decreases-loop-k
-decreases-loop-k l = l.n - l.k
+invariant-loop-k l = Folded (λ (x : List ℕ) (i : ℕ). put_record l.g x l.b i (replicate 128 229)) l.initial.second (records l.g) l.second l.k

@@ -1,14 +1,7 @@
 -- The blocks passed so far are blank, so what is still to be laid gives the whole.
-use mathlib.Core.Path.{◌≡◌}
-use Prim.Native.Nat.{◌-◌}
-use lib.ListN.{length}
 use Rattle.fresh_laying.specs.CodeLaying.{blank_block}
 use Rattle.fresh_laying.proofs.FoldFrom.{FoldedFrom}
 use Rattle.fresh_laying.proofs.blank_blocks.Given as goal
 
 abbrev pub invariant-loop-i : goal.invariant-loop-i
-invariant-loop-i l =
-    (length l.second ≡ length l.initial.second) × FoldedFrom (blank_block l.g) l.initial.second l.b l.n l.second l.i
-
-abbrev pub decreases-loop-i : goal.decreases-loop-i
-decreases-loop-i l = l.n - l.i
+invariant-loop-i l = FoldedFrom (blank_block l.g) l.initial.second l.b l.i-end l.second l.i

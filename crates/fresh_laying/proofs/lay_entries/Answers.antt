@@ -23,9 +23,6 @@ lay_entry-next-requires c =
       i_bound = fits;
     }
 
-pub loop-k-smaller : goal.loop-k-smaller
-loop-k-smaller c = omega (arith, c.loop-k-test.true)
-
 pub loop-k-preserved : goal.loop-k-preserved
 loop-k-preserved c =
     let a = c.args in
@@ -33,9 +30,6 @@ loop-k-preserved c =
     let o = c.lay_entry-next in
     laid_next a.g a.first.now c.requires.accepted.0 a.kept.now a.m c.requires.in_order a.second.now l.second l.next l.k l.invariant c.loop-k-test.true
     o.new.second o.result o.auto.second o.ensures.value o.ensures.second_after
-
-pub shape_of-second : goal.shape_of-second
-shape_of-second c = c.loop-k.invariant.size
 
 pub returns : goal.returns
 returns c =

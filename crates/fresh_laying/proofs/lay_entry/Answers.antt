@@ -16,12 +16,12 @@ use Rattle.fresh_laying.proofs.lay_entry.Goals as goal
 
 pub slice_bounds-move_blocks-end-2 : goal.slice_bounds-move_blocks-end-2
 slice_bounds-move_blocks-end-2 c =
-    let long : length (c.copy.new.dst ++ replicate 16 0) ≡ 32 = length-append c.copy.new.dst (replicate 16 0) ∙ omega (arith, c.copy.auto.dst) in
+    let long : length (c.copy_from_slice.new.self ++ replicate 16 0) ≡ 32 = length-append c.copy_from_slice.new.self (replicate 16 0) ∙ omega (arith, c.copy_from_slice.auto.self) in
     sym long
 
 pub move_blocks-next-requires : goal.move_blocks-next-requires
 move_blocks-next-requires c =
-    let long : length (c.copy.new.dst ++ replicate 16 0) ≡ 32 = length-append c.copy.new.dst (replicate 16 0) ∙ omega (arith, c.copy.auto.dst) in
+    let long : length (c.copy_from_slice.new.self ++ replicate 16 0) ≡ 32 = length-append c.copy_from_slice.new.self (replicate 16 0) ∙ omega (arith, c.copy_from_slice.auto.self) in
     let a = c.args in
     let at = c.slot_start-at in
     let e = lent_slot a.g a.first.now a.i at.result at.ensures.0 in
@@ -35,20 +35,17 @@ move_blocks-next-requires c =
 
 pub slice_bounds-lay_slot-end : goal.slice_bounds-lay_slot-end
 slice_bounds-lay_slot-end c =
-    let long : length (c.copy.new.dst ++ replicate 16 0) ≡ 32 = length-append c.copy.new.dst (replicate 16 0) ∙ omega (arith, c.copy.auto.dst) in
+    let long : length (c.copy_from_slice.new.self ++ replicate 16 0) ≡ 32 = length-append c.copy_from_slice.new.self (replicate 16 0) ∙ omega (arith, c.copy_from_slice.auto.self) in
     sym (c.move_blocks-next.auto.new ∙ long)
 
 pub lay_slot-requires : goal.lay_slot-requires
 lay_slot-requires c =
-    let long : length (c.copy.new.dst ++ replicate 16 0) ≡ 32 = length-append c.copy.new.dst (replicate 16 0) ∙ omega (arith, c.copy.auto.dst) in
+    let long : length (c.copy_from_slice.new.self ++ replicate 16 0) ≡ 32 = length-append c.copy_from_slice.new.self (replicate 16 0) ∙ omega (arith, c.copy_from_slice.auto.self) in
     let m = c.move_blocks-next in
     record {
       volume = (c.requires.volume_and.0, m.auto.second ∙ c.requires.volume_and.1.1);
       k_bound = (c.requires.i_bound.1.0, m.auto.new ∙ long);
     }
-
-pub shape_of-second : goal.shape_of-second
-shape_of-second c = c.lay_slot.auto.second ∙ c.move_blocks-next.auto.second
 
 pub returns : goal.returns
 returns c =
@@ -56,7 +53,7 @@ returns c =
     let at = c.slot_start-at in
     let m = c.move_blocks-next in
     let e = lent_slot a.g a.first.now a.i at.result at.ensures.0 in
-    let new = new_entry a.g a.first.now a.b a.i at.result at.ensures.0 e c.copy.ensures in
+    let new = new_entry a.g a.first.now a.b a.i at.result at.ensures.0 e c.copy_from_slice.ensures.after in
     record {
       value = m.ensures.value ∙ ap (λ (x : Entry). a.b + length (blocks_below a.g x (places a.g))) e;
       second_after = c.lay_slot.ensures

@@ -11,4 +11,4 @@ unfolding put_record put
 returns c =
     let at = c.record_start-at in
     let z : at.result + 128 - at.result ≡ 128 = omega arith in
-    rw (c.copy.ensures, z, at.ensures.0)
+    rw (c.copy_from_slice.ensures.after, z, at.ensures.0)

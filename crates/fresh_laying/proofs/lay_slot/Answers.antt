@@ -11,4 +11,4 @@ unfolding put_slot put
 returns c =
     let at = c.slot_start-at in
     let z : at.result + 32 - at.result ≡ 32 = omega arith in
-    rw (c.copy.ensures, z, at.ensures.0)
+    rw (c.copy_from_slice.ensures.after, z, at.ensures.0)

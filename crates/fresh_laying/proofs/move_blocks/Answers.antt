@@ -12,15 +12,12 @@ loop-p-init c = let a = c.args in moved_none a.g a.first.now a.e.now a.b a.secon
 pub move_place-next-requires : goal.move_place-next-requires
 move_place-next-requires c =
     let l = c.loop-p in
-    let p< : l.p < places c.args.g = omega (arith, c.loop-p-test.true, c.places-n.ensures.0) in
+    let p< : l.p < places c.args.g = omega (arith, c.loop-p-test.true, c.places-p-end.ensures.0) in
     record {
       volume_and = (c.requires.volume_and.0, (c.requires.volume_and.1.0, l.invariant.size ∙ c.requires.volume_and.1.1));
       p_bound = (p<, (c.requires.entry.0, l.invariant.long ∙ c.requires.entry.1.0));
       p_bound_2 = λ u. rw l.invariant.number (c.requires.entry.1.1 l.p p< u);
     }
-
-pub loop-p-smaller : goal.loop-p-smaller
-loop-p-smaller c = omega (arith, c.loop-p-test.true, c.places-n.ensures.0)
 
 pub loop-p-preserved : goal.loop-p-preserved
 loop-p-preserved c =
@@ -28,20 +25,14 @@ loop-p-preserved c =
     let l = c.loop-p in
     let o = c.move_place-next in
     moved_next a.g a.first.now a.e.now a.b a.second.now a.new.now l.second l.new l.next l.p l.invariant
-    (omega (arith, c.loop-p-test.true, c.places-n.ensures.0)) o.new.second o.new.new o.result
+    (omega (arith, c.loop-p-test.true, c.places-p-end.ensures.0)) o.new.second o.new.new o.result
     o.auto.second o.auto.new o.ensures.value o.ensures.second_after o.ensures.after
-
-pub shape_of-second : goal.shape_of-second
-shape_of-second c = c.loop-p.invariant.size
-
-pub shape_of-new : goal.shape_of-new
-shape_of-new c = c.loop-p.invariant.long
 
 pub returns : goal.returns
 returns c =
     let a = c.args in
     let l = c.loop-p in
-    let end : places a.g ≤ l.p = omega (arith, c.loop-p-test.false, c.places-n.ensures.0) in
+    let end : places a.g ≤ l.p = omega (arith, c.loop-p-test.false, c.places-p-end.ensures.0) in
     record {
       value = moved_number a.g a.first.now a.e.now a.b a.second.now a.new.now l.second l.new l.next l.p l.invariant end;
       second_after = moved_all a.g a.first.now a.e.now a.b a.second.now a.new.now l.second l.new l.next l.p l.invariant end;

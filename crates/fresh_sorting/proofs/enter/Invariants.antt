@@ -4,6 +4,3 @@ use Rattle.fresh_sorting.proofs.enter.Given as goal
 
 abbrev pub invariant-loop-k : goal.invariant-loop-k
 invariant-loop-k l = Opened l.initial.kept l.m l.key l.kept l.k
-
-abbrev pub decreases-loop-k : goal.decreases-loop-k
-decreases-loop-k l = l.k

@@ -37,11 +37,6 @@ enter-requires c =
       kept_rise a.g a.volume.now c.requires.accepted a.i c.requires.i_bound.0 a.kept.now a.m c.requires.i_bound.1,
     )
 
-pub overflow_add-result : goal.overflow_add-result
-overflow_add-result c =
-    let a = c.args in
-    omega (arith, room_left a.g a.volume.now c.requires.accepted a.i c.requires.i_bound.0 a.kept.now a.m c.requires.i_bound.1, c.requires.i_bound.1.room)
-
 pub returns : goal.returns
 returns c =
     let a = c.args in

@@ -1,10 +1,6 @@
 -- The slots passed so far are in order.
-use Prim.Native.Nat.{◌≤◌, ◌-◌}
 use Rattle.fresh_sorting.specs.CodeKept.{InOrder}
 use Rattle.fresh_sorting.proofs.order_of.Given as goal
 
 abbrev pub invariant-loop-i : goal.invariant-loop-i
-invariant-loop-i l = (l.i ≤ l.n) × InOrder l.g l.volume l.i l.kept l.m
-
-abbrev pub decreases-loop-i : goal.decreases-loop-i
-decreases-loop-i l = l.n - l.i
+invariant-loop-i l = InOrder l.g l.volume l.i l.kept l.m

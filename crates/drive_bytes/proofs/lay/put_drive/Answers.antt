@@ -10,15 +10,6 @@ use Rattle.drive_bytes.proofs.LoadLaws.{at_least, counted}
 use Rattle.drive_bytes.proofs.LayLaws.{three_laid, length_head, length_search, length_placing, placing_word}
 use Rattle.drive_bytes.proofs.lay.put_drive.Goals as goal
 
-pub slice_bounds-put_head-end : goal.slice_bounds-put_head-end
-slice_bounds-put_head-end c = omega (arith, at_least (blocks c.args.d.geometry))
-
-pub slice_bounds-put_search-end : goal.slice_bounds-put_search-end
-slice_bounds-put_search-end c = omega (arith, at_least (blocks c.args.d.geometry), c.requires, c.out-1.given.1)
-
-pub slice_bounds-put_eight-end : goal.slice_bounds-put_eight-end
-slice_bounds-put_eight-end c = omega (arith, at_least (blocks c.args.d.geometry), c.requires, c.out-2-1.given.1, c.out-1.given.1)
-
 pub words-requires : goal.words-requires
 words-requires c =
     let size = c.out-3-1.given.1 ∙ c.out-2-1.given.1 ∙ c.out-1.given.1 ∙ c.requires in

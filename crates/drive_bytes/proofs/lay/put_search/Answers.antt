@@ -4,7 +4,7 @@ use Rattle.drive_bytes.proofs.lay.put_search.Goals as goal
 
 pub returns-in-Nothing : goal.returns-in-Nothing
 unfolding search_bytes
-returns-in-Nothing c = rw (c.in-Nothing.is, c.fill.ensures, c.requires)
+returns-in-Nothing c = rw (c.in-Nothing.is, c.fill.ensures.after (λ y h. h), c.requires)
 
 pub returns-in-Pattern : goal.returns-in-Pattern
 unfolding search_bytes

@@ -4,4 +4,4 @@ use Rattle.drive_bytes.proofs.load.front.Goals as goal
 
 pub returns : goal.returns
 unfolding fields
-returns c = rw (c.geometry_at-geometry.ensures, c.search_at-search.ensures)
+returns c = rw (c.geometry_at.ensures, c.search_at.ensures)

@@ -9,4 +9,4 @@ unfolding fields
 returns c =
     let size = c.requires in
     let s = c.args.s.now in
-    rw (c.two_at-block_bytes.ensures.0, c.two_at-blocks.ensures.0, c.two_at-directory_blocks.ensures.0, c.wide.ensures.0, number_two s 0 (omega (arith, size)), number_two s 2 (omega (arith, size)), number_two s 4 (omega (arith, size)))
+    rw (c.two_at.ensures.0, c.two_at-2.ensures.0, c.two_at-3.ensures.0, c.from.ensures, number_two s 0 (omega (arith, size)), number_two s 2 (omega (arith, size)), number_two s 4 (omega (arith, size)))

@@ -10,4 +10,4 @@ unfolding laid_out part
 returns c =
     let s = c.args.s.now in
     let size = c.requires in
-    rw (← idle_words s size, ← spare_word s size, c.eight_of-last.ensures, c.eight_of-a.ensures, c.eight_of-b.ensures, c.wide-placing.ensures.0)
+    rw (← idle_words s size, ← spare_word s size, c.eight_of-last.ensures, c.eight_of-a.ensures, c.eight_of-b.ensures, c.from-placing.ensures)

@@ -1,16 +1,21 @@
 -- The branches are the definition's.
+use mathlib.Core.Logic.{◌≢◌}
+use native.Mathlib.Omega.{arith}
 use Rattle.drive_bytes.specs.Layout.{kind_stored}
-use borrow.Author.Tests.{eq-eqb, ne_eqb}
+use borrow.Author.Tests.{ne_eqb}
 use Rattle.drive_bytes.proofs.load.kind_stored.Goals as goal
 
-pub returns-then-b-eq0 : goal.returns-then-b-eq0
+pub returns-in-0 : goal.returns-in-0
 unfolding kind_stored
-returns-then-b-eq0 c = rw (eq-eqb _ 0 c.if-b-eq0.true)
+returns-in-0 c = rw c.in-0.is
 
-pub returns-then-b-eq1 : goal.returns-then-b-eq1
+pub returns-in-1 : goal.returns-in-1
 unfolding kind_stored
-returns-then-b-eq1 c = rw (ne_eqb _ 0 c.if-b-eq0.false, eq-eqb _ 1 c.if-b-eq1.true)
+returns-in-1 c = rw c.in-1.is
 
-pub returns : goal.returns
+pub returns-in_default : goal.returns-in_default
 unfolding kind_stored
-returns c = rw (ne_eqb _ 0 c.if-b-eq0.false, ne_eqb _ 1 c.if-b-eq1.false)
+returns-in_default c =
+    let some : c.args.b ≢ 0 = omega arith in
+    let more : c.args.b ≢ 1 = omega arith in
+    rw (ne_eqb _ 0 some, ne_eqb _ 1 more)

@@ -9,4 +9,4 @@ pub returns : goal.returns
 unfolding fields part
 returns c =
     let size = c.requires in
-    rw (c.kind_stored-kind.ensures, c.two_at-last.ensures.0, number_two c.args.s.now 10 (omega (arith, size)), c.copy.ensures)
+    rw (c.kind_stored.ensures, c.two_at.ensures.0, number_two c.args.s.now 10 (omega (arith, size)), c.copy_from_slice.ensures.after)

@@ -6,12 +6,11 @@ use native.Mathlib.Numerals.{add-one}
 use Rattle.lists.specs.Bytes.{part}
 use Rattle.drive_bytes.specs.Layout.{held_at, held_word, words_at}
 use Rattle.drive_bytes.proofs.WordLaws.{read_next}
-use borrow.Author.Rules.{rules}
 use Rattle.drive_bytes.proofs.load.words.Goals as goal
 
 pub loop-k-init : goal.loop-k-init
 unfolding words_at
-loop-k-init c = (search rules, c.requires.1.1)
+loop-k-init c = c.requires.1.1
 
 pub loop-k-preserved : goal.loop-k-preserved
 unfolding part
@@ -19,13 +18,10 @@ loop-k-preserved c =
     let l = c.loop-k in
     let s = c.args.s.now in
     let z : 32 + 8 * l.k + 8 - (32 + 8 * l.k) ≡ 8 = omega arith in
-    let e : c.eight_of.result ≡ held_word s l.k = rw z at c.eight_of.ensures in (
-      search rules,
-      rw (l.invariant.1, e) (read_next s l.k (omega (arith, c.requires.1.0, c.loop-k-test.true)) ∙ ap (held_at s) (sym (add-one l.k))),
-    )
+    let e : c.eight_of.result ≡ held_word s l.k = rw z at c.eight_of.ensures in
+    rw (l.invariant, e) (read_next s l.k (omega (arith, c.requires.1.0)) ∙ ap (held_at s) (sym (add-one l.k)))
 
 pub returns : goal.returns
 returns c =
-    let l = c.loop-k in
-    let e : l.k ≡ c.args.n = omega (arith, l.invariant.0, c.loop-k-test.false) in
-    l.invariant.1 ∙ ap (held_at c.args.s.now) e
+    let e : c.loop-k.k ≡ c.args.n = omega arith in
+    c.loop-k.invariant ∙ ap (held_at c.args.s.now) e
