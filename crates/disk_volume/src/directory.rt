@@ -113,7 +113,8 @@ pub fn find_from(
     find_in(g, &volume[0..end], from, user, name, wanted)
 }
 
-// The lowest slot that has what is wanted, the number of slots where none has.
+// The lowest slot that has what is wanted, the number of slots where none has. That it calls `find_from` with 0 was tried: a search for
+// a group, whose loop then isn't made for what it wants, takes four times the instructions.
 pub fn find(g: Geometry, volume: &[u8], user: u8, name: &[u8], wanted: Wanted) -> usize
     requires { VolumeAnd g volume.now (IsName name.now) }
     ensures { (result ≡ find_slot g volume.now user (strip name.now) wanted) × (result ≤ slots g) }
