@@ -1,17 +1,20 @@
 -- What a fault tells is true.
+use Rattle.std.specs.Prelude.{Option, Some, None, is_none}
 use mathlib.Core.Path.{◌≡◌, refl, sym, ap, ◌∙◌}
+use mathlib.Core.Bool.{false, true≢false}
 use mathlib.Core.List.{List}
 use Prim.Native.Nat.{ℕ}
 use native.Mathlib.Omega.{arith}
 use lib.ListN.{length, replicate}
-use borrow.Author.Tests.{eq-eqb, eqb-false}
+use borrow.Author.Tests.{eq-eqb}
 use Rattle.lists.specs.Bytes.{byte}
 use Rattle.numbers.specs.Numbers.{bytes_of, two}
 use Rattle.disk_geometry.specs.declared.Geometry.{Geometry}
 use Rattle.disk_geometry.proofs.GeometryLaws.{bounds}
+use Rattle.disk_faults.specs.declared.Fault.{Fault}
 use Rattle.disk_faults.specs.Faults.{first_broken, rule_number}
 use Rattle.disk_faults.proofs.Agreement.{agree}
-use Rattle.disk_faults.proofs.FirstLaws.{is_first}
+use Rattle.disk_faults.proofs.FirstLaws.{numbered, is_first}
 use Rattle.call_answers.specs.declared.Answer.{Answer}
 use Rattle.call_answers.specs.declared.Answer.TheVariants.{Done, Ready, BadSlot, Refused, Several}
 use Rattle.filecalls.specs.LogIn.{log_in}
@@ -24,17 +27,25 @@ left : (g : Geometry) (v lent : List ℕ) → length lent ≡ fault_length → (
 unfolding fault_at_seam
 left g v lent h = rw (eq-eqb (length lent) fault_length h)
 
+there : (o : Option Fault) → is_none o ≡ false → (f : Fault) × (o ≡ Some f)
+there None e = absurd (true≢false e)
+there (Some f) e = (f, refl)
+
 module _ (g : Geometry) (v : List ℕ) (s : ℕ) (known : Bad g v s) where
-  the_rule : byte (fault_bytes g v s) 0 ≡ rule_number (first_broken g v s).rule
+  -- a bad slot breaks a rule
+  found : (f : Fault) × (first_broken g v s ≡ Some f)
+  found = there (first_broken g v s) (agree g v s known.inside ∙ known.bad)
+
+  the_rule : byte (fault_bytes g v s) 0 ≡ rule_number found.0.rule
   unfolding fault_bytes bytes_of
-  the_rule = refl
+  the_rule = rw found.1
 
   the_slot : two (fault_bytes g v s) 4 ≡ s
   unfolding fault_bytes bytes_of
-  the_slot = omega (arith, known.inside, (bounds g known.volume.0).slots_high)
+  the_slot = rw found.1 (omega (arith, known.inside, (bounds g known.volume.0).slots_high))
 
-  is_broken : rule_number (first_broken g v s).rule ≡ 0 → ⊥
-  is_broken = eqb-false (rule_number (first_broken g v s).rule) 0 (agree g v s known.inside ∙ known.bad)
+  is_broken : rule_number found.0.rule ≡ 0 → ⊥
+  is_broken e = let k = numbered found.0.rule in absurd (omega arith)
 
   names_slot : NamesSlot (fault_bytes g v s) s
   names_slot = (λ z. is_broken (sym the_rule ∙ z), the_slot)
@@ -43,10 +54,10 @@ module _ (g : Geometry) (v : List ℕ) (s : ℕ) (known : Bad g v s) where
   names_rule =
       let first = is_first g v s in
       record {
-        rule = (first_broken g v s).rule;
+        rule = found.0.rule;
         number = the_rule;
-        broken = first.broken (agree g v s known.inside ∙ known.bad);
-        earlier = first.earlier;
+        broken = first.broken found.0 found.1;
+        earlier = first.earlier found.0 found.1;
       }
 
 -- zeros name no slot

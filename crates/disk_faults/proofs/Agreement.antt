@@ -1,9 +1,11 @@
 -- The rules and log-in agree: a slot breaks none exactly where it is good.
-use mathlib.Core.Path.{◌≡◌, refl}
+use Rattle.std.specs.Prelude.{Option, Some, None, is_none, option_map}
+use Rattle.std.specs.Option.{option_or}
+use mathlib.Core.Path.{◌≡◌, refl, ap, ◌∙◌}
 use mathlib.Core.Bool.{Bool, true, false, not, cond, ◌&&◌, ◌||◌}
 use mathlib.Core.List.{List}
 use Prim.Native.Nat.{ℕ, zero, suc, ◌<◌}
-use lib.Dec.{leb, eqb}
+use lib.Dec.{leb, ltb, eqb}
 use Rattle.lists.specs.Bounded.{any_from, every_from, every}
 use Rattle.lists.specs.Bytes.{byte}
 use Rattle.disk_geometry.specs.declared.Geometry.{Geometry}
@@ -16,9 +18,9 @@ use Rattle.disk_rules.specs.GoodSlot.{good_fields, good_top_bits, in_places, nam
 use Rattle.disk_faults.specs.declared.MapRule.{MapRule}
 use Rattle.disk_faults.specs.declared.MapRule.TheVariants.{Outside, Twice, Lower}
 use Rattle.disk_faults.specs.declared.Rule.{Rule}
-use Rattle.disk_faults.specs.declared.Rule.TheVariants.{None, UserByte, NameByte, TopBit, ExByte, S1Byte, S2Byte, RcByte, Map, Twin}
+use Rattle.disk_faults.specs.declared.Rule.TheVariants.{UserByte, NameByte, TopBit, ExByte, S1Byte, S2Byte, RcByte}
 use Rattle.disk_faults.specs.declared.Fault.{Fault}
-use Rattle.disk_faults.specs.Faults.{breaks_at, place_of, twin_slot, other_slot, fault, alone, is_kept, Agree}
+use Rattle.disk_faults.specs.Faults.{breaks_at, twin_slot, alone, Agree}
 use Rattle.disk_faults.specs.CodeLadder.{entry_rule, map_fault, twin_fault, found}
 use Rattle.disk_faults.proofs.LadderLaws.{broken, broken_any, twin_seen, ladder}
 
@@ -51,33 +53,26 @@ module _ (g : Geometry) (v : List ℕ) (i : ℕ) where
       rw (broken_any g v i Outside, broken_any g v i Twice, broken_any g v i Lower)
       (all_places (λ p. eqb (b p) 0) (λ p. inside g (b p)) (λ p. in_places g (slot_at g v i) p (b p)) (λ p. named_below g v i (b p)) 0 (places g))
 
--- ---- a ladder of rules: none is broken where the first is not, and none of the others
-kept_map : (g : Geometry) (v : List ℕ) (i : ℕ) (rule : MapRule) (f : Fault) → is_kept (map_fault g v i rule f).rule ≡ (not (broken g v i rule) && is_kept f.rule)
+-- ---- of two options none is there where the first is not, and not the other
+none_or : (a b : Option Fault) → is_none (option_or a b) ≡ (is_none a && is_none b)
+none_or None b = refl
+none_or (Some f) b = refl
+
+none_if : (t : Bool) (f : Fault) → is_none (cond t (Some f) None) ≡ not t
+none_if true f = refl
+none_if false f = refl
+
+kept_map : (g : Geometry) (v : List ℕ) (i : ℕ) (rule : MapRule) → is_none (map_fault g v i rule) ≡ not (broken g v i rule)
 unfolding map_fault
-kept_map g v i rule f = go rule (broken g v i rule)
-  where
-    b : ℕ
-    b = block_in g (slot_at g v i) (place_of g v i rule)
+kept_map g v i rule = none_if (broken g v i rule) _
 
-    go : (r : MapRule) (t : Bool) → is_kept (cond t (fault (Map r) (place_of g v i rule) b (other_slot g v i rule b)) f).rule ≡ (not t && is_kept f.rule)
-    go Outside true = refl
-    go Twice true = refl
-    go Lower true = refl
-    go Outside false = refl
-    go Twice false = refl
-    go Lower false = refl
-
-kept_twin : (g : Geometry) (v : List ℕ) (i : ℕ) → i < slots g → is_kept (twin_fault g v i).rule ≡ not (seen_below g v i)
+kept_twin : (g : Geometry) (v : List ℕ) (i : ℕ) → i < slots g → is_none (twin_fault g v i) ≡ not (seen_below g v i)
 unfolding twin_fault
-kept_twin g v i h = rw (twin_seen g v i h) (go (seen_below g v i))
-  where
-    go : (t : Bool) → is_kept (cond t (fault Twin 0 0 (twin_slot g v i)) (alone None)).rule ≡ not t
-    go true = refl
-    go false = refl
+kept_twin g v i h = none_if (ltb (twin_slot g v i) i) _ ∙ ap not (twin_seen g v i h)
 
 -- the entry by itself: user, name, top bits, ex, s1, s2, rc
 seven : (u n t x a b r : Bool)
-    → is_kept (cond (not u) UserByte (cond (not n) NameByte (cond (not t) TopBit (cond (not x) ExByte (cond (not a) S1Byte (cond (not b) S2Byte (cond (not r) RcByte None)))))))
+    → is_none (cond (not u) (Some UserByte) (cond (not n) (Some NameByte) (cond (not t) (Some TopBit) (cond (not x) (Some ExByte) (cond (not a) (Some S1Byte) (cond (not b) (Some S2Byte) (cond (not r) (Some RcByte) None)))))))
     ≡ (u && x && a && b && r && n && t)
 seven false n t x a b r = refl
 seven true false t false a b r = refl
@@ -96,31 +91,27 @@ seven true true true true true false r = refl
 seven true true true true true true false = refl
 seven true true true true true true true = refl
 
-kept_entry : (e : Entry) → is_kept (entry_rule e) ≡ good_entry e
+kept_entry : (e : Entry) → is_none (entry_rule e) ≡ good_entry e
 unfolding entry_rule good_fields
 kept_entry e = seven (leb (byte e USER) 15) (good_name false (name_of e)) (good_top_bits e) (leb (byte e EX) 31) (eqb (byte e S1) 0) (leb (byte e S2) 15) (leb (byte e RC) 128)
 
 -- ---- the whole
-grouped : (a b c d : Bool) → (a && (b && (c && d))) ≡ (a && b && c && d)
-grouped true true c d = refl
-grouped true false c d = refl
-grouped false b c d = refl
-
 module _ (g : Geometry) (v : List ℕ) (i : ℕ) (h : i < slots g) where
-  abbrev map_rules : Fault
-  map_rules = map_fault g v i Outside (map_fault g v i Twice (map_fault g v i Lower (twin_fault g v i)))
+  abbrev map_rules : Option Fault
+  map_rules = option_or (option_or (option_or (map_fault g v i Outside) (map_fault g v i Twice)) (map_fault g v i Lower)) (twin_fault g v i)
 
-  kept_maps : is_kept map_rules.rule ≡ (every (places g) (good_place g v i) && not (seen_below g v i))
+  kept_maps : is_none map_rules ≡ (every (places g) (good_place g v i) && not (seen_below g v i))
   kept_maps =
-      rw (map_good g v i, kept_map g v i Outside (map_fault g v i Twice (map_fault g v i Lower (twin_fault g v i))), kept_map g v i Twice (map_fault g v i Lower (twin_fault g v i)), kept_map g v i Lower (twin_fault g v i), kept_twin g v i h)
-      (grouped (not (broken g v i Outside)) (not (broken g v i Twice)) (not (broken g v i Lower)) (not (seen_below g v i)))
+      rw (none_or, none_or, none_or, kept_map g v i Outside, kept_map g v i Twice, kept_map g v i Lower, kept_twin g v i h, map_good g v i)
 
 -- r is the entry's rule, m the map's fault; k, n, s: they are good, and no lower slot is a twin
-whole : (t : Bool) (r : Rule) (m : Fault) (k n s : Bool) → is_kept r ≡ k → is_kept m.rule ≡ (n && s)
-    → is_kept (cond t (alone None) (cond (is_kept r) m (alone r))).rule ≡ (t || (k && n && s))
+whole : (t : Bool) (r : Option Rule) (m : Option Fault) (k n s : Bool) → is_none r ≡ k → is_none m ≡ (n && s)
+    → is_none (cond t None (option_or (option_map alone r) m)) ≡ (t || (k && n && s))
 whole true r m k n s e f = refl
-whole false r m true n s e f = rw e f
-whole false r m false n s e f = rw e e
+whole false None m true n s e f = f
+whole false None m false n s e f = cc
+whole false (Some rule) m true n s e f = cc
+whole false (Some rule) m false n s e f = refl
 
 pub agree : Agree
 unfolding found good_slot

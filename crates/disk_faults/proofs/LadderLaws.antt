@@ -1,4 +1,6 @@
--- What code finds from the last rule up is the first rule that is broken.
+-- What code finds is the first rule that is broken.
+use Rattle.std.specs.Prelude.{Option, Some, None, option_map}
+use Rattle.std.specs.Option.{option_or}
 use mathlib.Core.Path.{◌≡◌, refl, sym}
 use mathlib.Core.Bool.{Bool, true, false, not, cond}
 use mathlib.Core.List.{List}
@@ -20,9 +22,9 @@ use Rattle.disk_volume.specs.Directory.{slot_at, find_slot, slot_fits}
 use Rattle.disk_rules.specs.GoodSlot.{good_top_bits, seen_below}
 use Rattle.disk_faults.specs.declared.MapRule.{MapRule}
 use Rattle.disk_faults.specs.declared.MapRule.TheVariants.{Outside, Twice, Lower}
-use Rattle.disk_faults.specs.declared.Rule.TheVariants.{None, UserByte, NameByte, TopBit, ExByte, S1Byte, S2Byte, RcByte}
+use Rattle.disk_faults.specs.declared.Rule.TheVariants.{UserByte, NameByte, TopBit, ExByte, S1Byte, S2Byte, RcByte, Twin}
 use Rattle.disk_faults.specs.declared.Fault.{Fault}
-use Rattle.disk_faults.specs.Faults.{breaks_at, breaks, place_of, twin_slot, alone, told, first_of, first_broken, is_kept}
+use Rattle.disk_faults.specs.Faults.{breaks_at, breaks, place_of, twin_slot, fault, alone, map_told, told, first_of, first_broken}
 use Rattle.disk_faults.specs.CodeLadder.{entry_rule, map_fault, twin_fault, found}
 
 -- ---- a rule of the map is broken in some place
@@ -60,9 +62,9 @@ twin_seen g v i h =
 
 -- ---- the whole
 -- u to r: the entry breaks the rules of its own bytes; m is what its map breaks
-seven : (u n t x a b r : Bool) (m : Fault)
-    → (let rule = cond u UserByte (cond n NameByte (cond t TopBit (cond x ExByte (cond a S1Byte (cond b S2Byte (cond r RcByte None)))))) in cond (is_kept rule) m (alone rule))
-    ≡ cond u (alone UserByte) (cond n (alone NameByte) (cond t (alone TopBit) (cond x (alone ExByte) (cond a (alone S1Byte) (cond b (alone S2Byte) (cond r (alone RcByte) m))))))
+seven : (u n t x a b r : Bool) (m : Option Fault)
+    → (let rule = cond u (Some UserByte) (cond n (Some NameByte) (cond t (Some TopBit) (cond x (Some ExByte) (cond a (Some S1Byte) (cond b (Some S2Byte) (cond r (Some RcByte) None)))))) in option_or (option_map alone rule) m)
+    ≡ cond u (Some (alone UserByte)) (cond n (Some (alone NameByte)) (cond t (Some (alone TopBit)) (cond x (Some (alone ExByte)) (cond a (Some (alone S1Byte)) (cond b (Some (alone S2Byte)) (cond r (Some (alone RcByte)) m))))))
 seven true n t x a b r m = refl
 seven false true t x a b r m = refl
 seven false false true x a b r m = refl
@@ -72,8 +74,18 @@ seven false false false false false true r m = refl
 seven false false false false false false true m = refl
 seven false false false false false false false m = refl
 
+-- o, t, l, w: the map breaks its three rules, and a lower slot is a twin
+four : (o t l w : Bool) (a b c d : Fault)
+    → option_or (option_or (option_or (cond o (Some a) None) (cond t (Some b) None)) (cond l (Some c) None)) (cond w (Some d) None)
+    ≡ cond o (Some a) (cond t (Some b) (cond l (Some c) (cond w (Some d) None)))
+four true t l w a b c d = refl
+four false true l w a b c d = refl
+four false false true w a b c d = refl
+four false false false true a b c d = refl
+four false false false false a b c d = refl
+
 pub ladder : (g : Geometry) (v : List ℕ) (i : ℕ) → i < slots g → found g v i ≡ first_broken g v i
 unfolding found first_broken first_of breaks told entry_rule map_fault twin_fault
 ladder g v i h =
     let e = slot_at g v i in
-    rw (broken_any g v i Outside, broken_any g v i Twice, broken_any g v i Lower, twin_seen g v i h, seven (not (leb (byte e USER) 15)) (not (good_name false (name_of e))) (not (good_top_bits e)) (not (leb (byte e EX) 31)) (not (eqb (byte e S1) 0)) (not (leb (byte e S2) 15)) (not (leb (byte e RC) 128)))
+    rw (broken_any g v i Outside, broken_any g v i Twice, broken_any g v i Lower, twin_seen g v i h, four _ _ _ _ (map_told g v i Outside) (map_told g v i Twice) (map_told g v i Lower) (fault Twin 0 0 (twin_slot g v i)), seven (not (leb (byte e USER) 15)) (not (good_name false (name_of e))) (not (good_top_bits e)) (not (leb (byte e EX) 31)) (not (eqb (byte e S1) 0)) (not (leb (byte e S2) 15)) (not (leb (byte e RC) 128)))

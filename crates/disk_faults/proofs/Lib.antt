@@ -1,5 +1,5 @@
 -- What theorems cite, and what the code rests on: the rules and log-in agree; the first rule is the first; the other slot is a
--- lower one; what code finds from the last rule up; each rule evaluated.
+-- lower one; what code finds; each rule evaluated.
 pub mod LadderLaws
 pub mod Agreement
 pub mod FirstLaws

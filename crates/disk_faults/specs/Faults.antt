@@ -1,7 +1,7 @@
 -- Why a slot is bad: the rules of 01's sentence on good slots in its order, and the first of them that a slot breaks.
 -- None is broken exactly where the slot is good, and none before the first: `Agree` and `IsFirst`, proved in `proofs/Agreement` and
 -- `proofs/FirstLaws`.
-use Rattle.std.specs.Prelude.{◌≡◌, Bool, true, false, not, cond, ◌&&◌, List, [], ◌∷◌, ℕ, ◌<◌, leb, eqb}
+use Rattle.std.specs.Prelude.{◌≡◌, Bool, true, false, not, cond, ◌&&◌, List, [], ◌∷◌, ℕ, ◌<◌, leb, eqb, Option, Some, None, is_none}
 use Rattle.lists.specs.Bounded.{lowest, any}
 use Rattle.lists.specs.Bytes.{byte}
 use Rattle.disk_geometry.specs.declared.Geometry.{Geometry}
@@ -15,7 +15,7 @@ use Rattle.disk_rules.specs.GoodSlot.{good_top_bits, in_places, names_block, nam
 use Rattle.disk_faults.specs.declared.MapRule.{MapRule}
 use Rattle.disk_faults.specs.declared.MapRule.TheVariants.{Outside, Twice, Lower}
 use Rattle.disk_faults.specs.declared.Rule.{Rule}
-use Rattle.disk_faults.specs.declared.Rule.TheVariants.{None, UserByte, NameByte, TopBit, ExByte, S1Byte, S2Byte, RcByte, Map, Twin}
+use Rattle.disk_faults.specs.declared.Rule.TheVariants.{UserByte, NameByte, TopBit, ExByte, S1Byte, S2Byte, RcByte, Map, Twin}
 use Rattle.disk_faults.specs.declared.Fault.{Fault}
 
 -- ---- the rules, and what it is to break one
@@ -38,7 +38,6 @@ breaks_at g v i rule p = let b = block_in g (slot_at g v i) p in not (eqb b 0) &
 
 -- slot i, which is not empty, breaks the rule
 unfoldable pub breaks : Geometry → List ℕ → ℕ → Rule → Bool
-breaks g v i None = false
 -- "user is 0..15"
 breaks g v i UserByte = not (leb (byte (slot_at g v i) USER) 15)
 -- "name bytes without top bits are 20H..7EH and not 3FH, the first not 20H"
@@ -86,7 +85,6 @@ map_told g v i rule =
     fault (Map rule) p b (other_slot g v i rule b)
 
 unfoldable pub told : Geometry → List ℕ → ℕ → Rule → Fault
-told g v i None = alone None
 told g v i UserByte = alone UserByte
 told g v i NameByte = alone NameByte
 told g v i TopBit = alone TopBit
@@ -99,22 +97,21 @@ told g v i Twin = fault Twin 0 0 (twin_slot g v i)
 
 -- ---- the first rule that is broken
 -- the first of these rules that slot i breaks
-unfoldable pub first_of : Geometry → List ℕ → ℕ → List Rule → Fault
-first_of g v i [] = alone None
-first_of g v i (rule ∷ later) = cond (breaks g v i rule) (told g v i rule) (first_of g v i later)
+unfoldable pub first_of : Geometry → List ℕ → ℕ → List Rule → Option Fault
+first_of g v i [] = None
+first_of g v i (rule ∷ later) = cond (breaks g v i rule) (Some (told g v i rule)) (first_of g v i later)
 
 -- the first rule that slot i breaks, None where it is empty or breaks none
-unfoldable pub first_broken : Geometry → List ℕ → ℕ → Fault
-first_broken g v i = cond (is_empty (slot_at g v i)) (alone None) (first_of g v i rules)
+unfoldable pub first_broken : Geometry → List ℕ → ℕ → Option Fault
+first_broken g v i = cond (is_empty (slot_at g v i)) None (first_of g v i rules)
 
--- ---- the rules by number: their places in the list from 1 on, and 0 for None
+-- ---- the rules by number: their places in the list from 1 on
 abbrev pub map_rule_number : MapRule → ℕ
 map_rule_number Outside = 8
 map_rule_number Twice = 9
 map_rule_number Lower = 10
 
 abbrev pub rule_number : Rule → ℕ
-rule_number None = 0
 rule_number UserByte = 1
 rule_number NameByte = 2
 rule_number TopBit = 3
@@ -125,10 +122,6 @@ rule_number RcByte = 7
 rule_number (Map rule) = map_rule_number rule
 rule_number Twin = 11
 
--- no rule is broken
-abbrev pub is_kept : Rule → Bool
-is_kept rule = eqb (rule_number rule) 0
-
 -- the rules that speak of another slot: "or in a lower slot", "no lower slot"
 abbrev pub map_rule_has_other : MapRule → Bool
 map_rule_has_other Outside = false
@@ -136,7 +129,6 @@ map_rule_has_other Twice = false
 map_rule_has_other Lower = true
 
 abbrev pub has_other : Rule → Bool
-has_other None = false
 has_other UserByte = false
 has_other NameByte = false
 has_other TopBit = false
@@ -150,12 +142,12 @@ has_other Twin = true
 -- ---- what holds of it
 -- the rules and log-in agree: none is broken exactly where the slot is good
 abbrev pub Agree : Type 0
-Agree = (g : Geometry) (v : List ℕ) (i : ℕ) → i < slots g → is_kept (first_broken g v i).rule ≡ good_slot g v i
+Agree = (g : Geometry) (v : List ℕ) (i : ℕ) → i < slots g → is_none (first_broken g v i) ≡ good_slot g v i
 
 -- the rule that is told of is broken, and no rule before it is
 pub record First (g : Geometry) (v : List ℕ) (i : ℕ) : Type 0 where
-  pub broken : is_kept (first_broken g v i).rule ≡ false → breaks g v i (first_broken g v i).rule ≡ true
-  pub earlier : (rule : Rule) → rule_number rule < rule_number (first_broken g v i).rule → breaks g v i rule ≡ false
+  pub broken : (f : Fault) → first_broken g v i ≡ Some f → breaks g v i f.rule ≡ true
+  pub earlier : (f : Fault) → first_broken g v i ≡ Some f → (rule : Rule) → rule_number rule < rule_number f.rule → breaks g v i rule ≡ false
 
 abbrev pub IsFirst : Type 0
 IsFirst = (g : Geometry) (v : List ℕ) (i : ℕ) → First g v i

@@ -1,7 +1,7 @@
 // Why a slot is bad: the first of inspection's rules that it breaks, in the paper's order.
 #![tactic(auto)]
 
-ghost use Rattle.std.specs.Prelude.{◌≡◌, not, cond, ◌≤◌, ◌<◌};
+ghost use Rattle.std.specs.Prelude.{◌≡◌, ◌≤◌, ◌<◌};
 ghost use Rattle.disk_geometry.specs.Geometry.{slots, places};
 ghost use Rattle.disk_volume.specs.CodeLent.{IsVolume, IsEntry};
 ghost use Rattle.disk_rules.specs.GoodSlot.{in_places, names_block};
@@ -20,10 +20,9 @@ pub enum MapRule {
     Lower,
 }
 
-// The rules of a slot in the paper's order; None where none is broken.
+// The rules of a slot in the paper's order.
 #[derive(Clone, Copy)]
 pub enum Rule {
-    None,
     UserByte,
     NameByte,
     TopBit,
@@ -55,12 +54,11 @@ fn map_rule_number(rule: MapRule) -> u8
     }
 }
 
-// Answers the number of a rule, 0 for None.
+// Answers the number of a rule.
 pub fn rule_number(rule: Rule) -> u8
     ensures { result ≡ rule_number rule }
 {
     match rule {
-        Rule::None => 0,
         Rule::UserByte => 1,
         Rule::NameByte => 2,
         Rule::TopBit => 3,
@@ -88,8 +86,7 @@ pub fn has_other(rule: Rule) -> bool
     ensures { result ≡ has_other rule }
 {
     match rule {
-        Rule::None
-        | Rule::UserByte
+        Rule::UserByte
         | Rule::NameByte
         | Rule::TopBit
         | Rule::ExByte
@@ -101,27 +98,33 @@ pub fn has_other(rule: Rule) -> bool
     }
 }
 
-// The rule where it is broken, `otherwise` where it is kept.
-fn unless_kept(kept: bool, rule: Rule, otherwise: Rule) -> Rule
-    ensures { result ≡ cond (not kept) rule otherwise }
-{
-    if kept { otherwise } else { rule }
-}
-
-// The first rule that the entry breaks by itself, but for its map; the last rule is asked first.
-fn entry_rule(e: &[u8]) -> Rule
+// The first rule that the entry breaks by itself, but for its map.
+fn entry_rule(e: &[u8]) -> Option<Rule>
     requires { IsEntry e.now }
     ensures { result ≡ entry_rule e.now }
 {
-    let good_name = names::good_name(false, &e[fields::NAME..fields::NAME_END]);
-    let good_bits = disk_rules::good_top_bits(e);
-    let rc = unless_kept(e[fields::RC] <= 128, Rule::RcByte, Rule::None);
-    let s2 = unless_kept(e[fields::S2] <= 15, Rule::S2Byte, rc);
-    let s1 = unless_kept(e[fields::S1] == 0, Rule::S1Byte, s2);
-    let ex = unless_kept(e[fields::EX] <= 31, Rule::ExByte, s1);
-    let bits = unless_kept(good_bits, Rule::TopBit, ex);
-    let name = unless_kept(good_name, Rule::NameByte, bits);
-    unless_kept(e[fields::USER] <= 15, Rule::UserByte, name)
+    if e[fields::USER] > 15 {
+        return Some(Rule::UserByte);
+    }
+    if !names::good_name(false, &e[fields::NAME..fields::NAME_END]) {
+        return Some(Rule::NameByte);
+    }
+    if !disk_rules::good_top_bits(e) {
+        return Some(Rule::TopBit);
+    }
+    if e[fields::EX] > 31 {
+        return Some(Rule::ExByte);
+    }
+    if e[fields::S1] != 0 {
+        return Some(Rule::S1Byte);
+    }
+    if e[fields::S2] > 15 {
+        return Some(Rule::S2Byte);
+    }
+    if e[fields::RC] > 128 {
+        return Some(Rule::RcByte);
+    }
+    None
 }
 
 // Does one of the first k places of the entry's map have block b?
@@ -215,33 +218,26 @@ fn other_slot(g: Geometry, volume: &[u8], i: usize, rule: MapRule, b: usize) -> 
     }
 }
 
-// The fault of a map's rule in the lowest place that breaks it, `otherwise` where none does.
-fn map_fault(
-    g: Geometry,
-    volume: &[u8],
-    i: usize,
-    e: &[u8],
-    rule: MapRule,
-    otherwise: Fault,
-) -> Fault
+// The fault of a map's rule in the lowest place that breaks it.
+fn map_fault(g: Geometry, volume: &[u8], i: usize, e: &[u8], rule: MapRule) -> Option<Fault>
     requires { EntryAt g volume.now i e.now }
-    ensures { result ≡ map_fault g volume.now i rule otherwise }
+    ensures { result ≡ map_fault g volume.now i rule }
 {
     let p = place_of(g, volume, i, e, rule);
     if g.places() <= p {
-        return otherwise;
+        return None;
     }
     let b = entry::block_in(g, e, p);
-    Fault {
+    Some(Fault {
         rule: Rule::Map(rule),
         place: p,
         block: b,
         other: other_slot(g, volume, i, rule, b),
-    }
+    })
 }
 
 // The fault where a lower slot has the user, name and group of the entry e in slot i.
-fn twin_fault(g: Geometry, volume: &[u8], i: usize, e: &[u8]) -> Fault
+fn twin_fault(g: Geometry, volume: &[u8], i: usize, e: &[u8]) -> Option<Fault>
     requires { EntryAt g volume.now i e.now }
     ensures { result ≡ twin_fault g volume.now i }
 {
@@ -254,36 +250,35 @@ fn twin_fault(g: Geometry, volume: &[u8], i: usize, e: &[u8]) -> Fault
         wanted,
     );
     if slot < i {
-        return Fault {
+        return Some(Fault {
             rule: Rule::Twin,
             place: 0,
             block: 0,
             other: slot,
-        };
+        });
     }
-    alone(Rule::None)
+    None
 }
 
-// The first rule that the entry e in slot i breaks; the last rule is asked first.
-fn fault_of(g: Geometry, volume: &[u8], i: usize, e: &[u8]) -> Fault
+// The first rule that the entry e in slot i breaks.
+fn fault_of(g: Geometry, volume: &[u8], i: usize, e: &[u8]) -> Option<Fault>
     requires { EntryAt g volume.now i e.now }
     ensures { result ≡ found g volume.now i }
 {
     if e[fields::USER] == fields::EMPTY {
-        return alone(Rule::None);
+        return None;
     }
-    let rule = entry_rule(e);
-    if rule_number(rule) != 0 {
-        return alone(rule);
+    if let Some(rule) = entry_rule(e) {
+        return Some(alone(rule));
     }
-    let twin = twin_fault(g, volume, i, e);
-    let lower = map_fault(g, volume, i, e, MapRule::Lower, twin);
-    let twice = map_fault(g, volume, i, e, MapRule::Twice, lower);
-    map_fault(g, volume, i, e, MapRule::Outside, twice)
+    map_fault(g, volume, i, e, MapRule::Outside)
+        .or(map_fault(g, volume, i, e, MapRule::Twice))
+        .or(map_fault(g, volume, i, e, MapRule::Lower))
+        .or(twin_fault(g, volume, i, e))
 }
 
-// The first rule that slot i breaks.
-pub fn first_broken(g: Geometry, volume: &[u8], i: usize) -> Fault
+// The first rule that slot i breaks, None where it breaks none.
+pub fn first_broken(g: Geometry, volume: &[u8], i: usize) -> Option<Fault>
     requires { IsVolume g volume.now × (i < slots g) }
     ensures { result ≡ first_broken g volume.now i }
 {

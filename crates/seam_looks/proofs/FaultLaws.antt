@@ -1,4 +1,6 @@
 -- What code learns on its way to a fault, as the definitions say it.
+use Rattle.std.specs.Prelude.{Option, Some, None, IfSome}
+use Rattle.numbers.specs.Numbers.{bytes_of}
 use mathlib.Core.Path.{◌≡◌, refl, sym}
 use mathlib.Core.Bool.{Bool, true, false, not, cond}
 use mathlib.Core.List.{List}
@@ -28,7 +30,7 @@ use Rattle.call_answers.specs.Refusal.{first_met}
 use Rattle.filecalls.specs.declared.Reply.{Reply}
 use Rattle.filecalls.specs.LogIn.{log_in, log_in_tests, refused_log_in}
 use Rattle.seam_words.specs.Answered.{answered}
-use Rattle.seam_looks.specs.Fault.{fault_length, owner_length, owner_bytes, other_bytes, fault_for, explained, fault_at_seam}
+use Rattle.seam_looks.specs.Fault.{fault_length, rule_bytes, owner_length, owner_bytes, other_bytes, fault_for, explained, fault_at_seam}
 
 -- where log-in tells of a bad slot, the volume is one of the geometry, and the slot is one of the volume and bad
 pub record Bad (g : Geometry) (v : List ℕ) (slot : ℕ) : Type 0 where
@@ -75,9 +77,15 @@ module _ (g : Geometry) (v : List ℕ) (known : IsVolume g v) (i : ℕ) (h : i <
   unfolding owner_bytes
   owner_length_lem = length_part (slot_at g v i) 0 12 (omega (arith, slot_length g known.0 v known.1 i h))
 
-pub other_length : (g : Geometry) (v : List ℕ) → IsVolume g v → (f : Fault) → f.other < slots g → length (other_bytes g v f) ≡ owner_length
+pub rule_length : (f : Option Fault) → length (rule_bytes f) ≡ 4
+unfolding bytes_of
+rule_length None = refl
+rule_length (Some f) = refl
+
+pub other_length : (g : Geometry) (v : List ℕ) → IsVolume g v → (f : Option Fault) → IfSome f (λ f. f.other < slots g) → length (other_bytes g v f) ≡ owner_length
 unfolding other_bytes
-other_length g v known f h = go (has_other f.rule)
+other_length g v known None h = refl
+other_length g v known (Some f) h = go (has_other f.rule)
   where
     go : (t : Bool) → length (cond t (owner_bytes g v f.other) (replicate owner_length 0)) ≡ owner_length
     go true = owner_length_lem g v known f.other h

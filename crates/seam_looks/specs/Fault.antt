@@ -1,6 +1,6 @@
 -- Why a log-in is refused for a bad slot, as an exported call says it, in 32 bytes: the first rule that the slot breaks, and
 -- user and name of the slot and of the other one of which the rule speaks.
-use Rattle.std.specs.Prelude.{cond, List, ◌∷◌, ◌++◌, ℕ, ◌+◌, ◌%◌, eqb, length, replicate}
+use Rattle.std.specs.Prelude.{cond, List, ◌∷◌, ◌++◌, ℕ, ◌+◌, ◌%◌, eqb, length, replicate, Option, Some, None}
 use Rattle.lists.specs.Bytes.{part}
 use Rattle.numbers.specs.Numbers.{bytes_of}
 use Rattle.disk_geometry.specs.declared.Geometry.{Geometry}
@@ -18,12 +18,17 @@ abbrev pub fault_length : ℕ
 fault_length = 32
 
 -- bytes 0 to 3: the rule's number, the place, the block
-abbrev pub rule_bytes : Fault → List ℕ
-rule_bytes f = rule_number f.rule ∷ f.place % 256 ∷ bytes_of 2 f.block
+abbrev pub rule_bytes : Option Fault → List ℕ
+rule_bytes None = 0 ∷ 0 ∷ bytes_of 2 0
+rule_bytes (Some f) = rule_number f.rule ∷ f.place % 256 ∷ bytes_of 2 f.block
 
 -- bytes 4 to 7: the bad slot, the other slot
-abbrev pub slot_bytes : ℕ → Fault → List ℕ
-slot_bytes i f = bytes_of 2 i ++ bytes_of 2 f.other
+abbrev pub other_of : Option Fault → ℕ
+other_of None = 0
+other_of (Some f) = f.other
+
+abbrev pub slot_bytes : ℕ → Option Fault → List ℕ
+slot_bytes i f = bytes_of 2 i ++ bytes_of 2 (other_of f)
 
 -- bytes 8 to 19: user and name of slot i, the entry's first 12 bytes as they stand
 abbrev pub owner_length : ℕ
@@ -33,8 +38,9 @@ unfoldable pub owner_bytes : Geometry → List ℕ → ℕ → List ℕ
 owner_bytes g v i = part (slot_at g v i) USER owner_length
 
 -- bytes 20 to 31: those of the other slot, zeros where the rule speaks of none
-unfoldable pub other_bytes : Geometry → List ℕ → Fault → List ℕ
-other_bytes g v f = cond (has_other f.rule) (owner_bytes g v f.other) (replicate owner_length 0)
+unfoldable pub other_bytes : Geometry → List ℕ → Option Fault → List ℕ
+other_bytes g v None = replicate owner_length 0
+other_bytes g v (Some f) = cond (has_other f.rule) (owner_bytes g v f.other) (replicate owner_length 0)
 
 unfoldable pub fault_bytes : Geometry → List ℕ → ℕ → List ℕ
 fault_bytes g v i = let f = first_broken g v i in rule_bytes f ++ slot_bytes i f ++ owner_bytes g v i ++ other_bytes g v f

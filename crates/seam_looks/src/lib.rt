@@ -31,9 +31,8 @@ pub fn fault(
     }
     let g = geometry(block_bytes, blocks, directory_blocks, placing);
     let reply = Drive::log_in(g, volume);
-    let answer = reply.answer;
-    bad_slot::put_fault_for(fault, g, volume, answer);
-    seal(answer)
+    bad_slot::put_fault_for(fault, g, volume, reply.answer);
+    seal(reply.answer)
 }
 
 // Lays the line of the next file at or after slot `from`; its lowest slot is the value.

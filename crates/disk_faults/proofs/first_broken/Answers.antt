@@ -1,4 +1,4 @@
--- The entry that is lent is the one in slot i; what code finds from the last rule up is the first rule.
+-- The entry that is lent is the one in slot i; what code finds is the first rule.
 use Rattle.disk_volume.proofs.EntryLaws.{lent_slot}
 use Rattle.disk_faults.proofs.LadderLaws.{ladder}
 use mathlib.Core.Path.{◌∙◌}

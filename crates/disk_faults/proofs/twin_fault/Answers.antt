@@ -17,4 +17,4 @@ pub returns : goal.returns
 unfolding twin_fault name_at part twin_slot
 returns c =
     let found : (let a = c.args in c.find-slot.result ≡ twin_slot a.g a.volume.now a.i) = rw (← c.requires.1.1.1, ← c.extent_of.ensures.0, ← c.group.ensures) c.find-slot.ensures.0 in
-    rw (c.alone.ensures, ← found, le-ltb _ _ c.if-slot-i.false)
+    rw (← found, le-ltb _ _ c.if-slot-i.false)

@@ -6,4 +6,4 @@ use Rattle.seam_looks.proofs.bad_slot.put_owner.Goals as goal
 pub returns : goal.returns
 returns c =
     let a = c.args in
-    c.copy.ensures ∙ owner_lent a.g a.volume.now c.requires.0 a.i c.requires.1.1 c.slot_start-at.result c.slot_start-at.ensures.0
+    c.copy_from_slice.ensures.after ∙ owner_lent a.g a.volume.now c.requires.0 a.i c.requires.1.1 c.slot_start-at.result c.slot_start-at.ensures.0

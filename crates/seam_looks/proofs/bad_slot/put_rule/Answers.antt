@@ -2,6 +2,6 @@
 use Rattle.numbers.specs.Numbers.{bytes_of}
 use Rattle.seam_looks.proofs.bad_slot.put_rule.Goals as goal
 
-pub returns : goal.returns
+pub returns-in-None : goal.returns-in-None
 unfolding bytes_of
-returns c = rw (← c.rule_number.ensures) c.copy.ensures
+returns-in-None c = rw (c.in-None.is, c.fill.ensures.after (λ y h. h), c.requires)
