@@ -1,10 +1,11 @@
 -- The plan of a read: what each way through the code finds is the first refusal of the ladder, or where the record lies.
-use mathlib.Core.Path.{◌≡◌, refl, sym}
+use mathlib.Core.Path.{◌≡◌, refl, sym, ap}
 use mathlib.Core.Bool.{Bool, true, false, not, cond}
 use mathlib.Core.List.{List}
 use Prim.Native.Nat.{ℕ, ◌/◌, ◌≤◌, ◌<◌}
 use native.Mathlib.Omega.{arith}
 use lib.Dec.{leb, ltb}
+use Rattle.std.specs.Prelude.{Result, Ok, Err}
 use borrow.Author.Tests.{leb-false, ltb-true, not-false, le-leb, lt-leb, lt-ltb}
 use Rattle.lists.proofs.BoolLaws.{and_right}
 use Rattle.disk_geometry.specs.declared.Geometry.{Geometry}
@@ -17,18 +18,17 @@ use Rattle.call_answers.specs.declared.Refusal.TheVariants.{None, NoFile, Absent
 use Rattle.call_answers.specs.Refusal.{is_none, refusing, first, first_met}
 use Rattle.call_answers.proofs.Ladder.{unmet}
 use Rattle.call_read.specs.declared.read.ReadPlan.{ReadPlan}
-use Rattle.call_read.specs.declared.read.ReadPlan.TheVariants.{Go, No}
 use Rattle.call_read.specs.Read.{read_tests, read_block}
-use Rattle.call_read.specs.CodePlan.{plan_in, read_plan}
+use Rattle.call_read.specs.CodePlan.{go, plan_in, read_plan}
 use Rattle.disk_volume.proofs.FindLaws.{group_file}
 
 -- the last two tests, 1 and 41
-last_two : (t s : Bool) (go : ReadPlan)
-    → cond (is_none (first (refusing Absent (not t)) (first (refusing Outside (not s)) None))) go (No (first (refusing Absent (not t)) (first (refusing Outside (not s)) None)))
-    ≡ cond t (cond s go (No Outside)) (No Absent)
-last_two true true go = refl
-last_two true false go = refl
-last_two false s go = refl
+last_two : (t s : Bool) (r : Result ReadPlan Refusal)
+    → cond (is_none (first (refusing Absent (not t)) (first (refusing Outside (not s)) None))) r (Err (first (refusing Absent (not t)) (first (refusing Outside (not s)) None)))
+    ≡ cond t (cond s r (Err Outside)) (Err Absent)
+last_two true true r = refl
+last_two true false r = refl
+last_two false s r = refl
 
 module _ (g : Geometry) (v : List ℕ) (u : ℕ) (name : List ℕ) (n : ℕ) where
   -- where a record's group has an entry the file has one
@@ -82,30 +82,31 @@ module _ (g : Geometry) (v : List ℕ) (u : ℕ) (name : List ℕ) (n : ℕ) whe
     plan_in_lem h =
         let e = slot_at g v (record_slot g v u name n) in
         rw (lt-leb (slots g) (find_slot g v u name File) (file_found h), lt-leb (slots g) (record_slot g v u name n) h, present_counted h)
-        (sym (last_two (counted g e n) (inside g (record_block g e n)) (Go (record_slot g v u name n) (record_block g e n))))
+        (sym (last_two (counted g e n) (inside g (record_block g e n)) (go (record_slot g v u name n) (record_block g e n))))
 
     -- the file has an entry, the group none
-    pub plan_missing : slots g ≤ record_slot g v u name n → find_slot g v u name File < slots g → No missing ≡ read_plan g v u name n missing
+    pub plan_missing : slots g ≤ record_slot g v u name n → find_slot g v u name File < slots g → Err missing ≡ read_plan g v u name n missing
     unfolding read_plan read_tests first_met
     plan_missing m h = rw (lt-leb (slots g) (find_slot g v u name File) h, le-leb (slots g) (record_slot g v u name n) m, some, some)
 
     -- the file has no entry
-    pub plan_none : slots g ≤ find_slot g v u name File → No NoFile ≡ read_plan g v u name n missing
+    pub plan_none : slots g ≤ find_slot g v u name File → Err NoFile ≡ read_plan g v u name n missing
     unfolding read_plan read_tests first_met
     plan_none h = rw (le-leb (slots g) (find_slot g v u name File) h)
 
     -- a plan that goes on, and one that does not
-    pub plan_go : (slot block : ℕ) → read_plan g v u name n missing ≡ Go slot block → Goes missing slot block
+    pub plan_go : (plan : ReadPlan) → read_plan g v u name n missing ≡ Ok plan → Goes missing plan.slot plan.block
     unfolding read_plan
-    plan_go slot block e = go (is_none (first_met (read_tests g v u name n missing))) refl e
+    plan_go plan e = go_on (is_none (first_met (read_tests g v u name n missing))) refl e
       where
-        go : (t : Bool) → is_none (first_met (read_tests g v u name n missing)) ≡ t
-            → cond t (Go (record_slot g v u name n) (read_block g v u name n)) (No (first_met (read_tests g v u name n missing))) ≡ Go slot block
-            → Goes missing slot block
-        go false q f = let w : ◌≡◌ {A = ℕ} 0 1 = cc in absurd (omega arith)
-        go true q f =
-            let s : record_slot g v u name n ≡ slot = cc in
-            let b : read_block g v u name n ≡ block = cc in
+        go_on : (t : Bool) → is_none (first_met (read_tests g v u name n missing)) ≡ t
+            → cond t (go (record_slot g v u name n) (read_block g v u name n)) (Err (first_met (read_tests g v u name n missing))) ≡ Ok plan
+            → Goes missing plan.slot plan.block
+        go_on false q f = let w : ◌≡◌ {A = ℕ} 0 1 = cc in absurd (omega arith)
+        go_on true q f =
+            let p : record { slot = record_slot g v u name n; block = read_block g v u name n } ≡ plan = cc in
+            let s : record_slot g v u name n ≡ plan.slot = ap (λ (r : ReadPlan). r.slot) p in
+            let b : read_block g v u name n ≡ plan.block = ap (λ (r : ReadPlan). r.block) p in
             let t = none_unmet q in
             record {
               slot_is = sym s;
@@ -115,14 +116,14 @@ module _ (g : Geometry) (v : List ℕ) (u : ℕ) (name : List ℕ) (n : ℕ) whe
               block_in = rw b at (block_below t);
             }
 
-    pub plan_no : (why : Refusal) → read_plan g v u name n missing ≡ No why → (why ≡ first_met (read_tests g v u name n missing)) × (is_none why ≡ false)
+    pub plan_no : (why : Refusal) → read_plan g v u name n missing ≡ Err why → (why ≡ first_met (read_tests g v u name n missing)) × (is_none why ≡ false)
     unfolding read_plan
-    plan_no why e = go (is_none (first_met (read_tests g v u name n missing))) refl e
+    plan_no why e = stop (is_none (first_met (read_tests g v u name n missing))) refl e
       where
-        go : (t : Bool) → is_none (first_met (read_tests g v u name n missing)) ≡ t
-            → cond t (Go (record_slot g v u name n) (read_block g v u name n)) (No (first_met (read_tests g v u name n missing))) ≡ No why
+        stop : (t : Bool) → is_none (first_met (read_tests g v u name n missing)) ≡ t
+            → cond t (go (record_slot g v u name n) (read_block g v u name n)) (Err (first_met (read_tests g v u name n missing))) ≡ Err why
             → (why ≡ first_met (read_tests g v u name n missing)) × (is_none why ≡ false)
-        go true q f = let w : ◌≡◌ {A = ℕ} 0 1 = cc in absurd (omega arith)
-        go false q f =
+        stop true q f = let w : ◌≡◌ {A = ℕ} 0 1 = cc in absurd (omega arith)
+        stop false q f =
             let w : first_met (read_tests g v u name n missing) ≡ why = cc in
             (sym w, rw w at q)

@@ -15,11 +15,11 @@ use disk_geometry::Geometry;
 use disk_volume::Wanted;
 use disk_volume::fields::{NAME, NAME_END};
 
-// Where the record lies, or why it can't be read.
+// Where a record lies that can be read: the slot of its entry, and its block.
 #[derive(Clone, Copy)]
-pub enum ReadPlan {
-    Go { slot: usize, block: usize },
-    No(Refusal),
+pub struct ReadPlan {
+    pub slot: usize,
+    pub block: usize,
 }
 
 // Does the entry count record n, and is its place used?
@@ -33,13 +33,13 @@ pub fn is_counted(g: Geometry, e: &[u8], n: usize) -> bool
 }
 
 // Record n by the entry in this slot: 1, 41, or where it lies.
-fn plan_in(g: Geometry, volume: &[u8], slot: usize, n: usize) -> ReadPlan
+fn plan_in(g: Geometry, volume: &[u8], slot: usize, n: usize) -> Result<ReadPlan, Refusal>
     requires { VolumeAnd g volume.now (slot < slots g) }
     ensures { result ≡ plan_in g volume.now slot n }
 {
     let at = g.slot_start(slot);
     if !is_counted(g, &volume[at..at + Geometry::ENTRY_BYTES], n) {
-        return ReadPlan::No(Refusal::Absent);
+        return Err(Refusal::Absent);
     }
     let block = disk_volume::entry::block_in(
         g,
@@ -47,13 +47,13 @@ fn plan_in(g: Geometry, volume: &[u8], slot: usize, n: usize) -> ReadPlan
         g.place(n),
     );
     if !g.is_inside(block) {
-        return ReadPlan::No(Refusal::Outside);
+        return Err(Refusal::Outside);
     }
-    ReadPlan::Go { slot, block }
+    Ok(ReadPlan { slot, block })
 }
 
 // Record n of the file: the first refusal, or where it lies.
-fn plan(g: Geometry, volume: &[u8], user: u8, name: &[u8], n: usize, missing: Refusal) -> ReadPlan
+fn plan(g: Geometry, volume: &[u8], user: u8, name: &[u8], n: usize, missing: Refusal) -> Result<ReadPlan, Refusal>
     requires volume_and { VolumeAnd g volume.now (IsName name.now) }
     requires missing_value { is_none missing ≡ false }
     ensures { result ≡ read_plan g volume.now user (strip name.now) n missing }
@@ -66,9 +66,9 @@ fn plan(g: Geometry, volume: &[u8], user: u8, name: &[u8], n: usize, missing: Re
     }
     let file = disk_volume::directory::find(g, volume, user, name, Wanted::File);
     if file < count {
-        return ReadPlan::No(missing);
+        return Err(missing);
     }
-    ReadPlan::No(Refusal::NoFile)
+    Err(Refusal::NoFile)
 }
 
 // The record goes to the buffer, and the control block is set to it.
@@ -113,10 +113,10 @@ pub fn read_record(
         ≡ unless_refused result (read_bytes g volume.now user (name_of fcb.old) n) buffer.old }
 {
     match plan(g, volume, user, &fcb[NAME..NAME_END], n, missing) {
-        ReadPlan::No(why) => why,
-        ReadPlan::Go { slot, block } => {
-            act(g, volume, fcb, buffer, slot, block, n, cr);
+        Ok(plan) => {
+            act(g, volume, fcb, buffer, plan.slot, plan.block, n, cr);
             Refusal::None
         }
+        Err(why) => why,
     }
 }

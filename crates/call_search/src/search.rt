@@ -51,8 +51,9 @@ fn find_sought(
     ensures { (result ≡ find_from g volume.now user (strip name.now) (sought g kind ex) from) × (result ≤ slots g) }
 {
     match kind {
-        SearchKind::Nothing => find_from(g, volume, from, user, name, Wanted::Any),
-        SearchKind::Everything => find_from(g, volume, from, user, name, Wanted::Any),
+        SearchKind::Nothing | SearchKind::Everything => {
+            find_from(g, volume, from, user, name, Wanted::Any)
+        }
         SearchKind::Pattern => if ex == WILDCARD {
             find_from(g, volume, from, user, name, Wanted::Match)
         } else {

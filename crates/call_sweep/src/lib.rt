@@ -70,8 +70,7 @@ fn meant(edit: Edit) -> Wanted
 {
     match edit {
         Edit::Erase => Wanted::Match,
-        Edit::Rename => Wanted::File,
-        Edit::Attributes => Wanted::File,
+        Edit::Rename | Edit::Attributes => Wanted::File,
     }
 }
 
@@ -158,8 +157,9 @@ fn next_meant(g: Geometry, volume: &[u8], from: usize, user: u8, name: &[u8], ed
 {
     match edit {
         Edit::Erase => directory::find_from(g, volume, from, user, name, Wanted::Match),
-        Edit::Rename => directory::find_from(g, volume, from, user, name, Wanted::File),
-        Edit::Attributes => directory::find_from(g, volume, from, user, name, Wanted::File),
+        Edit::Rename | Edit::Attributes => {
+            directory::find_from(g, volume, from, user, name, Wanted::File)
+        }
     }
 }
 

@@ -1,17 +1,9 @@
 -- The name of the control block is stripped once, and what is then done is what the definitions say.
 use mathlib.Core.Path.{◌≡◌, sym, ap, ◌∙◌}
-use borrow.Author.Rules.{rules}
 use Rattle.lists.specs.Bytes.{part}
 use Rattle.disk_volume.proofs.NameLaws.{strip_strip}
 use Rattle.disk_volume.specs.Name.{strip, name_at, name_of}
 use Rattle.call_make.proofs.make_file.Goals as goal
-
-pub put_slot-requires : goal.put_slot-requires
-put_slot-requires c =
-    record {
-      volume = (c.requires.0, c.requires.1.0);
-      i_bound = (c.make_why-plan.ensures.slot_bound (sym c.is_none.ensures ∙ c.if-is_none.true), search rules);
-    }
 
 pub returns-then-is_none : goal.returns-then-is_none
 unfolding name_at part

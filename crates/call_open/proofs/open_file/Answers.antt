@@ -3,20 +3,8 @@ use Rattle.disk_volume.proofs.EntryLaws.{lent_slot}
 use mathlib.Core.Path.{sym, ◌∙◌}
 use Rattle.call_open.proofs.open_file.Goals as goal
 
-pub slot_start-at-requires : goal.slot_start-at-requires
-slot_start-at-requires c = (c.requires.0, c.slot_why-why.ensures.slot_bound (sym c.is_none.ensures ∙ c.if-is_none.true))
-
 pub returns-then-is_none : goal.returns-then-is_none
 returns-then-is_none c =
     let a = c.args in
     let slot = c.slot_to_open-slot.result in
     let n = sym c.is_none.ensures ∙ c.if-is_none.true in record { why_value = rw (← c.slot_to_open-slot.ensures.0) c.slot_why-why.ensures.value; slot_value = c.slot_to_open-slot.ensures.0; fcb_after = rw (n, ← lent_slot a.g a.volume.now slot c.slot_start-at.result c.slot_start-at.ensures.0) c.set_open.ensures }
-
-pub returns-else-is_none : goal.returns-else-is_none
-returns-else-is_none c =
-    let n = sym c.is_none.ensures ∙ c.if-is_none.false in
-    record {
-      why_value = rw (← c.slot_to_open-slot.ensures.0) c.slot_why-why.ensures.value;
-      slot_value = c.slot_to_open-slot.ensures.0;
-      fcb_after = rw n;
-    }

@@ -23,20 +23,6 @@ loop-i-init c =
       ),
     )
 
-pub change_record-requires : goal.change_record-requires
-change_record-requires c =
-    record {
-      volume_and = (c.requires.volume.0, (c.loop-i.invariant.1.0, omega arith));
-      name = c.requires.name;
-    }
-
-pub next_meant-i-requires : goal.next_meant-i-requires
-next_meant-i-requires c =
-    record {
-      volume = (c.requires.volume.0, c.change_record.auto.volume ∙ c.loop-i.invariant.1.0);
-      from_bound = (omega arith, c.requires.name.0);
-    }
-
 pub loop-i-smaller : goal.loop-i-smaller
 loop-i-smaller c =
     let a = c.args in

@@ -5,7 +5,7 @@ use Prim.Native.Nat.{ℕ, ◌+◌, ◌%◌, ◌≤◌, ◌<◌}
 use native.Mathlib.Omega.{arith}
 use native.Mathlib.Numerals.{add-one}
 use native.Mathlib.Nat.{zero-add}
-use lib.Seq.{paste, paste-zero, paste-suc, take_all}
+use lib.Seq.{paste, paste-suc, take_all}
 use lib.ListN.{length, get_or, set, drop_of_length-le}
 use borrow.Author.Rules.{rules}
 use Rattle.disk_volume.proofs.NameLaws.{length_strip, byte_strip}
@@ -25,9 +25,6 @@ name_end d s e i h l b =
     let k : length d ≤ 0 + i = omega arith in
     let b' : length (strip s) ≤ i = rw length_strip b in
     h ∙ rw (take_all i (strip s) b', drop_of_length-le d k, append-nil)
-
-pub loop-i-init : goal.loop-i-init
-loop-i-init c = paste-zero c.args.dst.now 0 (strip c.args.name.now)
 
 pub loop-i-preserved : goal.loop-i-preserved
 loop-i-preserved c =

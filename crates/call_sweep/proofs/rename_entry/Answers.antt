@@ -1,14 +1,9 @@
 -- The name laid whole, and two bytes of it marked: the renamed entry.
-use native.Mathlib.Omega.{arith}
-use lib.ListN.{length-set}
 use borrow.Author.Rules.{rules}
 use Rattle.lists.specs.Bytes.{byte, put}
 use Rattle.call_sweep.specs.Sweep.{with_top_bit, renamed}
 use Rattle.call_sweep.proofs.EditLaws.{named_and_marked}
 use Rattle.call_sweep.proofs.rename_entry.Goals as goal
-
-pub bounds-e-10-2 : goal.bounds-e-10-2
-bounds-e-10-2 c = simp length-set (omega arith)
 
 pub returns : goal.returns
 unfolding renamed put
