@@ -12,9 +12,7 @@ impl Drive {
         ensures { left result volume.now fcb.new []
             ≡ open_leaves self volume.now fcb.old }
     {
-        let held = self.held;
-        let reply = self.front().open_file(volume, fcb);
-        reply.joined(held)
+        self.front().open_file(volume, fcb).joined(self.held)
     }
 
     // Function 16: the group has an entry; nothing is changed.
@@ -22,9 +20,7 @@ impl Drive {
         ensures { left result volume.now fcb.now []
             ≡ close_leaves self volume.now fcb.now }
     {
-        let held = self.held;
-        let reply = self.front().close_file(volume, fcb);
-        reply.joined(held)
+        self.front().close_file(volume, fcb).joined(self.held)
     }
 
     // Function 35: the file's size in r0 r1 r2.
@@ -32,9 +28,7 @@ impl Drive {
         ensures { left result volume.now fcb.new []
             ≡ size_leaves self volume.now fcb.old }
     {
-        let held = self.held;
-        let reply = self.front().file_size(volume, fcb);
-        reply.joined(held)
+        self.front().file_size(volume, fcb).joined(self.held)
     }
 
     // Function 17: starts at slot 0, and keeps pattern and user.
@@ -42,9 +36,9 @@ impl Drive {
         ensures { left result volume.now fcb.now buffer.new
             ≡ search_first_leaves self volume.now fcb.now buffer.old }
     {
-        let held = self.held;
-        let reply = self.front().search_first(volume, fcb, buffer);
-        reply.joined(held)
+        self.front()
+            .search_first(volume, fcb, buffer)
+            .joined(self.held)
     }
 
     // Function 18: goes on after the last hit.
@@ -52,9 +46,7 @@ impl Drive {
         ensures { left result volume.now [] buffer.new
             ≡ search_next_leaves self volume.now buffer.old }
     {
-        let held = self.held;
-        let reply = self.front().search_next(volume, buffer);
-        reply.joined(held)
+        self.front().search_next(volume, buffer).joined(self.held)
     }
 
     // Function 20: reads at the sequential position, and moves it on.
@@ -62,9 +54,9 @@ impl Drive {
         ensures { left result volume.now fcb.new buffer.new
             ≡ read_sequential_leaves self volume.now fcb.old buffer.old }
     {
-        let held = self.held;
-        let reply = self.front().read_sequential(volume, fcb, buffer);
-        reply.joined(held)
+        self.front()
+            .read_sequential(volume, fcb, buffer)
+            .joined(self.held)
     }
 
     // Function 33: reads the record in r0 r1.
@@ -72,35 +64,29 @@ impl Drive {
         ensures { left result volume.now fcb.new buffer.new
             ≡ read_random_leaves self volume.now fcb.old buffer.old }
     {
-        let held = self.held;
-        let reply = self.front().read_random(volume, fcb, buffer);
-        reply.joined(held)
+        self.front()
+            .read_random(volume, fcb, buffer)
+            .joined(self.held)
     }
 
     // Function 28: protects the drive until the next log-in.
     pub fn protect(self) -> Reply
         ensures { left result [] [] [] ≡ protect_leaves self }
     {
-        let held = self.held;
-        let reply = self.front().protect();
-        reply.joined(held)
+        self.front().protect().joined(self.held)
     }
 
     // Function 32: sets the user, or answers the current one for 255.
     pub fn user_code(self, code: u8) -> Reply
         ensures { left result [] [] [] ≡ user_leaves self code }
     {
-        let held = self.held;
-        let reply = self.front().user_code(code);
-        reply.joined(held)
+        self.front().user_code(code).joined(self.held)
     }
 
     // Function 36: the sequential position in r0 r1 r2.
     pub fn set_random(self, fcb: &mut [u8]) -> Reply
         ensures { left result [] fcb.new [] ≡ set_random_leaves self fcb.old }
     {
-        let held = self.held;
-        let reply = self.front().set_random(fcb);
-        reply.joined(held)
+        self.front().set_random(fcb).joined(self.held)
     }
 }

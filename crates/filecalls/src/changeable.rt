@@ -19,11 +19,16 @@ impl Front {
         if !call_answers::is_none(why) {
             return why;
         }
-        let g = self.geometry;
-        let slots = g.slots();
-        let lowest = directory::find(g, volume, self.user, &fcb[NAME..NAME_END], Wanted::File);
+        let slots = self.geometry.slots();
+        let lowest = directory::find(
+            self.geometry,
+            volume,
+            self.user,
+            &fcb[NAME..NAME_END],
+            Wanted::File,
+        );
         let read_only = directory::find(
-            g,
+            self.geometry,
             volume,
             self.user,
             &fcb[NAME..NAME_END],

@@ -23,10 +23,10 @@ impl Drive {
         ensures { left result volume.new fcb.new []
             ≡ make_leaves self volume.old fcb.old }
     {
-        let held = self.held;
         let mut left = ENOUGH;
-        let reply = self.front().make_most(volume, fcb, &mut left);
-        reply.joined(held)
+        self.front()
+            .make_most(volume, fcb, &mut left)
+            .joined(self.held)
     }
 
     // Function 23: all entries of the file take the new name.
@@ -34,10 +34,10 @@ impl Drive {
         ensures { left result volume.new fcb.now []
             ≡ rename_leaves self volume.old fcb.now }
     {
-        let held = self.held;
         let mut left = ENOUGH;
-        let reply = self.front().rename_most(volume, fcb, &mut left);
-        reply.joined(held)
+        self.front()
+            .rename_most(volume, fcb, &mut left)
+            .joined(self.held)
     }
 
     // Function 30: all entries of the file take the control block's attribute bits.
@@ -45,10 +45,10 @@ impl Drive {
         ensures { left result volume.new fcb.now []
             ≡ attributes_leave self volume.old fcb.now }
     {
-        let held = self.held;
         let mut left = ENOUGH;
-        let reply = self.front().attributes_most(volume, fcb, &mut left);
-        reply.joined(held)
+        self.front()
+            .attributes_most(volume, fcb, &mut left)
+            .joined(self.held)
     }
 
     // Function 21: writes at the sequential position, and moves it on.

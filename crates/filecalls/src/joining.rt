@@ -13,26 +13,22 @@ impl Drive {
     pub fn closed() -> Drive
         ensures { result ≡ closed }
     {
-        let geometry = Geometry {
-            block_bytes: 0,
-            blocks: 0,
-            directory_blocks: 0,
-            placing: Geometry::STRAIGHT,
-        };
-        let pattern = [0u8; PATTERN_BYTES];
-        let search = KeptSearch {
-            kind: SearchKind::Nothing,
-            user: 0,
-            last: 0,
-            pattern,
-        };
-        let held = [0u64; WORDS];
         Drive {
-            geometry,
+            geometry: Geometry {
+                block_bytes: 0,
+                blocks: 0,
+                directory_blocks: 0,
+                placing: Geometry::STRAIGHT,
+            },
             user: 0,
             protected: false,
-            search,
-            held,
+            search: KeptSearch {
+                kind: SearchKind::Nothing,
+                user: 0,
+                last: 0,
+                pattern: [0u8; PATTERN_BYTES],
+            },
+            held: [0u64; WORDS],
         }
     }
 
@@ -40,13 +36,11 @@ impl Drive {
     pub fn front(self) -> Front
         ensures { result ≡ front_of self }
     {
-        let geometry = self.geometry;
-        let search = self.search;
         Front {
-            geometry,
+            geometry: self.geometry,
             user: self.user,
             protected: self.protected,
-            search,
+            search: self.search,
         }
     }
 }
@@ -56,17 +50,15 @@ impl FrontReply {
     pub fn joined(self, held: [u64; WORDS]) -> Reply
         ensures { result ≡ joined_reply self held }
     {
-        let answer = self.answer;
-        let front = self.front;
-        let geometry = front.geometry;
-        let search = front.search;
-        let drive = Drive {
-            geometry,
-            user: front.user,
-            protected: front.protected,
-            search,
-            held,
-        };
-        Reply { answer, drive }
+        Reply {
+            answer: self.answer,
+            drive: Drive {
+                geometry: self.front.geometry,
+                user: self.front.user,
+                protected: self.front.protected,
+                search: self.front.search,
+                held,
+            },
+        }
     }
 }

@@ -30,9 +30,8 @@ impl Front {
             return self.refused(why);
         }
         let before = call_answers::refuse(Refusal::Protected, self.protected);
-        let g = self.geometry;
         let why = call_delete::delete_matches(
-            g,
+            self.geometry,
             volume,
             self.user,
             &fcb[NAME..NAME_END],
@@ -57,10 +56,8 @@ impl Front {
         let file = call_make::new_file_why(fcb);
         let protected = call_answers::refuse(Refusal::Protected, self.protected);
         let before = call_answers::first_of(file, protected);
-        let g = self.geometry;
-        let made = call_make::make_file(g, volume, fcb, self.user, before, left);
-        let why = made.why;
-        self.answered(why, (made.slot % Geometry::RECORD_SLOTS) as u8)
+        let made = call_make::make_file(self.geometry, volume, fcb, self.user, before, left);
+        self.answered(made.why, (made.slot % Geometry::RECORD_SLOTS) as u8)
     }
 
     // Function 23 as long as a store is left.
@@ -77,9 +74,8 @@ impl Front {
         let name = call_rename::rename::new_name_why(fcb);
         let protected = call_answers::refuse(Refusal::Protected, self.protected);
         let before = call_answers::first_of(name, protected);
-        let g = self.geometry;
         let why = call_rename::rename::rename_file(
-            g,
+            self.geometry,
             volume,
             self.user,
             &fcb[NAME..NAME_END],
@@ -102,9 +98,8 @@ impl Front {
             return self.refused(why);
         }
         let before = call_answers::refuse(Refusal::Protected, self.protected);
-        let g = self.geometry;
         let why = call_rename::rename::attribute_file(
-            g,
+            self.geometry,
             volume,
             self.user,
             &fcb[NAME..NAME_END],

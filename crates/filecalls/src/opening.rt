@@ -18,10 +18,8 @@ impl Front {
         if !call_answers::is_none(why) {
             return self.refused(why);
         }
-        let g = self.geometry;
-        let found = call_open::open_file(g, volume, fcb, self.user);
-        let why = found.why;
-        self.answered(why, (found.slot % Geometry::RECORD_SLOTS) as u8)
+        let found = call_open::open_file(self.geometry, volume, fcb, self.user);
+        self.answered(found.why, (found.slot % Geometry::RECORD_SLOTS) as u8)
     }
 
     // Function 16: the group has an entry; nothing is changed.
@@ -34,10 +32,8 @@ impl Front {
         if !call_answers::is_none(why) {
             return self.refused(why);
         }
-        let g = self.geometry;
-        let found = call_open::close_file(g, volume, fcb, self.user);
-        let why = found.why;
-        self.answered(why, (found.slot % Geometry::RECORD_SLOTS) as u8)
+        let found = call_open::close_file(self.geometry, volume, fcb, self.user);
+        self.answered(found.why, (found.slot % Geometry::RECORD_SLOTS) as u8)
     }
 
     // Function 35: the file's size in r0 r1 r2.
@@ -50,8 +46,7 @@ impl Front {
         if !call_answers::is_none(why) {
             return self.refused(why);
         }
-        let g = self.geometry;
-        let why = call_size::measure(g, volume, fcb, self.user);
+        let why = call_size::measure(self.geometry, volume, fcb, self.user);
         self.answered(why, 0)
     }
 }

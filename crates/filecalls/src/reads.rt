@@ -30,8 +30,16 @@ impl Front {
             ≡ outcome (joined self held) volume.now fcb.old buffer.old
             (read_record_act (joined self held) volume.now fcb.old n cr missing) }
     {
-        let g = self.geometry;
-        let why = call_read::read::read_record(g, volume, fcb, buffer, self.user, n, cr, missing);
+        let why = call_read::read::read_record(
+            self.geometry,
+            volume,
+            fcb,
+            buffer,
+            self.user,
+            n,
+            cr,
+            missing,
+        );
         self.answered(why, 0)
     }
 

@@ -24,8 +24,7 @@ pub(crate) fn is_open_search(kind: SearchKind) -> bool
 {
     match kind {
         SearchKind::Nothing => false,
-        SearchKind::Pattern => true,
-        SearchKind::Everything => true,
+        SearchKind::Pattern | SearchKind::Everything => true,
     }
 }
 
@@ -33,9 +32,10 @@ pub(crate) fn is_open_search(kind: SearchKind) -> bool
 fn kept_at(search: KeptSearch, slot: usize) -> KeptSearch
     ensures { result ≡ kept_at search slot }
 {
-    let mut kept = search;
-    kept.last = slot;
-    kept
+    KeptSearch {
+        last: slot,
+        ..search
+    }
 }
 
 // The slot that the search hits, from slot `from` on; the number of slots where it hits none. The record of the hit goes to the
@@ -45,9 +45,15 @@ fn hit(g: Geometry, volume: &[u8], buffer: &mut [u8], search: KeptSearch, from: 
     ensures value { result ≡ hit g volume.now search from }
     ensures buffer_after { buffer.new ≡ hit_buffer g volume.now result buffer.old }
 {
-    let kind = search.kind;
-    let pattern = search.pattern;
-    call_search::search::search_from(g, volume, buffer, kind, search.user, &pattern, from)
+    call_search::search::search_from(
+        g,
+        volume,
+        buffer,
+        search.kind,
+        search.user,
+        &search.pattern,
+        from,
+    )
 }
 
 impl Front {
@@ -79,11 +85,11 @@ impl Front {
             → left (joined_reply result held) v fcb after
             ≡ outcome (joined self held) v fcb b (search_on_act (joined self held) v fcb search from) }
     {
-        let g = self.geometry;
-        if slot < g.slots() {
-            let kept = kept_at(search, slot);
-            let mut front = self;
-            front.search = kept;
+        if slot < self.geometry.slots() {
+            let front = Front {
+                search: kept_at(search, slot),
+                ..self
+            };
             return front.done((slot % Geometry::RECORD_SLOTS) as u8);
         }
         self.refused(Refusal::NoMatch)
@@ -99,16 +105,13 @@ impl Front {
         if !call_answers::is_none(why) {
             return self.refused(why);
         }
-        let kind = call_search::search::kind_asked(fcb[DR]);
-        let pattern = call_search::search::pattern_of(fcb);
         let search = KeptSearch {
-            kind,
+            kind: call_search::search::kind_asked(fcb[DR]),
             user: self.user,
             last: 0,
-            pattern,
+            pattern: call_search::search::pattern_of(fcb),
         };
-        let g = self.geometry;
-        let slot = hit(g, volume, buffer, search, 0);
+        let slot = hit(self.geometry, volume, buffer, search, 0);
         self.hit_reply(search, slot)
     }
 
@@ -123,12 +126,10 @@ impl Front {
             return self.refused(why);
         }
         let search = self.search;
-        let kind = search.kind;
-        if !is_open_search(kind) {
+        if !is_open_search(search.kind) {
             return self.refused(Refusal::NoMatch);
         }
-        let g = self.geometry;
-        let slot = hit(g, volume, buffer, search, search.last + 1);
+        let slot = hit(self.geometry, volume, buffer, search, search.last + 1);
         self.hit_reply(search, slot)
     }
 }

@@ -45,18 +45,20 @@ impl Front {
     pub fn is_open(self) -> bool
         ensures { (held : List ℕ) → result ≡ is_open (joined self held) }
     {
-        let g = self.geometry;
-        if !(g.is_lawful() & (self.user <= 15)) {
+        if !(self.geometry.is_lawful() & (self.user <= 15)) {
             return false;
         }
-        let q = self.search;
-        let kind = q.kind;
-        if !is_open_search(kind) {
+        let search = self.search;
+        if !is_open_search(search.kind) {
             return true;
         }
-        let pattern = q.pattern;
-        let n = g.slots();
-        is_kept(kind, q.user, q.last, &pattern, n)
+        is_kept(
+            search.kind,
+            search.user,
+            search.last,
+            &search.pattern,
+            self.geometry.slots(),
+        )
     }
 
     // Refused: the state as given.

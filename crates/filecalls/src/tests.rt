@@ -18,8 +18,7 @@ impl Front {
         if !self.is_open() {
             return Refusal::Closed;
         }
-        let g = self.geometry;
-        let a = call_answers::refuse(Refusal::VolumeLength, volume != g.bytes());
+        let a = call_answers::refuse(Refusal::VolumeLength, volume != self.geometry.bytes());
         let b = call_answers::refuse(Refusal::FcbLength, fcb != FCB_BYTES);
         let c = call_answers::refuse(Refusal::BufferLength, buffer != Geometry::RECORD_BYTES);
         call_answers::first_of(a, call_answers::first_of(b, c))

@@ -46,9 +46,20 @@ impl Front {
         if self.protected {
             return self.refused(Refusal::Protected);
         }
-        let g = self.geometry;
         let why = call_write::write::write_record(
-            g, fills, volume, fcb, buffer, again, low, high, self.user, held, n, cr, left,
+            self.geometry,
+            fills,
+            volume,
+            fcb,
+            buffer,
+            again,
+            low,
+            high,
+            self.user,
+            held,
+            n,
+            cr,
+            left,
         );
         self.answered(why, 0)
     }

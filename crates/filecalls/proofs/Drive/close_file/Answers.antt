@@ -7,4 +7,4 @@ use Rattle.filecalls.proofs.Drive.close_file.Goals as goal
 pub returns : goal.returns
 returns c =
     let a = c.args in
-    joined_left a.self c.joined.ensures c.front.ensures (λ (d : Drive). close_leaves d a.volume.now a.fcb.now) (c.close_file-reply.ensures a.self.held)
+    joined_left a.self c.joined.ensures c.front.ensures (λ (d : Drive). close_leaves d a.volume.now a.fcb.now) (c.close_file.ensures a.self.held)

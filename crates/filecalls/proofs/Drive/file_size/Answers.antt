@@ -7,4 +7,4 @@ use Rattle.filecalls.proofs.Drive.file_size.Goals as goal
 pub returns : goal.returns
 returns c =
     let a = c.args in
-    joined_left a.self c.joined.ensures c.front.ensures (λ (d : Drive). size_leaves d a.volume.now a.fcb.now) (c.file_size-reply.ensures a.self.held)
+    joined_left a.self c.joined.ensures c.front.ensures (λ (d : Drive). size_leaves d a.volume.now a.fcb.now) (c.file_size.ensures a.self.held)

@@ -7,4 +7,4 @@ use Rattle.filecalls.proofs.Drive.open_file.Goals as goal
 pub returns : goal.returns
 returns c =
     let a = c.args in
-    joined_left a.self c.joined.ensures c.front.ensures (λ (d : Drive). open_leaves d a.volume.now a.fcb.now) (c.open_file-reply.ensures a.self.held)
+    joined_left a.self c.joined.ensures c.front.ensures (λ (d : Drive). open_leaves d a.volume.now a.fcb.now) (c.open_file.ensures a.self.held)

@@ -7,4 +7,4 @@ use Rattle.filecalls.proofs.Drive.protect.Goals as goal
 pub returns : goal.returns
 returns c =
     let a = c.args in
-    joined_left a.self c.joined.ensures c.front.ensures (λ (d : Drive). protect_leaves d) (c.protect-reply.ensures a.self.held)
+    joined_left a.self c.joined.ensures c.front.ensures (λ (d : Drive). protect_leaves d) (c.protect.ensures a.self.held)

@@ -7,4 +7,4 @@ use Rattle.filecalls.proofs.Drive.read_random.Goals as goal
 pub returns : goal.returns
 returns c =
     let a = c.args in
-    joined_left a.self c.joined.ensures c.front.ensures (λ (d : Drive). read_random_leaves d a.volume.now a.fcb.now a.buffer.now) (c.read_random-reply.ensures a.self.held)
+    joined_left a.self c.joined.ensures c.front.ensures (λ (d : Drive). read_random_leaves d a.volume.now a.fcb.now a.buffer.now) (c.read_random.ensures a.self.held)

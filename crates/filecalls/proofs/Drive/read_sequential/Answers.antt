@@ -7,4 +7,4 @@ use Rattle.filecalls.proofs.Drive.read_sequential.Goals as goal
 pub returns : goal.returns
 returns c =
     let a = c.args in
-    joined_left a.self c.joined.ensures c.front.ensures (λ (d : Drive). read_sequential_leaves d a.volume.now a.fcb.now a.buffer.now) (c.read_sequential-reply.ensures a.self.held)
+    joined_left a.self c.joined.ensures c.front.ensures (λ (d : Drive). read_sequential_leaves d a.volume.now a.fcb.now a.buffer.now) (c.read_sequential.ensures a.self.held)

@@ -9,4 +9,4 @@ use Rattle.filecalls.proofs.Drive.rename.Goals as goal
 pub returns : goal.returns
 returns c =
     let a = c.args in
-    joined_whole a.self c.joined.ensures c.front.ensures a.volume.now a.fcb.now [] (λ (d : Drive). rename_act d a.volume.now a.fcb.now) (rename_enough a.self a.volume.now a.fcb.now) (c.rename_most-reply.ensures a.self.held)
+    joined_whole a.self c.joined.ensures c.front.ensures a.volume.now a.fcb.now [] (λ (d : Drive). rename_act d a.volume.now a.fcb.now) (rename_enough a.self a.volume.now a.fcb.now) (c.rename_most.ensures a.self.held)

@@ -7,4 +7,4 @@ use Rattle.filecalls.proofs.Drive.search_first.Goals as goal
 pub returns : goal.returns
 returns c =
     let a = c.args in
-    joined_left a.self c.joined.ensures c.front.ensures (λ (d : Drive). search_first_leaves d a.volume.now a.fcb.now a.buffer.now) (c.search_first-reply.ensures a.self.held)
+    joined_left a.self c.joined.ensures c.front.ensures (λ (d : Drive). search_first_leaves d a.volume.now a.fcb.now a.buffer.now) (c.search_first.ensures a.self.held)

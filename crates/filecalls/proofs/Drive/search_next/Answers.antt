@@ -7,4 +7,4 @@ use Rattle.filecalls.proofs.Drive.search_next.Goals as goal
 pub returns : goal.returns
 returns c =
     let a = c.args in
-    joined_left a.self c.joined.ensures c.front.ensures (λ (d : Drive). search_next_leaves d a.volume.now a.buffer.now) (c.search_next-reply.ensures a.self.held)
+    joined_left a.self c.joined.ensures c.front.ensures (λ (d : Drive). search_next_leaves d a.volume.now a.buffer.now) (c.search_next.ensures a.self.held)

@@ -7,4 +7,4 @@ use Rattle.filecalls.proofs.Drive.user_code.Goals as goal
 pub returns : goal.returns
 returns c =
     let a = c.args in
-    joined_left a.self c.joined.ensures c.front.ensures (λ (d : Drive). user_leaves d a.code) (c.user_code-reply.ensures a.self.held)
+    joined_left a.self c.joined.ensures c.front.ensures (λ (d : Drive). user_leaves d a.code) (c.user_code.ensures a.self.held)

@@ -18,13 +18,13 @@ returns-then-not-is_open_search c =
     (search_left _ c.is_lawful.ensures (ap not c.if-not-is_lawful-self.false)
     ∙ (let q = c.args.self.search in not_kept q.kind q.user q.last q.pattern) _ (sym c.is_open_search.ensures ∙ c.if-not-is_open_search.true))
 
-pub slots-n-requires : goal.slots-n-requires
-slots-n-requires c = sym c.is_lawful.ensures ∙ (and_parts c.is_lawful.result _ c.if-not-is_lawful-self.false).0
+pub slots-requires : goal.slots-requires
+slots-requires c = sym c.is_lawful.ensures ∙ (and_parts c.is_lawful.result _ c.if-not-is_lawful-self.false).0
 
 pub is_kept-requires : goal.is_kept-requires
 is_kept-requires c = (sym c.is_open_search.ensures ∙ c.if-not-is_open_search.false, search rules)
 
 pub returns : goal.returns
 returns c =
-    λ (held : List ℕ). c.is_kept.ensures ∙ ap (let q = c.args.self.search in good_kept q.kind q.user q.last q.pattern) c.slots-n.ensures.0
+    λ (held : List ℕ). c.is_kept.ensures ∙ ap (let q = c.args.self.search in good_kept q.kind q.user q.last q.pattern) c.slots.ensures.0
     ∙ sym (search_left _ c.is_lawful.ensures (ap not c.if-not-is_lawful-self.false))

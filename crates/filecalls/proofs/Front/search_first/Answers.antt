@@ -31,8 +31,8 @@ bounds-fcb-0 c =
     let passed : (held : List ℕ) → First (joined c.args.self held) c.args.volume.now c.args.fcb.now c.args.buffer.now = λ (held : List ℕ). first_passed _ _ _ _ (c.first_why-why.ensures held) c.is_none.ensures (ap not c.if-not-is_none.false) in
     omega (arith, (passed []).lent.fcb)
 
-pub pattern_of-pattern-requires : goal.pattern_of-pattern-requires
-pattern_of-pattern-requires c =
+pub pattern_of-requires : goal.pattern_of-requires
+pattern_of-requires c =
     let passed : (held : List ℕ) → First (joined c.args.self held) c.args.volume.now c.args.fcb.now c.args.buffer.now = λ (held : List ℕ). first_passed _ _ _ _ (c.first_why-why.ensures held) c.is_none.ensures (ap not c.if-not-is_none.false) in
     (passed []).lent.fcb
 
@@ -60,4 +60,4 @@ returns c =
     let q = new_search d f in
     let i = hit d.geometry v q 0 in
     rw (passes (first_lent d v f b) (test NoMatch (leb (slots d.geometry) i) ∷ []) (hit_act d v f q i) (passed held).none)
-    (rw (c.kind_asked-kind.ensures, c.pattern_of-pattern.ensures) at (c.hit_reply.ensures held v f b _ 0 c.hit-slot.ensures.value c.hit-slot.ensures.buffer_after))
+    (rw (c.kind_asked.ensures, c.pattern_of.ensures) at (c.hit_reply.ensures held v f b _ 0 c.hit-slot.ensures.value c.hit-slot.ensures.buffer_after))
