@@ -4,10 +4,11 @@ use mathlib.Core.List.{List, [], ◌∷◌}
 use Prim.Native.Nat.{ℕ, ◌+◌, ◌≤◌, ◌<◌}
 use native.Mathlib.Omega.{arith}
 use lib.ListN.{length}
+use Rattle.std.specs.Prelude.{Err}
 use borrow.Author.Tests.{eq-eqb, ne_eqb}
 use Rattle.disk_geometry.specs.declared.Geometry.{Geometry}
 use Rattle.shelf_figures.specs.declared.Shelf.{Shelf}
-use Rattle.shelf_figures.specs.declared.Shelved.TheVariants.{Outside}
+use Rattle.shelf_figures.specs.declared.ShelfRefusal.TheVariants.{Outside}
 use Rattle.shelf_figures.specs.declared.Added.{Added}
 use Rattle.shelf_figures.specs.Shelf.{bare, put}
 use Rattle.shelf_figures.specs.Order.{Within, Volume, shelve}
@@ -18,7 +19,7 @@ use Rattle.shelf_bytes.proofs.LayoutLaws.{round_trip}
 use Rattle.seam_shelf.specs.Shelf.{shelved_answer, shelf_sealed, shelved_in, shelf_at_seam, shelve_bytes, ShelfFaithful}
 
 module _ (g : Geometry) (v b : List ℕ) where
-  pub shelf_refused : {r : ℕ} → (length b ≡ 64 → ⊥) → r ≡ shelved_answer Outside → shelf_sealed r b v ≡ shelf_at_seam g v b
+  pub shelf_refused : {r : ℕ} → (length b ≡ 64 → ⊥) → r ≡ shelved_answer (Err Outside) → shelf_sealed r b v ≡ shelf_at_seam g v b
   unfolding shelf_at_seam
   shelf_refused n e = rw (ne_eqb (length b) 64 n, e)
 

@@ -1,16 +1,16 @@
 -- What `churawel_shelf` leaves, for every input: its answer as one number, and every lent byte; and that the shelf's bytes carry
 -- the figures from volume to volume.
-use Rattle.std.specs.Prelude.{◌≡◌, cond, List, [], ◌∷◌, ℕ, ◌+◌, ◌*◌, ◌≤◌, eqb, length, replicate}
+use Rattle.std.specs.Prelude.{◌≡◌, cond, List, [], ◌∷◌, ℕ, ◌+◌, ◌*◌, ◌≤◌, eqb, length, replicate, Result, Err}
 use Rattle.disk_geometry.specs.declared.Geometry.{Geometry}
-use Rattle.shelf_figures.specs.declared.Shelved.{Shelved}
-use Rattle.shelf_figures.specs.declared.Shelved.TheVariants.{Outside}
+use Rattle.shelf_figures.specs.declared.ShelfRefusal.{ShelfRefusal}
+use Rattle.shelf_figures.specs.declared.ShelfRefusal.TheVariants.{Outside}
 use Rattle.shelf_figures.specs.declared.Added.{Added}
 use Rattle.shelf_figures.specs.Shelf.{bare, shelved_number, shelved_value, most_volumes, put}
 use Rattle.shelf_figures.specs.Order.{Volume, shelve}
 use Rattle.shelf_bytes.specs.Layout.{shelf_bytes, encoded, decoded}
 
 -- the number in the low 16 bits, "what log-in answered" in the high 16
-unfoldable pub shelved_answer : Shelved → ℕ
+unfoldable pub shelved_answer : Result ℕ ShelfRefusal → ℕ
 shelved_answer a = shelved_number a + 65536 * shelved_value a
 
 -- the answer, and the bytes of shelf and volume
@@ -31,7 +31,7 @@ unfoldable pub shelf_at_seam : Geometry → List ℕ → List ℕ → ShelfSeale
 shelf_at_seam g v b =
     cond (eqb (length b) shelf_bytes)
     (shelf_sealed (shelved_answer (put (decoded b) g v).answer) (shelved_in (put (decoded b) g v) b) v)
-    (shelf_sealed (shelved_answer Outside) b v)
+    (shelf_sealed (shelved_answer (Err Outside)) b v)
 
 -- the bytes after one volume and another
 unfoldable pub shelve_bytes : List ℕ → List Volume → List ℕ

@@ -6,15 +6,15 @@ ghost use Rattle.disk_geometry.specs.Geometry.{geometry_of, with_placing};
 ghost use Rattle.shelf_bytes.specs.Layout.{shelf_bytes};
 ghost use Rattle.seam_shelf.specs.Shelf.{shelved_answer, shelf_sealed, shelved_in, shelf_at_seam};
 
-use seam_words::{geometry, wide};
+use seam_words::geometry;
 use shelf_bytes::SHELF_BYTES;
-use shelf_figures::{Added, Shelved};
+use shelf_figures::{Added, ShelfRefusal};
 
 // A shelf's answer as one number: its number in the low 16 bits, what log-in answered in the high 16.
-fn seal_shelved(a: Shelved) -> u32
+fn seal_shelved(a: Result<u8, ShelfRefusal>) -> u32
     ensures { result ≡ shelved_answer a }
 {
-    wide(shelf_figures::shelved_number(a)) + 65536 * wide(shelf_figures::shelved_value(a))
+    u32::from(shelf_figures::shelved_number(a)) + 65536 * u32::from(shelf_figures::shelved_value(a))
 }
 
 // Lays the shelf back where it counted the volume.
@@ -22,10 +22,8 @@ fn lay_shelved(added: Added, shelf: &mut [u8])
     requires { length shelf.old ≡ shelf_bytes }
     ensures { shelf.new ≡ shelved_in added shelf.old }
 {
-    let answer = added.answer;
-    let next = added.shelf;
-    if shelf_figures::shelved_number(answer) == 0 {
-        shelf_bytes::encode(next, shelf);
+    if added.answer.is_ok() {
+        shelf_bytes::encode(added.shelf, shelf);
     }
 }
 
@@ -43,12 +41,10 @@ pub fn put_volume(
         shelf.old }
 {
     if shelf.len() != SHELF_BYTES {
-        return seal_shelved(Shelved::Outside);
+        return seal_shelved(Err(ShelfRefusal::Outside));
     }
     let g = geometry(block_bytes, blocks, directory_blocks, placing);
-    let before = shelf_bytes::decode(shelf);
-    let added = before.put(g, volume);
+    let added = shelf_bytes::decode(shelf).put(g, volume);
     lay_shelved(added, shelf);
-    let answer = added.answer;
-    seal_shelved(answer)
+    seal_shelved(added.answer)
 }

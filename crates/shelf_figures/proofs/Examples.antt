@@ -3,14 +3,15 @@
 use mathlib.Core.Path.{◌≡◌, refl, ap}
 use mathlib.Core.List.{[], ◌∷◌}
 use Prim.Native.Nat.{ℕ}
+use Rattle.std.specs.Prelude.{Result, Ok, Err}
 use Rattle.disk_geometry.specs.Geometry.{lawful, geometry_of, bytes}
 use Rattle.call_answers.specs.Refusal.{first_met}
 use Rattle.filecalls.specs.LogIn.{log_in_tests, refused_log_in, log_in}
 use Rattle.shelf_holdings.proofs.Examples.{sizes, large, volume, written, large_disk, bad}
 use Rattle.shelf_holdings.proofs.Examples as volumes
 use Rattle.shelf_figures.specs.declared.Shelf.{Shelf}
-use Rattle.shelf_figures.specs.declared.Shelved.{Shelved}
-use Rattle.shelf_figures.specs.declared.Shelved.TheVariants.{Counted, Full, Outside}
+use Rattle.shelf_figures.specs.declared.ShelfRefusal.{ShelfRefusal}
+use Rattle.shelf_figures.specs.declared.ShelfRefusal.TheVariants.{Full, Outside}
 use Rattle.shelf_figures.specs.declared.Added.{Added}
 use Rattle.shelf_figures.specs.Shelf.{bare, plus, one, most_figure, put}
 use Rattle.shelf_figures.specs.Order.{Volume, shelve}
@@ -32,26 +33,26 @@ none = record { geometry = sizes; bytes = [] }
 abbrev pub both : ℕ → ℕ → Shelf
 both r n = record { refused = r; files = 1; entries = 2; records = 14; held = 3; free = 36; waste = 10; seen = n }
 
-abbrev pub after : Shelved → Shelf → Added
+abbrev pub after : Result ℕ ShelfRefusal → Shelf → Added
 after a s = record { answer = a; shelf = s }
 
 pub record Examples : Type 0 where
   -- a sound volume alone on the shelf
-  pub alone : put bare sizes (volume written) ≡ after (Counted 0) (both 0 1)
+  pub alone : put bare sizes (volume written) ≡ after (Ok 0) (both 0 1)
   -- fourteen records in three blocks, beside a volume that was refused
-  pub counted : put (refused 1) sizes (volume written) ≡ after (Counted 0) (record { refused = 1; files = 1; entries = 2; records = 14; held = 3; free = 36; waste = 10; seen = 2 })
+  pub counted : put (refused 1) sizes (volume written) ≡ after (Ok 0) (record { refused = 1; files = 1; entries = 2; records = 14; held = 3; free = 36; waste = 10; seen = 2 })
   -- a volume of another geometry beside it: 39 records in two blocks of 32, and one block free
-  pub two_kinds : put (both 0 1) large large_disk ≡ after (Counted 0) (record { refused = 0; files = 2; entries = 3; records = 53; held = 5; free = 37; waste = 35; seen = 2 })
+  pub two_kinds : put (both 0 1) large large_disk ≡ after (Ok 0) (record { refused = 0; files = 2; entries = 3; records = 53; held = 5; free = 37; waste = 35; seen = 2 })
   -- "the volumes refused at log-in": each is counted, and nothing of it
-  pub lawless : put bare (geometry_of 1000 40 1) [] ≡ after (Counted 32) (refused 1)
-  pub short : put bare sizes [] ≡ after (Counted 33) (refused 1)
-  pub one_byte : put bare sizes (229 ∷ []) ≡ after (Counted 33) (refused 1)
-  pub bad_slot_lem : put bare sizes (volume bad) ≡ after (Counted 36) (refused 1)
+  pub lawless : put bare (geometry_of 1000 40 1) [] ≡ after (Ok 32) (refused 1)
+  pub short : put bare sizes [] ≡ after (Ok 33) (refused 1)
+  pub one_byte : put bare sizes (229 ∷ []) ≡ after (Ok 33) (refused 1)
+  pub bad_slot_lem : put bare sizes (volume bad) ≡ after (Ok 36) (refused 1)
   -- "up to 65,535 volumes", "47 for the 65,536th"
-  pub last : put (refused 65534) sizes [] ≡ after (Counted 33) (refused 65535)
-  pub one_too_many : put (refused 65535) sizes (volume written) ≡ after Full (refused 65535)
+  pub last : put (refused 65534) sizes [] ≡ after (Ok 33) (refused 65535)
+  pub one_too_many : put (refused 65535) sizes (volume written) ≡ after (Err Full) (refused 65535)
   -- 32 comes before 47
-  pub outside : put (with_files 65535 most_figure) sizes [] ≡ after Outside (with_files 65535 most_figure)
+  pub outside : put (with_files 65535 most_figure) sizes [] ≡ after (Err Outside) (with_files 65535 most_figure)
   -- "their order makes no difference", and two shelves add up
   pub in_turn_lem : shelve bare (three ∷ (none ∷ [])) ≡ both 1 2
   pub other_turn : shelve bare (none ∷ (three ∷ [])) ≡ both 1 2

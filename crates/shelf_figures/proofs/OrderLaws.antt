@@ -6,8 +6,9 @@ use Prim.Native.Nat.{ℕ, suc, ◌+◌, ◌≤◌, ◌<◌}
 use native.Mathlib.Omega.{arith}
 use borrow.Author.Tests.{le-leb, lt-leb}
 use lib.ListN.{length}
+use Rattle.std.specs.Prelude.{Err}
 use Rattle.shelf_figures.specs.declared.Shelf.{Shelf}
-use Rattle.shelf_figures.specs.declared.Shelved.TheVariants.{Full}
+use Rattle.shelf_figures.specs.declared.ShelfRefusal.TheVariants.{Full}
 use Rattle.shelf_figures.specs.Shelf.{bare, plus, one, most_volumes, shelved_number, put}
 use Rattle.shelf_figures.specs.Order.{Within, Volume, shelve, total, Rearranged, nothing, then_same, exchanged, again, ShelfHolds}
 use Rattle.shelf_figures.proofs.ShelfLaws.{within_kept, one_within}
@@ -133,7 +134,7 @@ total_append (x ∷ xs) ys =
 within_shelf : (vs : List Volume) → length vs ≤ 65535 → Within (length vs) (shelve bare vs)
 within_shelf vs h = rw (figures vs h) (total_within vs)
 
-one_too_many : (vs : List Volume) (x : Volume) → length vs ≡ most_volumes → put (shelve bare vs) x.geometry x.bytes ≡ record { answer = Full; shelf = shelve bare vs }
+one_too_many : (vs : List Volume) (x : Volume) → length vs ≡ most_volumes → put (shelve bare vs) x.geometry x.bytes ≡ record { answer = Err Full; shelf = shelve bare vs }
 unfolding put
 one_too_many vs x e =
     let w = within_shelf vs (omega arith) in

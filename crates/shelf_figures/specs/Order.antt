@@ -1,10 +1,10 @@
 -- "Every figure is defined over the volumes' bytes, and their order makes no difference." For up to 65,535 volumes: with
 -- one more the figures before it depend on which came first.
-use Rattle.std.specs.Prelude.{◌≡◌, true, List, [], ◌∷◌, ◌++◌, ℕ, ◌+◌, ◌*◌, ◌≤◌, length}
+use Rattle.std.specs.Prelude.{◌≡◌, true, List, [], ◌∷◌, ◌++◌, ℕ, ◌+◌, ◌*◌, ◌≤◌, length, Err}
 use Rattle.disk_geometry.specs.declared.Geometry.{Geometry}
 use Rattle.shelf_holdings.specs.Sums.{most_of_volume}
 use Rattle.shelf_figures.specs.declared.Shelf.{Shelf}
-use Rattle.shelf_figures.specs.declared.Shelved.TheVariants.{Full}
+use Rattle.shelf_figures.specs.declared.ShelfRefusal.TheVariants.{Full}
 use Rattle.shelf_figures.specs.Shelf.{bare, plus, one, is_kept, most_volumes, put}
 
 pub record Volume : Type 0 where
@@ -53,4 +53,4 @@ pub record ShelfHolds : Type 0 where
   pub never_outside : (vs : List Volume) → length vs ≤ most_volumes → is_kept (shelve bare vs) ≡ true
   -- the 65,536th is answered with 47 and leaves the figures before it
   pub one_too_many : (vs : List Volume) (x : Volume) → length vs ≡ most_volumes
-      → put (shelve bare vs) x.geometry x.bytes ≡ record { answer = Full; shelf = shelve bare vs }
+      → put (shelve bare vs) x.geometry x.bytes ≡ record { answer = Err Full; shelf = shelve bare vs }

@@ -1,14 +1,14 @@
 -- "over up to 65,535 volumes, one after another, report the volumes refused at log-in, and over the others the files,
 -- entries, records present, blocks held, blocks free, and waste".
-use Rattle.std.specs.Prelude.{Bool, not, cond, ◌&&◌, List, [], ◌∷◌, ℕ, ◌+◌, leb, ltb}
+use Rattle.std.specs.Prelude.{Bool, not, cond, ◌&&◌, List, [], ◌∷◌, ℕ, ◌+◌, leb, ltb, Result, Ok, Err}
 use Rattle.disk_geometry.specs.declared.Geometry.{Geometry}
 use Rattle.call_answers.specs.Answer.{number_of, succeeded}
 use Rattle.filecalls.specs.LogIn.{log_in}
 use Rattle.shelf_holdings.specs.declared.Holdings.{Holdings}
 use Rattle.shelf_holdings.specs.Holdings.{holdings}
 use Rattle.shelf_figures.specs.declared.Shelf.{Shelf}
-use Rattle.shelf_figures.specs.declared.Shelved.{Shelved}
-use Rattle.shelf_figures.specs.declared.Shelved.TheVariants.{Counted, Full, Outside}
+use Rattle.shelf_figures.specs.declared.ShelfRefusal.{ShelfRefusal}
+use Rattle.shelf_figures.specs.declared.ShelfRefusal.TheVariants.{Full, Outside}
 use Rattle.shelf_figures.specs.declared.Added.{Added}
 
 -- no volume seen
@@ -74,19 +74,18 @@ abbrev pub most_volumes : ℕ
 most_volumes = 65535
 
 -- the number of an answer, and the value beside it: what log-in answered to a volume that was counted
-abbrev pub shelved_number : Shelved → ℕ
-shelved_number (Counted said) = 0
-shelved_number Full = 47
-shelved_number Outside = 32
+abbrev pub shelved_number : Result ℕ ShelfRefusal → ℕ
+shelved_number (Ok said) = 0
+shelved_number (Err Full) = 47
+shelved_number (Err Outside) = 32
 
-abbrev pub shelved_value : Shelved → ℕ
-shelved_value (Counted said) = said
-shelved_value Full = 0
-shelved_value Outside = 0
+abbrev pub shelved_value : Result ℕ ShelfRefusal → ℕ
+shelved_value (Ok said) = said
+shelved_value (Err why) = 0
 
 -- a volume put on a shelf: "47 for the 65,536th volume", which leaves the figures before it
 unfoldable pub put : Shelf → Geometry → List ℕ → Added
 put s g v =
-    cond (not (is_kept s)) (record { answer = Outside; shelf = s })
-    (cond (leb most_volumes s.seen) (record { answer = Full; shelf = s })
-    (record { answer = Counted (number_of (log_in g v).answer); shelf = plus s (one g v) }))
+    cond (not (is_kept s)) (record { answer = Err Outside; shelf = s })
+    (cond (leb most_volumes s.seen) (record { answer = Err Full; shelf = s })
+    (record { answer = Ok (number_of (log_in g v).answer); shelf = plus s (one g v) }))

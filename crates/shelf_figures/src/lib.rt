@@ -24,17 +24,17 @@ pub struct Shelf {
     pub seen: usize,
 }
 
-// The volume was counted, with the number that log-in answered; the shelf is full; its figures are outside the rules.
-#[derive(Clone, Copy)]
-pub enum Shelved {
-    Counted(u8),
+// Why a volume is not counted: the shelf is full; its figures are outside the rules.
+#[derive(Clone, Copy, PartialEq, Eq, Debug)]
+pub enum ShelfRefusal {
     Full,
     Outside,
 }
 
+// The number that log-in answered to a volume that was counted, or why it was not; and the shelf afterwards.
 #[derive(Clone, Copy)]
 pub struct Added {
-    pub answer: Shelved,
+    pub answer: Result<u8, ShelfRefusal>,
     pub shelf: Shelf,
 }
 
@@ -46,25 +46,21 @@ struct Looked {
 }
 
 // The paper's number of an answer.
-pub fn shelved_number(a: Shelved) -> u8
+pub fn shelved_number(a: Result<u8, ShelfRefusal>) -> u8
     ensures { result ≡ shelved_number a }
 {
     match a {
-        Shelved::Counted(_) => 0,
-        Shelved::Full => 47,
-        Shelved::Outside => 32,
+        Ok(_) => 0,
+        Err(ShelfRefusal::Full) => 47,
+        Err(ShelfRefusal::Outside) => 32,
     }
 }
 
 // The value beside it.
-pub fn shelved_value(a: Shelved) -> u8
+pub fn shelved_value(a: Result<u8, ShelfRefusal>) -> u8
     ensures { result ≡ shelved_value a }
 {
-    match a {
-        Shelved::Counted(said) => said,
-        Shelved::Full => 0,
-        Shelved::Outside => 0,
-    }
+    a.unwrap_or(0)
 }
 
 fn refused_one() -> Shelf
@@ -102,16 +98,19 @@ fn look(g: Geometry, volume: &[u8]) -> Looked
     ensures said_value { result.said ≡ number_of (log_in g volume.now).answer }
     ensures alone_value { result.alone ≡ one g volume.now }
 {
-    let reply = Drive::log_in(g, volume);
-    let answer = reply.answer;
+    let answer = Drive::log_in(g, volume).answer;
     let said = call_answers::number(answer);
     if !call_answers::succeeded(answer) {
-        let alone = refused_one();
-        return Looked { said, alone };
+        return Looked {
+            said,
+            alone: refused_one(),
+        };
     }
     let stock = shelf_holdings::take_stock(g, volume, call_answers::value(answer));
-    let alone = accepted_one(stock);
-    Looked { said, alone }
+    Looked {
+        said,
+        alone: accepted_one(stock),
+    }
 }
 
 impl Shelf {
@@ -173,22 +172,20 @@ impl Shelf {
     {
         if !self.is_kept() {
             return Added {
-                answer: Shelved::Outside,
+                answer: Err(ShelfRefusal::Outside),
                 shelf: self,
             };
         }
         if Shelf::VOLUMES <= self.seen {
             return Added {
-                answer: Shelved::Full,
+                answer: Err(ShelfRefusal::Full),
                 shelf: self,
             };
         }
         let looked = look(g, volume);
-        let alone = looked.alone;
-        let shelf = self.plus(alone);
         Added {
-            answer: Shelved::Counted(looked.said),
-            shelf,
+            answer: Ok(looked.said),
+            shelf: self.plus(looked.alone),
         }
     }
 }

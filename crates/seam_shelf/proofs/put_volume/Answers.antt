@@ -12,4 +12,4 @@ pub returns : goal.returns
 returns c =
     let a = c.args in
     rw (← c.geometry-g.ensures)
-    (shelf_done _ a.volume.now a.shelf.now c.if-shelf-ne-SHELF_BYTES.false c.decode-before.ensures c.put-added.ensures c.lay_shelved.ensures c.seal_shelved-2.ensures)
+    (shelf_done _ a.volume.now a.shelf.now c.if-shelf-ne-SHELF_BYTES.false c.decode.ensures c.put-added.ensures c.lay_shelved.ensures c.seal_shelved-2.ensures)

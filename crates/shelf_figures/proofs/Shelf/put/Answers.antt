@@ -17,8 +17,8 @@ returns-then-self-ge-VOLUMES c =
     let self_kept : is_kept c.args.self ≡ true = sym c.is_kept.ensures ∙ c.if-not-is_kept.false in
     rw (self_kept, le-leb _ _ c.if-self-ge-VOLUMES.true)
 
-pub plus-shelf-requires : goal.plus-shelf-requires
-plus-shelf-requires c =
+pub plus-requires : goal.plus-requires
+plus-requires c =
     let self_kept : is_kept c.args.self ≡ true = sym c.is_kept.ensures ∙ c.if-not-is_kept.false in
     let alone_kept : is_kept (one c.args.g c.args.volume.now) ≡ true = within_kept 1 _ (omega arith) (one_within _ _) in
     (self_kept, rw c.look-looked.ensures.alone_value alone_kept)
@@ -27,4 +27,4 @@ pub returns : goal.returns
 unfolding put
 returns c =
     let self_kept : is_kept c.args.self ≡ true = sym c.is_kept.ensures ∙ c.if-not-is_kept.false in
-    rw (self_kept, lt-leb _ _ c.if-self-ge-VOLUMES.false, c.plus-shelf.ensures, c.look-looked.ensures.said_value, c.look-looked.ensures.alone_value)
+    rw (self_kept, lt-leb _ _ c.if-self-ge-VOLUMES.false, c.plus.ensures, c.look-looked.ensures.said_value, c.look-looked.ensures.alone_value)
