@@ -2,7 +2,7 @@
 // the run has changed, and the number of calls.
 #![tactic(auto)]
 
-ghost use Rattle.std.specs.Prelude.{◌≡◌, ◌-◌, ◌≤◌, min, length};
+ghost use Rattle.std.specs.Prelude.{◌≡◌, ◌-◌, ◌≤◌, length};
 ghost use Rattle.lists.specs.Bytes.{part};
 ghost use Rattle.replay_script.specs.Layout.{longest_volume};
 
@@ -12,12 +12,14 @@ use replay_script::layout::{HEADER_BYTES, LONGEST_CALL, LONGEST_VOLUME};
 use replay_script::{Header, Next, window};
 use replay_transcript::{lines, records};
 use std::io::{Read, Write};
+use text::Writer;
 
 // The window on the script has room for three of the longest calls.
 const WINDOW_BYTES: usize = 262144;
 
-// `out` is written to standard output where it has FULL bytes, before more is appended. What is appended in one go, the
-// longest line of a call (131,597 bytes) or STRETCH records (68,864 bytes), then has room in it, the last two lines too.
+// The transcript is written to standard output where FULL bytes of it stand in its buffer, before more is appended. What is
+// appended in one go, the longest line of a call (131,597 bytes) or STRETCH records (68,864 bytes), then has room there, the
+// last two lines too.
 const OUT_BYTES: usize = 262144;
 
 const FULL: usize = 130000;
@@ -32,40 +34,30 @@ struct Unread {
     ended: bool,
 }
 
-// What stands between two calls, and whether the script goes on.
+// What stands between two calls.
 #[derive(Clone, Copy)]
 struct Run {
     drive: Drive,
-    from: usize,
-    to: usize,
-    ended: bool,
-    at: usize,
-    more: bool,
-    bad: bool,
+    unread: Unread,
 }
 
-// How a run ended.
+// A script that can't be read on after so many calls.
 #[derive(Clone, Copy)]
-struct Stop {
+struct BadScript {
     calls: usize,
-    at: usize,
-    bad: bool,
 }
 
-// Writes the first `at` bytes of out.
-fn flush<W: Write>(to: &mut W, out: &[u8], at: usize) {
-    if at <= out.len() {
-        let _ = to.write_all(&out[0..at]);
-    }
+// Writes what has been appended, and makes room for more.
+fn flush<W: Write>(to: &mut W, w: &mut Writer<'_>) {
+    let _ = to.write_all(w.as_slice());
+    w.clear();
 }
 
-// Makes room in out, and says where to go on.
-fn make_room<W: Write>(to: &mut W, out: &[u8], at: usize) -> usize {
-    if at < FULL {
-        return at;
+// Makes room where much has been appended.
+fn make_room<W: Write>(to: &mut W, w: &mut Writer<'_>) {
+    if FULL <= w.at() {
+        flush(to, w);
     }
-    flush(to, out, at);
-    0
 }
 
 // Reads on behind the bytes that are not read yet; they stay what they were.
@@ -86,21 +78,17 @@ fn fill<R: Read>(input: &mut R, window: &mut [u8], from: usize, to: usize) -> Un
 }
 
 // A whole call stands in the window, or all that is left; what was not read yet stays what it was.
-fn refill<R: Read>(input: &mut R, window: &mut [u8], run: Run) -> Unread
-    requires { (run.from ≤ run.to) × (run.to ≤ length window.old) }
+fn refill<R: Read>(input: &mut R, window: &mut [u8], unread: Unread) -> Unread
+    requires { (unread.from ≤ unread.to) × (unread.to ≤ length window.old) }
     ensures from_le_to { (result.from ≤ result.to) × (result.to ≤ length window.new) }
-    ensures from_after { part window.new result.from (run.to - run.from)
-        ≡ part window.old run.from (run.to - run.from) }
+    ensures from_after { part window.new result.from (unread.to - unread.from)
+        ≡ part window.old unread.from (unread.to - unread.from) }
 {
-    let enough = LONGEST_CALL <= run.to - run.from;
-    if enough | run.ended {
-        return Unread {
-            from: run.from,
-            to: run.to,
-            ended: run.ended,
-        };
+    let enough = LONGEST_CALL <= unread.to - unread.from;
+    if enough | unread.ended {
+        return unread;
     }
-    fill(input, window, run.from, run.to)
+    fill(input, window, unread.from, unread.to)
 }
 
 // Does the call that stands next, or finds that there is none.
@@ -110,128 +98,90 @@ fn turn(
     run: Run,
     window: &mut [u8],
     volume: &mut [u8],
-    out: &mut [u8],
-) -> Run
-    requires { (run.from ≤ run.to) × (run.to ≤ length window.old) }
-    ensures { (result.from ≤ result.to) × (result.to ≤ length window.new) }
+    w: &mut Writer<'_>,
+) -> (Run, Next)
+    requires { (run.unread.from ≤ run.unread.to) × (run.unread.to ≤ length window.old) }
+    ensures { (result.0.unread.from ≤ result.0.unread.to) × (result.0.unread.to ≤ length window.new) }
 {
-    let u = refill(&mut rt.stdin(), window, run);
-    let from = u.from;
-    let to = u.to;
-    let at = make_room(&mut rt.stdout(), out, run.at);
-    let before = run.drive;
-    let t = replay_turn::take_turn(g, before, &mut window[from..to], volume, out, at);
-    let next = t.next;
-    let drive = t.drive;
-    Run {
-        drive,
-        from: from + t.used,
-        to,
+    let u = refill(&mut rt.stdin(), window, run.unread);
+    make_room(&mut rt.stdout(), w);
+    let t = replay_turn::take_turn(g, run.drive, &mut window[u.from..u.to], volume, w);
+    let unread = Unread {
+        from: u.from + t.used,
+        to: u.to,
         ended: u.ended,
-        at: t.at,
-        more: is_call(next),
-        bad: is_bad(next),
-    }
+    };
+    (
+        Run {
+            drive: t.drive,
+            unread,
+        },
+        t.next,
+    )
 }
 
-fn is_call(next: Next) -> bool {
-    match next {
-        Next::End => false,
-        Next::Bad => false,
-        Next::Call(_) => true,
-    }
-}
-
-fn is_bad(next: Next) -> bool {
-    match next {
-        Next::End => false,
-        Next::Bad => true,
-        Next::Call(_) => false,
-    }
-}
-
-// Nothing read, nothing written, no log-in.
+// Nothing read, no log-in.
 fn start() -> Run
-    ensures { (result.from ≡ 0) × (result.to ≡ 0) }
+    ensures { (result.unread.from ≡ 0) × (result.unread.to ≡ 0) }
 {
-    let drive = Drive::closed();
-    Run {
-        drive,
+    let unread = Unread {
         from: 0,
         to: 0,
         ended: false,
-        at: 0,
-        more: true,
-        bad: false,
+    };
+    Run {
+        drive: Drive::closed(),
+        unread,
     }
 }
 
-// All calls, one after the other.
+// All calls, one after the other, and how many they were.
 fn run_all(
     rt: &HostRuntime,
     g: Geometry,
     window: &mut [u8],
     volume: &mut [u8],
-    out: &mut [u8],
-) -> Stop {
+    w: &mut Writer<'_>,
+) -> Result<usize, BadScript> {
     let mut run = start();
-    let mut calls = 0;
-    while calls < usize::MAX {
-        let next = turn(rt, g, run, window, volume, out);
-        run = next;
-        if !run.more {
-            break;
+    for calls in 0..usize::MAX {
+        let (then, next) = turn(rt, g, run, window, volume, w);
+        match next {
+            Next::End => return Ok(calls),
+            Next::Bad => return Err(BadScript { calls }),
+            Next::Call(_) => run = then,
         }
-        calls += 1;
     }
-    Stop {
-        calls,
-        at: run.at,
-        bad: run.bad,
-    }
-}
-
-// The smaller number.
-fn least(a: usize, b: usize) -> usize
-    ensures { result ≡ min a b }
-{
-    if a < b { a } else { b }
+    Ok(usize::MAX)
 }
 
 // The records that have changed, STRETCH at a time.
-fn put_changes<W: Write>(
-    to: &mut W,
-    given: &[u8],
-    volume: &[u8],
-    out: &mut [u8],
-    at: usize,
-) -> usize {
+fn put_changes<W: Write>(to: &mut W, given: &[u8], volume: &[u8], w: &mut Writer<'_>) {
     let n = records::records_of(volume.len());
-    let mut p = at;
-    let mut q = 0;
-    while q < n {
-        let room = make_room(to, out, p);
-        let next = q + least(STRETCH, n - q);
-        p = records::put_records(out, room, given, volume, q, next);
-        q = next;
+    for q in (0..n).step_by(STRETCH) {
+        make_room(to, w);
+        records::put_records(w, given, volume, q, n.min(q.saturating_add(STRETCH)));
     }
-    p
-}
-
-// A bad script gets its line.
-fn put_bad(out: &mut [u8], stop: Stop) -> usize {
-    if stop.bad {
-        return lines::put_bad(out, stop.at, stop.calls);
-    }
-    stop.at
 }
 
 // The lines behind those of the calls.
-fn finish<W: Write>(to: &mut W, given: &[u8], volume: &[u8], out: &mut [u8], stop: Stop) {
-    let a = put_bad(out, stop);
-    let b = put_changes(to, given, volume, out, a);
-    let c = lines::put_end(out, b, stop.calls);
-    flush(to, out, c);
+fn finish<W: Write>(
+    to: &mut W,
+    given: &[u8],
+    volume: &[u8],
+    w: &mut Writer<'_>,
+    ran: Result<usize, BadScript>,
+) {
+    let calls = match ran {
+        Ok(calls) => calls,
+        Err(bad) => {
+            lines::put_bad(w, bad.calls);
+            bad.calls
+        }
+    };
+    put_changes(to, given, volume, w);
+    lines::put_end(w, calls);
+    flush(to, w);
 }
 
 // The run over a volume that was read whole.
@@ -241,40 +191,47 @@ fn replay(
     window: &mut [u8],
     given: &[u8],
     volume: &mut [u8],
-    out: &mut [u8],
+    w: &mut Writer<'_>,
 )
     requires { length volume.old ≡ length given.now }
 {
-    lists::copy(volume, given);
-    let stop = run_all(rt, g, window, volume, out);
-    finish(&mut rt.stdout(), given, volume, out, stop);
+    volume.copy_from_slice(given);
+    let ran = run_all(rt, g, window, volume, w);
+    finish(&mut rt.stdout(), given, volume, w, ran);
 }
 
 // No header or no volume: no call is done, and there is no record to show.
-fn refuse<W: Write>(to: &mut W, out: &mut [u8]) {
-    let a = lines::put_bad(out, 0, 0);
-    let b = lines::put_end(out, a, 0);
-    flush(to, out, b);
+fn refuse<W: Write>(to: &mut W, w: &mut Writer<'_>) {
+    lines::put_bad(w, 0);
+    lines::put_end(w, 0);
+    flush(to, w);
 }
 
 // Reads the volume.
 fn with_header(
     rt: &HostRuntime,
-    g: Geometry,
-    n: usize,
+    header: Header,
     window: &mut [u8],
     given: &mut [u8],
     volume: &mut [u8],
-    out: &mut [u8],
+    w: &mut Writer<'_>,
 )
-    requires { (n ≤ length given.old) × (length volume.old ≡ length given.old) }
+    requires { (header.volume_bytes ≤ length given.old) × (length volume.old ≡ length given.old) }
 {
+    let n = header.volume_bytes;
     let got = streams::read_full(&mut rt.stdin(), &mut given[0..n]);
     if got < n {
-        refuse(&mut rt.stdout(), out);
+        refuse(&mut rt.stdout(), w);
         return;
     }
-    replay(rt, g, window, &given[0..n], &mut volume[0..n], out);
+    replay(
+        rt,
+        header.geometry,
+        window,
+        &given[0..n],
+        &mut volume[0..n],
+        w,
+    );
 }
 
 // Reads the header.
@@ -283,15 +240,15 @@ fn with_script(
     window: &mut [u8],
     given: &mut [u8],
     volume: &mut [u8],
-    out: &mut [u8],
+    w: &mut Writer<'_>,
 )
     requires { (longest_volume ≤ length given.old) × (length volume.old ≡ length given.old) }
 {
     let mut head = [0u8; HEADER_BYTES];
     let got = streams::read_full(&mut rt.stdin(), &mut head);
     match replay_script::header_of(&head[..got]) {
-        Header::Bad => refuse(&mut rt.stdout(), out),
-        Header::Good(g, n) => with_header(rt, g, n, window, given, volume, out),
+        Some(header) => with_header(rt, header, window, given, volume, w),
+        None => refuse(&mut rt.stdout(), w),
     }
 }
 
@@ -303,7 +260,7 @@ fn with_arrays(
     volume: &mut [u8; LONGEST_VOLUME],
     out: &mut [u8; OUT_BYTES],
 ) {
-    with_script(rt, window, given, volume, out);
+    with_script(rt, window, given, volume, &mut Writer::new(out, 0));
 }
 
 fn main(rt: HostRuntime) {

@@ -1,13 +1,12 @@
 -- Laws of windows: how bytes move to the front, and that a window with room for the longest call is enough to know the next.
-use mathlib.Core.Path.{◌≡◌, sym, ap, ◌∙◌}
+use mathlib.Core.Path.{◌≡◌, ap, ◌∙◌}
 use mathlib.Core.Logic.{inl}
 use mathlib.Core.List.{List, ◌++◌}
 use Prim.Native.Nat.{ℕ, ◌+◌, ◌-◌, ◌<◌, ◌≤◌}
 use native.Mathlib.Nat.{zero-add}
-use native.Mathlib.Numerals.{add-one}
 use native.Mathlib.Omega.{arith}
-use lib.ListN.{length, get_or, set, take, drop, length-append, length-drop, get_or-append}
-use lib.Seq.{paste, paste-suc, length-take-le, get_or-append-add, get_or-drop, take-append-le, drop-append-le}
+use lib.ListN.{length, drop, length-append, length-drop, get_or-append}
+use lib.Seq.{paste, take-append-le, drop-append-le}
 use borrow.Author.Tests.{le-leb, lt-leb, ne_eqb}
 use Rattle.lists.specs.Bytes.{byte, part, put}
 use Rattle.lists.proofs.PartLaws.{length_part, part_put, part_apart}

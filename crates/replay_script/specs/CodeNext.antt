@@ -1,14 +1,13 @@
 -- What code knows of the numbers that it has read: no header's volume is too long, and a call's bytes are there.
-use Rattle.std.specs.Prelude.{ℕ, ◌≤◌}
+use Rattle.std.specs.Prelude.{Option, Some, None, ℕ, ◌≤◌}
 use Rattle.replay_script.specs.declared.Header.{Header}
 use Rattle.replay_script.specs.declared.Next.{Next}
-use Rattle.replay_script.specs.declared.Header.TheVariants as header
 use Rattle.replay_script.specs.declared.Next.TheVariants as next
 use Rattle.replay_script.specs.Layout.{longest_volume, call_bytes, longest_fcb, longest_buffer}
 
-abbrev pub AtMost : Header → Type 0
-AtMost (header.Good g n) = n ≤ longest_volume
-AtMost header.Bad = Unit
+abbrev pub AtMost : Option Header → Type 0
+AtMost (Some h) = h.volume_bytes ≤ longest_volume
+AtMost None = Unit
 
 -- how many bytes of the script it takes, and that they are there
 abbrev pub used_by : Next → ℕ

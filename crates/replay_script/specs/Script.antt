@@ -1,5 +1,5 @@
 -- The script: a header with a volume, then one call after the other; `Layout` says where their fields stand.
-use Rattle.std.specs.Prelude.{Bool, cond, ◌&&◌, ◌||◌, List, ℕ, leb, eqb, length}
+use Rattle.std.specs.Prelude.{Option, Some, None, Bool, cond, ◌&&◌, ◌||◌, List, ℕ, leb, eqb, length}
 use Rattle.disk_geometry.specs.Geometry.{geometry_of, with_placing}
 use Rattle.lists.specs.Bytes.{byte, part}
 use Rattle.disk_geometry.specs.declared.Geometry.{Geometry}
@@ -11,7 +11,6 @@ use Rattle.replay_script.specs.declared.Next.{Next}
 use Rattle.numbers.specs.Numbers.{two, four}
 use Rattle.replay_script.specs.Layout.{b_at, t_at, d_at, placing_at, l_at, header_bytes, longest_volume, function_at, parameter_at, f_at, fcb_at, k_at, buffer_at, call_bytes, touch}
 use Rattle.replay_script.specs.Lends.{is_served}
-use Rattle.replay_script.specs.declared.Header.TheVariants as header
 use Rattle.replay_script.specs.declared.Next.TheVariants as next
 
 -- "13 and 37 log in with the header's geometry"
@@ -19,9 +18,9 @@ abbrev pub geometry_in : List ℕ → Geometry
 geometry_in s = with_placing (geometry_of (two s b_at) (two s t_at) (byte s d_at)) (byte s placing_at)
 
 -- a header that is cut off, or whose volume is too long, is bad
-unfoldable pub header_of : List ℕ → Header
+unfoldable pub header_of : List ℕ → Option Header
 header_of s =
-    cond (leb header_bytes (length s) && leb (four s l_at) longest_volume) (header.Good (geometry_in s) (four s l_at)) header.Bad
+    cond (leb header_bytes (length s) && leb (four s l_at) longest_volume) (Some (record { geometry = geometry_in s; volume_bytes = four s l_at })) None
 
 -- F and K of the call that stands at the start of s, and how long the call is
 abbrev pub fcb_length : List ℕ → ℕ

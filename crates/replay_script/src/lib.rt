@@ -16,11 +16,11 @@ pub mod layout;
 pub mod lending;
 pub mod window;
 
-// What the header says: a geometry and the volume's length, or nothing of use.
+// What the header says: a geometry and the volume's length.
 #[derive(Clone, Copy)]
-pub enum Header {
-    Good(Geometry, usize),
-    Bad,
+pub struct Header {
+    pub geometry: Geometry,
+    pub volume_bytes: usize,
 }
 
 // The start of a call: function, parameter, and how many bytes are lent as control block and as buffer.
@@ -40,23 +40,26 @@ pub enum Next {
     Call(Head),
 }
 
-// The header at the start of s.
-pub fn header_of(s: &[u8]) -> Header
+// The header at the start of s; None where it is cut off, or its volume is too long.
+pub fn header_of(s: &[u8]) -> Option<Header>
     ensures value { result ≡ header_of s.now }
     ensures at_most { AtMost result }
 {
-    let length = numbers::four_at(s, L_AT);
-    let good = (HEADER_BYTES <= s.len()) & (length <= LONGEST_VOLUME);
+    let volume_bytes = numbers::four_at(s, L_AT);
+    let good = (HEADER_BYTES <= s.len()) & (volume_bytes <= LONGEST_VOLUME);
     if !good {
-        return Header::Bad;
+        return None;
     }
     let geometry = Geometry {
         block_bytes: numbers::two_at(s, B_AT),
         blocks: numbers::two_at(s, T_AT),
-        directory_blocks: lists::wide(numbers::byte_at(s, D_AT)),
-        placing: lists::wide(numbers::byte_at(s, PLACING_AT)),
+        directory_blocks: usize::from(numbers::byte_at(s, D_AT)),
+        placing: usize::from(numbers::byte_at(s, PLACING_AT)),
     };
-    Header::Good(geometry, length)
+    Some(Header {
+        geometry,
+        volume_bytes,
+    })
 }
 
 // May a script have this number?
@@ -71,12 +74,12 @@ pub fn next_of(s: &[u8]) -> Next
     ensures value { result ≡ next_of s.now }
     ensures within { Within (length s.now) result }
 {
-    if s.len() == 0 {
+    if s.is_empty() {
         return Next::End;
     }
     let function = numbers::byte_at(s, FUNCTION_AT);
     let parameter = numbers::byte_at(s, PARAMETER_AT);
-    let fcb = lists::wide(numbers::byte_at(s, F_AT));
+    let fcb = usize::from(numbers::byte_at(s, F_AT));
     let buffer = numbers::two_at(s, FCB_AT + fcb);
     let good = (HEAD_BYTES + fcb + buffer <= s.len()) & is_known(function);
     if !good {
@@ -94,5 +97,5 @@ pub fn next_of(s: &[u8]) -> Next
 pub fn offset_of(fcb: &[u8]) -> usize
     ensures { result ≡ three fcb.now 0 }
 {
-    numbers::two_at(fcb, 0) + 65536 * lists::wide(numbers::byte_at(fcb, 2))
+    numbers::two_at(fcb, 0) + 65536 * usize::from(numbers::byte_at(fcb, 2))
 }

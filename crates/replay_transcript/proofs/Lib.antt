@@ -1,4 +1,3 @@
 -- Laws of hex, of lines and of records.
 pub mod HexLaws
-pub mod LineLaws
 pub mod RecordLaws

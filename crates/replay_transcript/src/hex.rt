@@ -1,7 +1,9 @@
 // Bytes in hex, appended to a lent buffer.
 ghost use Rattle.std.specs.Prelude.{◌≡◌, ◌<◌};
-ghost use Rattle.text.specs.Text.{text, puts};
+ghost use Rattle.text.specs.Writer.{Appends};
 ghost use Rattle.replay_transcript.specs.Hex.{hex_digit, hex};
+
+use text::Writer;
 
 // One digit, in capitals.
 fn digit(n: u8) -> u8
@@ -12,13 +14,11 @@ fn digit(n: u8) -> u8
 }
 
 // The bytes of s, two digits each.
-pub fn put_hex(out: &mut [u8], at: usize, s: &[u8]) -> usize
-    ensures { text out.new result ≡ puts (text out.old at) (hex s.now) }
+pub fn put_hex(w: &mut Writer<'_>, s: &[u8])
+    ensures { Appends w.old (hex s.now) w.new }
 {
-    let mut p = at;
     for b in s {
-        let q = text::put_byte(out, p, digit(*b / 16));
-        p = text::put_byte(out, q, digit(*b % 16));
+        w.byte(digit(*b / 16));
+        w.byte(digit(*b % 16));
     }
-    p
 }

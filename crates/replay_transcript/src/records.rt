@@ -1,10 +1,11 @@
 // The records that a run has changed, appended to a lent buffer.
 ghost use Rattle.std.specs.Prelude.{◌≡◌, ◌-◌};
-ghost use Rattle.text.specs.Text.{text, puts};
+ghost use Rattle.text.specs.Writer.{Appends};
 ghost use Rattle.replay_transcript.specs.Records.{record_of, records_of, changed_line, record_line, record_lines};
 
 use crate::hex;
 use disk_geometry::Geometry;
+use text::Writer;
 
 // How many records a volume of n bytes has; a shorter last piece counts as one.
 pub fn records_of(n: usize) -> usize
@@ -25,45 +26,32 @@ fn record(s: &[u8], q: usize) -> &[u8]
 }
 
 // A changed record.
-fn put_changed(out: &mut [u8], at: usize, q: usize, s: &[u8]) -> usize
-    ensures { text out.new result
-        ≡ puts (text out.old at) (changed_line q s.now) }
+fn put_changed(w: &mut Writer<'_>, q: usize, s: &[u8])
+    ensures { Appends w.old (changed_line q s.now) w.new }
 {
-    let a = text::put_bytes(out, at, b"RECORD ");
-    let b = text::put_decimal(out, a, q);
-    let c = text::put_byte(out, b, b' ');
-    let d = hex::put_hex(out, c, s);
-    text::put_byte(out, d, b'\n')
+    w.bytes(b"RECORD ");
+    w.decimal(q);
+    w.byte(b' ');
+    hex::put_hex(w, s);
+    w.byte(b'\n');
 }
 
 // Record q, where it has changed.
-fn put_record(out: &mut [u8], at: usize, given: &[u8], volume: &[u8], q: usize) -> usize
-    ensures { text out.new result
-        ≡ puts (text out.old at) (record_line given.now volume.now q) }
+fn put_record(w: &mut Writer<'_>, given: &[u8], volume: &[u8], q: usize)
+    ensures { Appends w.old (record_line given.now volume.now q) w.new }
 {
     let was = record(given, q);
     let is = record(volume, q);
-    if was == is {
-        return at;
+    if was != is {
+        put_changed(w, q, is);
     }
-    put_changed(out, at, q, is)
 }
 
 // The records from `from` to before `to`.
-pub fn put_records(
-    out: &mut [u8],
-    at: usize,
-    given: &[u8],
-    volume: &[u8],
-    from: usize,
-    to: usize,
-) -> usize
-    ensures { text out.new result
-        ≡ puts (text out.old at) (record_lines given.now volume.now from (to - from)) }
+pub fn put_records(w: &mut Writer<'_>, given: &[u8], volume: &[u8], from: usize, to: usize)
+    ensures { Appends w.old (record_lines given.now volume.now from (to - from)) w.new }
 {
-    let mut p = at;
     for q in from..to {
-        p = put_record(out, p, given, volume, q);
+        put_record(w, given, volume, q);
     }
-    p
 }

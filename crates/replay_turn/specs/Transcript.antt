@@ -1,5 +1,5 @@
 -- The whole transcript of a script: the header, the calls one after the other, then what they have changed.
-use Rattle.std.specs.Prelude.{cond, List, [], ◌++◌, ℕ, zero, suc, ◌+◌, leb, length, drop}
+use Rattle.std.specs.Prelude.{Option, Some, None, cond, List, [], ◌++◌, ℕ, zero, suc, ◌+◌, leb, length, drop}
 use Rattle.lists.specs.Bytes.{part}
 use Rattle.disk_geometry.specs.declared.Geometry.{Geometry}
 use Rattle.filecalls.specs.declared.Drive.{Drive}
@@ -11,7 +11,6 @@ use Rattle.replay_script.specs.Script.{header_of, call_length, next_of, call_at}
 use Rattle.replay_transcript.specs.Lines.{bad_line, end_line}
 use Rattle.replay_transcript.specs.Records.{records_of, record_lines}
 use Rattle.replay_turn.specs.Play.{played, line_of}
-use Rattle.replay_script.specs.declared.Header.TheVariants as header
 use Rattle.replay_script.specs.declared.Next.TheVariants as next
 
 -- what a run of calls shows and leaves: its lines, the volume, how many calls were done
@@ -43,12 +42,13 @@ ended given r = r.lines ++ record_lines given r.volume 0 (records_of (length r.v
 abbrev pub no_volume : List ℕ
 no_volume = bad_line 0 ++ end_line 0
 
-abbrev pub transcript_by : Header → List ℕ → List ℕ
-transcript_by header.Bad s = no_volume
-transcript_by (header.Good g l) s =
+abbrev pub transcript_by : Option Header → List ℕ → List ℕ
+transcript_by None s = no_volume
+transcript_by (Some h) s =
+    let l = h.volume_bytes in
     let given = part s header_bytes l in
     let calls = drop (header_bytes + l) s in
-    cond (leb (header_bytes + l) (length s)) (ended given (run_from g (length calls) 0 calls closed given)) no_volume
+    cond (leb (header_bytes + l) (length s)) (ended given (run_from h.geometry (length calls) 0 calls closed given)) no_volume
 
 unfoldable pub transcript : List ℕ → List ℕ
 transcript s = transcript_by (header_of s) s

@@ -4,7 +4,7 @@
 ghost use Rattle.std.specs.Prelude.{◌≡◌, ◌≤◌, length};
 ghost use Rattle.filecalls.specs.Outcome.{left};
 ghost use Rattle.call_served.specs.Asked.{asked};
-ghost use Rattle.text.specs.Text.{text};
+ghost use Rattle.text.specs.Writer.{written, buffer_of};
 ghost use Rattle.replay_script.specs.declared.Next.TheVariants.{Call};
 ghost use Rattle.replay_script.specs.Layout.{call_bytes};
 ghost use Rattle.replay_script.specs.Script.{next_of, asked_by};
@@ -18,14 +18,14 @@ use filecalls::{Drive, Reply};
 use replay_script::layout::{FCB_AT, HEAD_BYTES, K_BYTES, LONGEST_FCB, OFFSET_BYTES, TOUCH};
 use replay_script::{Head, Next};
 use replay_transcript::lines;
+use text::Writer;
 
-// What a turn did: what stood next and how many bytes it took, the state after it, and the next place in the transcript.
+// What a turn did: what stood next and how many bytes it took, and the state after it.
 #[derive(Clone, Copy)]
 pub struct Turn {
     pub next: Next,
     pub used: usize,
     pub drive: Drive,
-    pub at: usize,
 }
 
 // Lays bytes into the volume: fcb has the offset, then the bytes.
@@ -33,7 +33,8 @@ fn lay(volume: &mut [u8], fcb: &[u8])
     ensures { volume.new ≡ laid volume.old fcb.now }
 {
     if OFFSET_BYTES <= fcb.len() {
-        text::put_bytes(volume, replay_script::offset_of(fcb), &fcb[OFFSET_BYTES..]);
+        let mut w = Writer::new(volume, replay_script::offset_of(fcb));
+        w.bytes(&fcb[OFFSET_BYTES..]);
     }
 }
 
@@ -60,14 +61,7 @@ fn play(
     bdos::enter(g, function, parameter, drive, volume, fcb, buffer)
 }
 
-// The state after a call, and the next place in the transcript.
-#[derive(Clone, Copy)]
-struct Served {
-    drive: Drive,
-    at: usize,
-}
-
-// Does the call and appends its line.
+// Does the call and appends its line; returns the state after it.
 fn serve(
     g: Geometry,
     head: Head,
@@ -75,19 +69,15 @@ fn serve(
     volume: &mut [u8],
     fcb: &mut [u8],
     buffer: &mut [u8],
-    out: &mut [u8],
-    at: usize,
-) -> Served
-    ensures { leaves result.drive volume.new fcb.new buffer.new (text out.new result.at)
-        ≡ called g (asked_by head fcb.old buffer.old)
-        drive volume.old (text out.old at) }
+    w: &mut Writer<'_>,
+) -> Drive
+    ensures same_buffer { buffer_of w.new ≡ buffer_of w.old }
+    ensures after { leaves result volume.new fcb.new buffer.new (written w.new)
+        ≡ called g (asked_by head fcb.old buffer.old) drive volume.old (written w.old) }
 {
-    let function = head.function;
-    let r = play(g, function, head.parameter, drive, volume, fcb, buffer);
-    let answer = r.answer;
-    let next = lines::put_call(out, at, function, answer, fcb, buffer);
-    let drive = r.drive;
-    Served { drive, at: next }
+    let r = play(g, head.function, head.parameter, drive, volume, fcb, buffer);
+    lines::put_call(w, head.function, r.answer, fcb, buffer);
+    r.drive
 }
 
 // Does the call at the start of s, whose head is given; fcb is as long as its control block.
@@ -98,18 +88,18 @@ fn call_here(
     s: &mut [u8],
     fcb: &mut [u8],
     volume: &mut [u8],
-    out: &mut [u8],
-    at: usize,
-) -> Served
+    w: &mut Writer<'_>,
+) -> Drive
     requires { (length fcb.old ≡ head.fcb) × (call_bytes head.fcb head.buffer ≤ length s.old) }
-    ensures { afterwards result.drive volume.new s.new (text out.new result.at)
-        ≡ after_call g head s.old drive volume.old (text out.old at) }
+    ensures same_buffer { buffer_of w.new ≡ buffer_of w.old }
+    ensures after { afterwards result volume.new s.new (written w.new)
+        ≡ after_call g head s.old drive volume.old (written w.old) }
 {
     let k_at = FCB_AT + head.fcb;
     let buffer_at = k_at + K_BYTES;
     let end = buffer_at + head.buffer;
-    lists::copy(fcb, &s[FCB_AT..k_at]);
-    serve(g, head, drive, volume, fcb, &mut s[buffer_at..end], out, at)
+    fcb.copy_from_slice(&s[FCB_AT..k_at]);
+    serve(g, head, drive, volume, fcb, &mut s[buffer_at..end], w)
 }
 
 // The same with room for the control block.
@@ -119,36 +109,31 @@ fn call_next(
     drive: Drive,
     s: &mut [u8],
     volume: &mut [u8],
-    out: &mut [u8],
-    at: usize,
+    w: &mut Writer<'_>,
 ) -> Turn
     requires { Within (length s.old) (Call head) }
     ensures next_value { (result.next ≡ Call head) × (result.used ≡ call_bytes head.fcb head.buffer) }
-    ensures at_after { afterwards result.drive volume.new s.new (text out.new result.at)
-        ≡ after_call g head s.old drive volume.old (text out.old at) }
+    ensures same_buffer { buffer_of w.new ≡ buffer_of w.old }
+    ensures after { afterwards result.drive volume.new s.new (written w.new)
+        ≡ after_call g head s.old drive volume.old (written w.old) }
 {
     let mut space = [0u8; LONGEST_FCB];
-    let length = head.fcb;
-    let served = call_here(g, head, drive, s, &mut space[0..length], volume, out, at);
-    let next = Next::Call(head);
-    let after = served.drive;
+    let after = call_here(g, head, drive, s, &mut space[0..head.fcb], volume, w);
     Turn {
-        next,
-        used: HEAD_BYTES + length + head.buffer,
+        next: Next::Call(head),
+        used: HEAD_BYTES + head.fcb + head.buffer,
         drive: after,
-        at: served.at,
     }
 }
 
 // Nothing is done.
-fn stopped(next: Next, drive: Drive, at: usize) -> Turn
-    ensures { result ≡ record { next = next; used = 0; drive = drive; at = at } }
+fn stopped(next: Next, drive: Drive) -> Turn
+    ensures { result ≡ record { next = next; used = 0; drive = drive } }
 {
     Turn {
         next,
         used: 0,
         drive,
-        at,
     }
 }
 
@@ -158,18 +143,17 @@ pub fn take_turn(
     drive: Drive,
     s: &mut [u8],
     volume: &mut [u8],
-    out: &mut [u8],
-    at: usize,
+    w: &mut Writer<'_>,
 ) -> Turn
     ensures next_value { (result.next ≡ next_of s.old)
         × ((result.used ≡ used_by (next_of s.old)) × (result.used ≤ length s.old)) }
-    ensures at_after { afterwards result.drive volume.new s.new (text out.new result.at)
-        ≡ after g s.old drive volume.old (text out.old at) }
+    ensures same_buffer { buffer_of w.new ≡ buffer_of w.old }
+    ensures after { afterwards result.drive volume.new s.new (written w.new)
+        ≡ after g s.old drive volume.old (written w.old) }
 {
     let next = replay_script::next_of(s);
     match next {
-        Next::End => stopped(next, drive, at),
-        Next::Bad => stopped(next, drive, at),
-        Next::Call(head) => call_next(g, head, drive, s, volume, out, at),
+        Next::End | Next::Bad => stopped(next, drive),
+        Next::Call(head) => call_next(g, head, drive, s, volume, w),
     }
 }

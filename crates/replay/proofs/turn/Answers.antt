@@ -9,8 +9,8 @@ used_within from to used xs h k u = omega (arith, simp (length-take, length-drop
 small : (a b to : ℕ) → a + b ≤ to → to < 2 ^ 64 → Fits w64 (a + b)
 small a b to h k = omega arith
 
-pub overflow_add-result : goal.overflow_add-result
-overflow_add-result c =
+pub overflow_add-unread : goal.overflow_add-unread
+overflow_add-unread c =
     let r = c.refill-u.ensures.from_le_to in
     small _ _ _ (used_within _ _ _ _ r.0 r.1 c.take_turn-t.ensures.next_value.1.1) (search rules)
 

@@ -11,7 +11,7 @@ pub returns-then-not-good : goal.returns-then-not-good
 unfolding header_of
 returns-then-not-good c =
     record {
-      value = rw (← c.four_at-length.ensures, c.if-not-good.true);
+      value = rw (← c.four_at-volume_bytes.ensures, c.if-not-good.true);
       at_most = tt;
     }
 
@@ -19,6 +19,6 @@ pub returns : goal.returns
 unfolding header_of
 returns c =
     record {
-      value = rw (← c.four_at-length.ensures, c.if-not-good.false, ← c.two_at.ensures.0, ← c.two_at-2.ensures.0, ← c.byte_at.ensures, ← c.wide.ensures.0, ← c.byte_at-2.ensures, ← c.wide-2.ensures.0);
-      at_most = leb-true c.four_at-length.result longest_volume (and_right (leb 10 (length c.args.s.now)) (leb c.four_at-length.result longest_volume) c.if-not-good.false);
+      value = rw (← c.four_at-volume_bytes.ensures, c.if-not-good.false, ← c.two_at.ensures.0, ← c.two_at-2.ensures.0, ← c.byte_at.ensures, ← c.from.ensures, ← c.byte_at-2.ensures, ← c.from-2.ensures);
+      at_most = leb-true c.four_at-volume_bytes.result longest_volume (and_right (leb 10 (length c.args.s.now)) (leb c.four_at-volume_bytes.result longest_volume) c.if-not-good.false);
     }

@@ -1,9 +1,8 @@
--- What is still to be appended from here gives the whole.
+-- The bytes passed so far were appended.
 use Rattle.replay_transcript.specs.Hex.{hex}
-use Rattle.text.specs.Text.{text, puts}
-use lib.ListN.{drop}
-use mathlib.Core.Path.{◌≡◌}
+use Rattle.text.specs.Writer.{Appends}
+use lib.ListN.{take}
 use Rattle.replay_transcript.proofs.hex.put_hex.Given as goal
 
 abbrev pub invariant-loop-b : goal.invariant-loop-b
-invariant-loop-b l = puts (text l.out l.p) (hex (drop l.b-index l.s)) ≡ puts (text l.initial.out l.initial.p) (hex l.s)
+invariant-loop-b l = Appends l.initial.w (hex (take l.b-index l.s)) l.w

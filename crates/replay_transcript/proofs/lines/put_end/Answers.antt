@@ -1,8 +1,8 @@
 -- The word, the number and the line feed, one after the other.
-use Rattle.replay_transcript.specs.Lines.{end_word, end_line}
-use Rattle.text.proofs.TextLaws.{wrote, wrote_byte, then}
+use Rattle.replay_transcript.specs.Lines.{end_line}
+use Rattle.text.proofs.WriterLaws.{then}
 use Rattle.replay_transcript.proofs.lines.put_end.Goals as goal
 
 pub returns : goal.returns
 unfolding end_line
-returns c = (then (then (wrote end_word c.put_bytes-a.ensures) (wrote _ c.put_decimal-b.ensures)) (wrote_byte 10 c.put_byte.ensures)).is
+returns c = then (then c.bytes.ensures c.decimal.ensures) c.byte.ensures

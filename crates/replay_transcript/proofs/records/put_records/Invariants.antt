@@ -1,9 +1,8 @@
--- The lines that are still to be appended from here give the whole.
+-- The lines of the records passed so far were appended.
 use Rattle.replay_transcript.specs.Records.{record_lines}
-use Rattle.text.specs.Text.{text, puts}
-use mathlib.Core.Path.{◌≡◌}
-use Prim.Native.Nat.{◌-◌}
+use Rattle.text.specs.Writer.{Appends}
+use Prim.Native.Nat.{◌-◌, min}
 use Rattle.replay_transcript.proofs.records.put_records.Given as goal
 
 abbrev pub invariant-loop-q : goal.invariant-loop-q
-invariant-loop-q l = puts (text l.out l.p) (record_lines l.given l.volume l.q (l.to - l.q)) ≡ puts (text l.initial.out l.initial.p) (record_lines l.given l.volume l.from (l.to - l.from))
+invariant-loop-q l = Appends l.initial.w (record_lines l.given l.volume l.from (min l.q l.to - l.from)) l.w
