@@ -5,13 +5,6 @@ use Rattle.disk_stores.specs.Stores.{laid, record_stores}
 use Rattle.disk_stores.proofs.CodeLaws.{then_entry, then_length}
 use Rattle.call_store.proofs.store_most.Goals as goal
 
-pub put_slot-requires : goal.put_slot-requires
-put_slot-requires c =
-    record {
-      volume = (c.requires.volume.0, c.put_filled.auto.volume ∙ c.requires.volume.1);
-      i_bound = (c.requires.slot_bound.0, c.requires.fact.1);
-    }
-
 pub returns : goal.returns
 returns c =
     let a = c.args in

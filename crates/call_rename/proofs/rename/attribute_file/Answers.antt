@@ -11,14 +11,6 @@ use lib.Dec.{leb}
 use mathlib.Core.Path.{◌≡◌, refl, sym, ◌∙◌}
 use Rattle.call_rename.proofs.rename.attribute_file.Goals as goal
 
-pub change_most-requires : goal.change_most-requires
-change_most-requires c =
-    record {
-      volume = (c.requires.0, c.requires.1.0);
-      name = (c.requires.1.1, c.requires.1.1);
-      first_value = c.find-first.ensures.0;
-    }
-
 pub returns-then-is_none : goal.returns-then-is_none
 returns-then-is_none c =
     let why : (let a = c.args in c.first_of-why.result ≡ first a.before (first_met (test NoMatch (leb (slots a.g) (find_slot a.g a.volume.now a.user (strip a.name.now) File)) ∷ []))) = (let a = c.args in

@@ -2,13 +2,6 @@
 use Rattle.disk_stores.specs.Stores.{record_stores}
 use Rattle.call_store.proofs.data.put_filled.Goals as goal
 
-pub returns-then-fills : goal.returns-then-fills
-returns-then-fills c =
-    record {
-      volume_after = rw c.if-fills.true c.fill_block.ensures.volume_after;
-      left_after = rw c.if-fills.true c.fill_block.ensures.left_after;
-    }
-
 pub returns : goal.returns
 unfolding record_stores
 returns c =

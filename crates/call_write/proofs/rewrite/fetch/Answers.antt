@@ -3,15 +3,10 @@ use mathlib.Core.Bool.{not}
 use mathlib.Core.Path.{◌≡◌, ap}
 use Prim.Native.Nat.{◌+◌, ◌-◌}
 use native.Mathlib.Omega.{arith}
-use borrow.Author.Tests.{not-true, not-false}
+use borrow.Author.Tests.{not-false}
 use Rattle.lists.specs.Bytes.{part}
 use Rattle.disk_volume.specs.Record.{record_at}
 use Rattle.call_write.proofs.rewrite.fetch.Goals as goal
-
-pub returns-then-not-is_counted : goal.returns-then-not-is_counted
-returns-then-not-is_counted c =
-    let k = c.is_counted in
-    rw (← k.ensures, not-true k.result (ap not c.if-not-is_counted.true))
 
 pub returns : goal.returns
 unfolding record_at part
