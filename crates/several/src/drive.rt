@@ -12,9 +12,7 @@ pub fn read(state: Drive, volume: &[u8], fcb: &mut [u8], buffer: &mut [u8], k: u
     ensures { left result volume.now fcb.new buffer.new
         ≡ several read_sequential_leaves state volume.now fcb.old buffer.old k }
 {
-    let held = state.held;
-    let reply = crate::read(state.front(), volume, fcb, buffer, k);
-    reply.joined(held)
+    crate::read(state.front(), volume, fcb, buffer, k).joined(state.held)
 }
 
 // Function 221: writes k records at the sequential position, and moves it on.

@@ -1,6 +1,6 @@
 -- The test decides between the fields and the closed state, as in the definition.
 use mathlib.Core.Bool.{not}
-use mathlib.Core.Path.{refl, sym, ◌∙◌, ap}
+use mathlib.Core.Path.{ap}
 use Rattle.drive_bytes.specs.Layout.{decoded}
 use Rattle.seam_desk.proofs.SiglaLaws.{state_is}
 use Rattle.seam_desk.proofs.state.Goals as goal
@@ -8,13 +8,6 @@ use Rattle.seam_desk.proofs.state.Goals as goal
 pub returns-then-not-is_drive : goal.returns-then-not-is_drive
 unfolding decoded
 returns-then-not-is_drive c = rw (← c.is_drive.ensures, c.if-not-is_drive.true) c.closed.ensures
-
-pub fields-front-requires : goal.fields-front-requires
-fields-front-requires c = sym c.is_drive.ensures ∙ c.if-not-is_drive.false
-
-pub load_words-requires : goal.load_words-requires
-load_words-requires c =
-    (sym c.is_drive.ensures ∙ c.if-not-is_drive.false, refl)
 
 pub returns : goal.returns
 returns c =

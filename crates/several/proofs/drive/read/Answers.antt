@@ -8,4 +8,4 @@ use Rattle.several.proofs.drive.read.Goals as goal
 pub returns : goal.returns
 returns c =
     let a = c.args in
-    joined_left a.state c.joined.ensures c.front.ensures (λ (d : Drive). several read_sequential_leaves d a.volume.now a.fcb.now a.buffer.now a.k) (c.read-reply.ensures a.state.held)
+    joined_left a.state c.joined.ensures c.front.ensures (λ (d : Drive). several read_sequential_leaves d a.volume.now a.fcb.now a.buffer.now a.k) (c.read.ensures a.state.held)
