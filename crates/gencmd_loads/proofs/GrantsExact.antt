@@ -15,8 +15,7 @@ use Rattle.memory_spans.specs.Span.{paragraph_bytes, paragraphs, none, end, span
 use Rattle.memory_spans.specs.Rules.{apart, lawful}
 use Rattle.memory_spans.specs.Room.{room, has_room}
 use Rattle.memory_spans.proofs.RulesLaws.{lawful_facts}
-use Rattle.memory_room.specs.declared.Granted.{Granted}
-use Rattle.memory_room.specs.declared.Granted.TheVariants.{Given, Nowhere}
+use Rattle.std.specs.Prelude.{Option, Some, None}
 use Rattle.memory_room.specs.Starts.{lowest_start, grant_at, grant_of}
 use Rattle.memory_promises.proofs.RoomPlaces.{apart_once}
 use Rattle.load_header.specs.Header.{base_at, most_at, need}
@@ -25,16 +24,16 @@ use Rattle.load_grants.specs.Grants.{followed, granted_to, grants}
 use Rattle.load_grants.proofs.GrantsLaws.{grants_keep}
 
 -- ---- no more than the most
-at_most : (pieces regions : List Span) (base n most : ℕ) (s : Span) → grant_of pieces regions base n most ≡ Given s → s.length ≤ max most n
+at_most : (pieces regions : List Span) (base n most : ℕ) (s : Span) → grant_of pieces regions base n most ≡ Some s → s.length ≤ max most n
 unfolding grant_of grant_at
 at_most pieces regions base n most s e = go (cond (eqb base 0) (lowest_start pieces regions n) base) e
   where
     go : (start : ℕ)
-        → cond (ltb start paragraphs && has_room pieces regions n start) (Given (span start (min (max most n) (room pieces regions start)))) Nowhere ≡ Given s
+        → cond (ltb start paragraphs && has_room pieces regions n start) (Some (span start (min (max most n) (room pieces regions start)))) None ≡ Some s
         → s.length ≤ max most n
     go start f = by (ltb start paragraphs && has_room pieces regions n start) f
       where
-        by : (t : Bool) → cond t (Given (span start (min (max most n) (room pieces regions start)))) Nowhere ≡ Given s → s.length ≤ max most n
+        by : (t : Bool) → cond t (Some (span start (min (max most n) (room pieces regions start)))) None ≡ Some s → s.length ≤ max most n
         by true q = let z : s ≡ span start (min (max most n) (room pieces regions start)) = cc in rw z (omega arith)
         by false q = let z : ◌≡◌ {A = ℕ} 0 1 = cc in absurd (omega arith)
 
@@ -45,7 +44,7 @@ module _ (h : List ℕ) (pieces : List Span) where
   grants_most regions i zero n j b = absurd (omega arith)
   grants_most regions i (suc k) n j b = go (granted_to h pieces regions i) refl n (λ s y j z. grants_most (regions ++ (s ∷ [])) (suc i) k y j z) j b
     where
-      go : (g : Granted)
+      go : (g : Option Span)
           → granted_to h pieces regions i ≡ g
           → length (followed g (λ s. grants h pieces (regions ++ (s ∷ [])) (suc i) k)) ≡ suc k
           → ((s : Span)
@@ -55,9 +54,9 @@ module _ (h : List ℕ) (pieces : List Span) where
           → (j : ℕ)
           → j < suc k
           → (get_or (followed g (λ s. grants h pieces (regions ++ (s ∷ [])) (suc i) k)) j none).length ≤ max (most_at h (i + j)) (need h (i + j))
-      go Nowhere q n ih j b = absurd (omega (arith, n))
-      go (Given s) q n ih zero b = let z : i + 0 ≡ i = omega arith in rw z (at_most pieces regions (base_at h i) (need h i) (most_at h i) s q)
-      go (Given s) q n ih (suc j) b = let z : suc i + j ≡ i + suc j = omega arith in rw (← z) (ih s (omega (arith, n)) j (omega arith))
+      go None q n ih j b = absurd (omega (arith, n))
+      go (Some s) q n ih zero b = let z : i + 0 ≡ i = omega arith in rw z (at_most pieces regions (base_at h i) (need h i) (most_at h i) s q)
+      go (Some s) q n ih (suc j) b = let z : suc i + j ≡ i + suc j = omega arith in rw (← z) (ih s (omega (arith, n)) j (omega arith))
 
 -- ---- no byte belongs to two regions
 covers_it : (s : Span) (y : ℕ) → paragraph_bytes * s.start ≤ y → y < paragraph_bytes * end s → covers s (y / paragraph_bytes) ≡ true

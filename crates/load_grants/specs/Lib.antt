@@ -1,3 +1,2 @@
 -- What the groups of a CMD file are granted.
 pub mod Grants
-pub mod CodeGrants

@@ -10,8 +10,7 @@ use lib.ListN.{length}
 use Rattle.filecalls.specs.declared.Drive.{Drive}
 use Rattle.memory_spans.specs.declared.Span.{Span}
 use Rattle.memory_spans.specs.Span.{places}
-use Rattle.memory_room.specs.declared.Granted.{Granted}
-use Rattle.memory_room.specs.declared.Granted.TheVariants.{Given, Nowhere}
+use Rattle.std.specs.Prelude.{Option, Some, None}
 use Rattle.memory_calls.specs.declared.Table.{Table}
 use Rattle.memory_calls.specs.Table.{pieces_of, regions_of}
 use Rattle.memory_promises.proofs.GroupTheorem.{nowhere_means_no_room}
@@ -28,7 +27,7 @@ record Stop (h : List ℕ) (pieces regions : List Span) (i k : ℕ) : Type 0 whe
   pub group : ℕ
   pub below : group < k
   pub before : length (grants h pieces regions i group) ≡ group
-  pub nowhere : granted_to h pieces (regions ++ grants h pieces regions i group) (i + group) ≡ Nowhere
+  pub nowhere : granted_to h pieces (regions ++ grants h pieces regions i group) (i + group) ≡ None
 
 module _ (h : List ℕ) (pieces : List Span) where
   ends : (regions : List Span) (i k : ℕ) → length (grants h pieces regions i k) < k → Stop h pieces regions i k
@@ -36,40 +35,40 @@ module _ (h : List ℕ) (pieces : List Span) where
   ends regions i zero l = absurd (omega arith)
   ends regions i (suc k) l = go (granted_to h pieces regions i) refl l (λ s x. ends (regions ++ (s ∷ [])) (suc i) k x)
     where
-      go : (g : Granted)
+      go : (g : Option Span)
           → granted_to h pieces regions i ≡ g
           → length (followed g (λ s. grants h pieces (regions ++ (s ∷ [])) (suc i) k)) < suc k
           → ((s : Span) → length (grants h pieces (regions ++ (s ∷ [])) (suc i) k) < k → Stop h pieces (regions ++ (s ∷ [])) (suc i) k)
           → Stop h pieces regions i (suc k)
-      go Nowhere q l ih =
+      go None q l ih =
           record { group = 0; below = omega arith; before = refl; nowhere = let z : i + 0 ≡ i = omega arith in rw (append-nil regions, z) q }
-      go (Given s) q l ih =
+      go (Some s) q l ih =
           let r = ih s (omega arith) in
           let z : suc i + r.group ≡ i + suc r.group = omega arith in
           let e = rw (append_assoc regions (s ∷ []) (grants h pieces (regions ++ (s ∷ [])) (suc i) r.group)) at r.nowhere in
           record { group = suc r.group; below = omega (arith, r.below); before = rw q (ap suc r.before); nowhere = rw (← z, q) e }
 
   ended : (regions : List Span) (i k a : ℕ) → a < k → length (grants h pieces regions i a) ≡ a
-      → granted_to h pieces (regions ++ grants h pieces regions i a) (i + a) ≡ Nowhere → length (grants h pieces regions i k) < k
+      → granted_to h pieces (regions ++ grants h pieces regions i a) (i + a) ≡ None → length (grants h pieces regions i k) < k
   unfolding grants followed
   ended regions i zero a l e n = absurd (omega arith)
   ended regions i (suc k) zero l e n =
       let z : i + 0 ≡ i = omega arith in
-      let w : granted_to h pieces regions i ≡ Nowhere = rw (append-nil regions, z) at n in
+      let w : granted_to h pieces regions i ≡ None = rw (append-nil regions, z) at n in
       rw w (omega arith)
   ended regions i (suc k) (suc a) l e n = go (granted_to h pieces regions i) refl e n (λ s x y. ended (regions ++ (s ∷ [])) (suc i) k a (omega arith) x y)
     where
-      go : (g : Granted)
+      go : (g : Option Span)
           → granted_to h pieces regions i ≡ g
           → length (followed g (λ s. grants h pieces (regions ++ (s ∷ [])) (suc i) a)) ≡ suc a
-          → granted_to h pieces (regions ++ followed g (λ s. grants h pieces (regions ++ (s ∷ [])) (suc i) a)) (i + suc a) ≡ Nowhere
+          → granted_to h pieces (regions ++ followed g (λ s. grants h pieces (regions ++ (s ∷ [])) (suc i) a)) (i + suc a) ≡ None
           → ((s : Span)
           → length (grants h pieces (regions ++ (s ∷ [])) (suc i) a) ≡ a
-          → granted_to h pieces ((regions ++ (s ∷ [])) ++ grants h pieces (regions ++ (s ∷ [])) (suc i) a) (suc i + a) ≡ Nowhere
+          → granted_to h pieces ((regions ++ (s ∷ [])) ++ grants h pieces (regions ++ (s ∷ [])) (suc i) a) (suc i + a) ≡ None
           → length (grants h pieces (regions ++ (s ∷ [])) (suc i) k) < k)
           → length (followed g (λ s. grants h pieces (regions ++ (s ∷ [])) (suc i) k)) < suc k
-      go Nowhere q e n ih = absurd (omega (arith, e))
-      go (Given s) q e n ih =
+      go None q e n ih = absurd (omega (arith, e))
+      go (Some s) q e n ih =
           let z : suc i + a ≡ i + suc a = omega arith in
           let y = ih s (omega (arith, e)) (rw (append_assoc regions (s ∷ []) (grants h pieces (regions ++ (s ∷ [])) (suc i) a), z) n) in
           omega (arith, y)

@@ -13,8 +13,7 @@ use Rattle.memory_spans.specs.declared.Span.{Span}
 use Rattle.memory_spans.specs.Span.{paragraphs, span, none, end, most_of}
 use Rattle.memory_spans.specs.Room.{run, free_in, room, has_room}
 use Rattle.memory_spans.proofs.SearchMore.{run_le}
-use Rattle.memory_room.specs.declared.Granted.{Granted}
-use Rattle.memory_room.specs.declared.Granted.TheVariants.{Given, Nowhere}
+use Rattle.std.specs.Prelude.{Option, Some, None}
 use Rattle.memory_room.specs.Starts.{lowest_start, grant_at, grant_of}
 use Rattle.memory_regions.specs.Freeing.{edge, left, freed}
 use Rattle.memory_regions.proofs.FreeLaws.{rest_named}
@@ -105,13 +104,13 @@ module _ (pieces : List Span) (short : Every Short pieces) where
   unfolding room
   room_low regions s = most_low (λ piece. run (free_in piece regions) s piece.length) (λ piece. run_le (free_in piece regions) s piece.length) short
 
-  at_short : (regions : List Span) (start need most : ℕ) (s : Span) → grant_at pieces regions start need most ≡ Given s → Short s
+  at_short : (regions : List Span) (start need most : ℕ) (s : Span) → grant_at pieces regions start need most ≡ Some s → Short s
   unfolding grant_at
   at_short regions start need most s g = go (ltb start paragraphs && has_room pieces regions need start) refl g
     where
       go : (t : Bool)
           → (ltb start paragraphs && has_room pieces regions need start) ≡ t
-          → cond t (Given (span start (min (max most need) (room pieces regions start)))) Nowhere ≡ Given s
+          → cond t (Some (span start (min (max most need) (room pieces regions start)))) None ≡ Some s
           → Short s
       go false u v = let z : ◌≡◌ {A = ℕ} 0 1 = cc in absurd (omega arith)
       go true u v =
@@ -119,7 +118,7 @@ module _ (pieces : List Span) (short : Every Short pieces) where
           let a = ltb-true start paragraphs (and_parts (ltb start paragraphs) (has_room pieces regions need start) u).0 in
           rw (← z) (record { start = a; length = omega (arith, room_low regions start) })
 
-  given_short : (regions : List Span) (base need most : ℕ) (s : Span) → grant_of pieces regions base need most ≡ Given s → Short s
+  given_short : (regions : List Span) (base need most : ℕ) (s : Span) → grant_of pieces regions base need most ≡ Some s → Short s
   unfolding grant_of
   given_short regions base need most s g = at_short regions (cond (eqb base 0) (lowest_start pieces regions need) base) need most s g
 
@@ -128,9 +127,9 @@ module _ (pieces : List Span) (short : Every Short pieces) where
   grants_short h regions i zero = nothing
   grants_short h regions i (suc k) = go (granted_to h pieces regions i) refl (λ s. grants_short h (regions ++ (s ∷ [])) (suc i) k)
     where
-      go : (g : Granted)
+      go : (g : Option Span)
           → granted_to h pieces regions i ≡ g
           → ((s : Span) → Every Short (grants h pieces (regions ++ (s ∷ [])) (suc i) k))
           → Every Short (followed g (λ s. grants h pieces (regions ++ (s ∷ [])) (suc i) k))
-      go Nowhere q ih = nothing
-      go (Given s) q ih = also s (grants h pieces (regions ++ (s ∷ [])) (suc i) k) (given_short regions (base_at h i) (need h i) (most_at h i) s q) (ih s)
+      go None q ih = nothing
+      go (Some s) q ih = also s (grants h pieces (regions ++ (s ∷ [])) (suc i) k) (given_short regions (base_at h i) (need h i) (most_at h i) s q) (ih s)

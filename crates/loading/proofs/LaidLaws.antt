@@ -1,20 +1,19 @@
 -- The memory, as its parts are laid.
-use mathlib.Core.Path.{◌≡◌, sym, ap, ◌∙◌}
+use mathlib.Core.Path.{◌≡◌, refl, ap, ◌∙◌}
 use mathlib.Core.List.{List, ◌++◌}
 use Prim.Native.Nat.{ℕ, zero, suc, ◌+◌, ◌-◌, ◌≤◌, ◌<◌}
 use native.Mathlib.Omega.{arith}
 use lib.ListN.{length, take, drop, get_or, length-append, length-take, length-drop}
-use lib.Seq.{drop_at}
+use lib.Seq.{drop_at, take_all}
 use Rattle.lists.specs.Bytes.{part, put}
 use Rattle.memory_spans.specs.declared.Span.{Span}
 use Rattle.memory_spans.specs.Span.{places, none}
 use Rattle.memory_regions.specs.declared.Regions.{Regions}
-use Rattle.memory_regions.specs.Places.{places_of, padded}
+use Rattle.memory_regions.specs.Places.{places_of}
 use Rattle.memory_regions.proofs.PlaceLaws.{padded_used}
 use Rattle.load_header.specs.Header.{length_at, image_start}
-use Rattle.load_grants.specs.CodeGrants.{Behind}
 use Rattle.load_grants.proofs.GrantsLaws.{Fits}
-use Rattle.loading.specs.CodeLoad.{granted_in, Held}
+use Rattle.loading.specs.CodeLoad.{Held}
 
 -- a part of the memory that was lent, and filled from a part of the image
 pub lent_part : (memory image : List ℕ) (a k f : ℕ) {at n from to : ℕ} {x : List ℕ} → at ≡ a → n ≡ k → from ≡ f → to ≡ at + n → a + k ≤ length memory
@@ -48,20 +47,15 @@ start_in h i n l =
     let z : n - suc i + suc i ≡ n = omega arith in
     rw z at s
 
--- what was granted stands behind the m regions of before
-module _ {regions granted : List Span} {m n : ℕ} {r : Regions} (b : Behind regions granted m r) (all : length granted ≡ n) (some : 0 < n) (few : m + n ≤ places) where
-  is : r ≡ places_of (regions ++ granted)
-  is = b.rewritten (omega (arith, all))
+-- what was granted stands behind the regions of before
+pub in_use : (regions granted : List Span) {next : Regions} {used : List Span} → next ≡ places_of (regions ++ granted) → length (regions ++ granted) ≤ places
+    → used ≡ take next.count next.list → used ≡ regions ++ granted
+in_use regions granted e few eu = eu ∙ ap (λ (x : Regions). take x.count x.list) e ∙ padded_used places (regions ++ granted) few
 
-  size : length regions ≡ m
-  size = let e = ap (λ (x : Regions). x.count) is in omega (arith, b.number, e, length-append regions granted)
-
-  pub granted_in_lem : granted_in r.list m n ≡ granted
-  granted_in_lem =
-      let l : length (regions ++ granted) ≡ m + n = rw length-append (omega (arith, size, all)) in
-      let t : take (m + n) r.list ≡ regions ++ granted =
-      ap (λ (x : Regions). take (m + n) x.list) is ∙ ap (λ (k : ℕ). take k (padded places (regions ++ granted))) (sym l) ∙ padded_used places (regions ++ granted) (omega (arith, l)) in
-      ap (drop m) t ∙ drop_at regions granted m size
+pub behind_them : (regions granted : List Span) → take (length (regions ++ granted) - length regions) (drop (length regions) (regions ++ granted)) ≡ granted
+behind_them regions granted =
+    let n : length granted ≤ length (regions ++ granted) - length regions = rw length-append (omega arith) in
+    rw (drop_at regions granted (length regions) refl) (take_all (length (regions ++ granted) - length regions) granted n)
 
 -- a group's image fits into its region
 pub held_in : (bytes : ℕ) (h : List ℕ) (granted : List Span) (n : ℕ) → ((j : ℕ) → j < n → Fits bytes h (0 + j) (get_or granted j none)) → Held h granted bytes n

@@ -2,11 +2,11 @@
 use mathlib.Core.Path.{◌≡◌, refl, ap, ◌∙◌}
 use mathlib.Core.Bool.{Bool, true, false, cond, ◌&&◌}
 use mathlib.Core.List.{List, ◌++◌}
-use Prim.Native.Nat.{ℕ, ◌+◌, ◌*◌, ◌≤◌, ◌<◌}
+use Prim.Native.Nat.{ℕ, ◌+◌, ◌-◌, ◌*◌, ◌≤◌, ◌<◌}
 use native.Mathlib.Omega.{arith}
 use borrow.Author.Tests.{lt-ltb, le-ltb, ltb-true, leb-true}
 use lib.Dec.{leb, ltb}
-use lib.ListN.{length, get_or}
+use lib.ListN.{length, take, drop, get_or, length-take, length-append}
 use Rattle.lists.specs.Bounded.{every, fold}
 use Rattle.lists.specs.Bytes.{put}
 use Rattle.lists.proofs.BoolLaws.{and_parts}
@@ -28,7 +28,6 @@ use Rattle.load_records.specs.Records.{record_of, image_records, image, read_why
 use Rattle.load_records.specs.CodeReading.{bare}
 use Rattle.load_records.proofs.FrontLaws.{reads_as_bare}
 use Rattle.load_grants.specs.Grants.{grants}
-use Rattle.load_grants.specs.CodeGrants.{Behind}
 use Rattle.load_grants.proofs.GrantsLaws.{Fits, grants_fit, grants_few}
 use Rattle.loading.specs.declared.LoadRefusal.TheVariants.{File, Rules, Header, Image, NoPlace, NoRoom}
 use Rattle.loading.specs.declared.LoadAnswer.TheVariants.{Loaded, Refused}
@@ -36,8 +35,8 @@ use Rattle.loading.specs.declared.LoadRefusal.{LoadRefusal}
 use Rattle.loading.specs.declared.LoadReply.{LoadReply}
 use Rattle.loading.specs.Page.{page_bytes, base_page, page_start}
 use Rattle.loading.specs.Laid.{group_laid, laid, with_page}
-use Rattle.loading.specs.CodeLoad.{granted_in, Held, Tested}
-use Rattle.loading.proofs.LaidLaws.{granted_in_lem, held_in}
+use Rattle.loading.specs.CodeLoad.{Held, Tested}
+use Rattle.loading.proofs.LaidLaws.{in_use, behind_them, held_in}
 use Rattle.loading.specs.Load.{After, after, refusing, grants_of, image_short, loaded, placed, load}
 
 abbrev no : LoadRefusal → Table → LoadReply
@@ -145,43 +144,60 @@ page_in bytes h granted e f =
     omega (arith, g.enough, g.inside, p)
 
 -- ---- where the groups are granted: what laying relies on, and what is left
-pub too_few : (h : List ℕ) (t : Table) (n : ℕ) {next : Regions} → Behind (regions_of t) (grants_to h t n) t.granted next → next.count < t.granted + n
-    → length (grants_to h t n) < n
-too_few h t n b k = omega (arith, b.number)
+few_before : (t : Table) → length (regions_of t) ≤ t.granted
+few_before t = rw length-take (omega arith)
 
-pub all_given : (h : List ℕ) (t : Table) (n : ℕ) {next : Regions} → Behind (regions_of t) (grants_to h t n) t.granted next → t.granted + n ≤ next.count
-    → length (grants_to h t n) ≡ n
-all_given h t n b k = omega (arith, b.number, grants_few h (pieces_of t) (regions_of t) 0 n)
+pub few_enough : {d : Drive} {v f h : List ℕ} {n : ℕ} {t : Table} {bytes : ℕ} → Tested d v f h n t bytes → {before : List Span} → before ≡ regions_of t → length before + n ≤ places
+few_enough {t = t} w e = rw e (omega (arith, few_before t, w.left))
 
-module _ {d : Drive} {v f h : List ℕ} {n : ℕ} {t : Table} {bytes : ℕ} (w : Tested d v f h n t bytes) {next : Regions}
-    (b : Behind (regions_of t) (grants_to h t n) t.granted next) (all : length (grants_to h t n) ≡ n) where
-  some : 0 < n
-  some = let s = some_group h w.header in omega (arith, w.number)
+-- the table with the groups' regions, and these alone
+pub record GrantedTo (h : List ℕ) (t : Table) (n : ℕ) (next : Regions) (used before : List Span) : Type 0 where
+  pub table : next ≡ places_of (regions_of t ++ grants_to h t n)
+  pub is : take (length used - length before) (drop (length before) used) ≡ grants_to h t n
+  pub within : length before ≤ length used
 
-  is_granted : granted_in next.list t.granted n ≡ grants_to h t n
-  is_granted = granted_in_lem b all some w.left
+pub granted_to : {d : Drive} {v f h : List ℕ} {n : ℕ} {t : Table} {bytes : ℕ} → Tested d v f h n t bytes → {next : Regions} {before pieces used : List Span}
+    → before ≡ regions_of t → pieces ≡ pieces_of t → next ≡ places_of (before ++ grants h pieces before 0 n) → used ≡ take next.count next.list
+    → GrantedTo h t n next used before
+granted_to {h = h} {n = n} {t = t} w {next} {before} {pieces} {used} er ep en eu =
+    let b : next ≡ places_of (regions_of t ++ grants_to h t n) = rw (er, ep) at en in
+    let few : length (regions_of t ++ grants_to h t n) ≤ places = rw length-append (omega (arith, few_before t, w.left, grants_few h (pieces_of t) (regions_of t) 0 n)) in
+    let z : used ≡ regions_of t ++ grants_to h t n = in_use (regions_of t) (grants_to h t n) b few eu in
+    record { table = b; is = rw (z, er) (behind_them (regions_of t) (grants_to h t n)); within = rw (z, er, length-append) (omega arith) }
 
-  fit : (j : ℕ) → j < n → Fits bytes h (0 + j) (get_or (grants_to h t n) j none)
-  fit = grants_fit bytes h (pieces_of t) (regions_of t) 0 n (within_facts bytes t w.rules).law all
+module _ {d : Drive} {v f h : List ℕ} {n : ℕ} {t : Table} {bytes : ℕ} (w : Tested d v f h n t bytes) {next : Regions} {used before : List Span} (g : GrantedTo h t n next used before) where
+  abbrev granted : List Span
+  granted = take (length used - length before) (drop (length before) used)
 
-  pub held : Held h (granted_in next.list t.granted n) bytes n
-  held = rw is_granted (held_in bytes h (grants_to h t n) n fit)
+  pub too_few : length granted < n → length (grants_to h t n) < n
+  too_few k = rw (← g.is) k
 
-  pub page_fits : {p : ℕ} → p ≡ page_start h (granted_in next.list t.granted n) → paragraph_bytes * p + page_bytes ≤ bytes
-  page_fits {p} e =
-      let z : p ≡ page_start h (grants_to h t n) = e ∙ ap (page_start h) is_granted in
-      rw z (page_in bytes h (grants_to h t n) w.header (λ j l. fit j (rw (← w.number) at l)))
+  pub all_given : n ≤ length granted → length granted ≡ n
+  all_given k = omega (arith, ap length g.is, grants_few h (pieces_of t) (regions_of t) 0 n)
 
-  pub all_done : (image memory : List ℕ) {p : ℕ} {m1 m2 : List ℕ}
-      → p ≡ page_start h (granted_in next.list t.granted n)
-      → m1 ≡ fold (group_laid h (granted_in next.list t.granted n) image) memory 0 n
-      → m2 ≡ put m1 (paragraph_bytes * p) page_bytes (base_page h (granted_in next.list t.granted n))
-      → after (record { answer = Loaded p; table = with_places t next }) m2 ≡ loaded h (grants_of h t) image t memory
-  unfolding loaded laid with_page
-  all_done image memory {p} {m1} {m2} e x y =
-      let q = is_granted in
-      let s : next ≡ places_of (regions_of t ++ grants_to h t n) = b.rewritten (omega (arith, all, some)) in
-      let p' : p ≡ page_start h (grants_to h t n) = e ∙ ap (page_start h) q in
-      let x' : m1 ≡ fold (group_laid h (grants_to h t n) image) memory 0 n = x ∙ ap (λ (g : List Span). fold (group_laid h g image) memory 0 n) q in
-      let y' : m2 ≡ put m1 (paragraph_bytes * p) page_bytes (base_page h (grants_to h t n)) = y ∙ ap (λ (g : List Span). put m1 (paragraph_bytes * p) page_bytes (base_page h g)) q in
-      rw (← w.number, y', x', s, p')
+  module _ (all : length granted ≡ n) where
+    pub given : length (grants_to h t n) ≡ n
+    given = rw (← g.is) all
+
+    fit : (j : ℕ) → j < n → Fits bytes h (0 + j) (get_or (grants_to h t n) j none)
+    fit = grants_fit bytes h (pieces_of t) (regions_of t) 0 n (within_facts bytes t w.rules).law given
+
+    pub held : Held h granted bytes (length granted)
+    held = rw (all, g.is) (held_in bytes h (grants_to h t n) n fit)
+
+    pub page_fits : {p : ℕ} → p ≡ page_start h granted → paragraph_bytes * p + page_bytes ≤ bytes
+    page_fits {p} e =
+        let z : p ≡ page_start h (grants_to h t n) = e ∙ ap (page_start h) g.is in
+        rw z (page_in bytes h (grants_to h t n) w.header (λ j l. fit j (rw (← w.number) at l)))
+
+    pub all_done : (image memory : List ℕ) {p : ℕ} {m1 m2 : List ℕ}
+        → p ≡ page_start h granted
+        → m1 ≡ fold (group_laid h granted image) memory 0 (length granted)
+        → m2 ≡ put m1 (paragraph_bytes * p) page_bytes (base_page h granted)
+        → after (record { answer = Loaded p; table = with_places t next }) m2 ≡ loaded h (grants_of h t) image t memory
+    unfolding loaded laid with_page
+    all_done image memory {p} {m1} {m2} e x y =
+        let p' : p ≡ page_start h (grants_to h t n) = e ∙ ap (page_start h) g.is in
+        let x' : m1 ≡ fold (group_laid h (grants_to h t n) image) memory 0 n = rw (all, g.is) at x in
+        let y' : m2 ≡ put m1 (paragraph_bytes * p) page_bytes (base_page h (grants_to h t n)) = y ∙ ap (λ (l : List Span). put m1 (paragraph_bytes * p) page_bytes (base_page h l)) g.is in
+        rw (← w.number, y', x', g.table, p')

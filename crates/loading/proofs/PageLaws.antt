@@ -1,28 +1,16 @@
 -- The base page, as its code lays it.
-use mathlib.Core.Path.{◌≡◌, refl, sym, ◌∙◌}
+use mathlib.Core.Path.{◌≡◌, refl}
 use mathlib.Core.Bool.{true, false, ◌&&◌}
 use mathlib.Core.List.{List}
-use Prim.Native.Nat.{ℕ, ◌+◌, ◌≤◌, ◌<◌}
+use Prim.Native.Nat.{ℕ, ◌+◌}
 use native.Mathlib.Omega.{arith}
 use lib.Dec.{eqb}
-use lib.ListN.{length, take, get_or, length-take, length-drop, get_or-eq_default}
-use lib.Seq.{get_or-take, get_or-drop}
+use lib.ListN.{length}
 use Rattle.joined.specs.Joined.{joined}
 use Rattle.numbers.specs.Numbers.{bytes_of}
 use Rattle.memory_spans.specs.declared.Span.{Span}
-use Rattle.memory_spans.specs.Span.{none}
 use Rattle.load_header.specs.Header.{CODE, DATA, groups}
 use Rattle.loading.specs.Page.{field_bytes, page_bytes, region_of, shown_of, last_of, field_of, field, base_page}
-use Rattle.loading.specs.CodeLoad.{granted_in}
-
--- ---- what group j was granted, by its place in the table
-pub span_in : (list : List Span) (m n j : ℕ) → j < n → get_or list (m + j) none ≡ get_or (granted_in list m n) j none
-span_in list m n j h = sym (get_or-drop m (take (m + n) list) j none ∙ get_or-take (m + n) list (m + j) none (omega arith))
-
-pub span_out : (list : List Span) (m n j : ℕ) → n ≤ j → none ≡ get_or (granted_in list m n) j none
-span_out list m n j h =
-    let l : length (granted_in list m n) ≤ j = simp (length-drop, length-take) (omega arith) in
-    sym (get_or-eq_default (granted_in list m n) none {n = j} l)
 
 -- ---- with code alone data is shown as code
 module _ (h : List ℕ) (granted : List Span) (type : ℕ) {n : ℕ} (e : n ≡ groups h) where

@@ -1,5 +1,5 @@
 -- What code may rely on once the tests have passed; not for the reader of the paper.
-use Rattle.std.specs.Prelude.{◌≡◌, true, List, ℕ, ◌+◌, ◌*◌, ◌≤◌, ◌<◌, length, take, drop, get_or}
+use Rattle.std.specs.Prelude.{◌≡◌, true, List, ℕ, ◌+◌, ◌*◌, ◌≤◌, ◌<◌, length, get_or}
 use Rattle.disk_geometry.specs.Geometry.{record_bytes}
 use Rattle.call_fcb.specs.Fcb.{fcb_bytes}
 use Rattle.filecalls.specs.declared.Drive.{Drive}
@@ -9,10 +9,6 @@ use Rattle.memory_calls.specs.declared.Table.{Table}
 use Rattle.memory_calls.specs.Table.{within_rules}
 use Rattle.load_header.specs.Header.{descriptors, length_at, groups, good_header, image_start}
 use Rattle.load_records.specs.Records.{image_records}
-
--- what was granted behind m regions, by its places in the table
-abbrev pub granted_in : List Span → ℕ → ℕ → List Span
-granted_in list m n = drop m (take (m + n) list)
 
 -- the image of each of the first n groups fits at the start of its region
 pub record Held (h : List ℕ) (granted : List Span) (bytes n : ℕ) : Type 0 where

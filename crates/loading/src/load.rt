@@ -30,16 +30,6 @@ fn refuse(why: LoadRefusal, t: Table) -> LoadReply
     }
 }
 
-// One less, but not below 0.
-fn less_one(x: usize) -> usize
-    ensures { result ≡ x - 1 }
-{
-    if x == 0 {
-        return 0;
-    }
-    x - 1
-}
-
 // Grants the groups and, where all have room, lays their images and the base page.
 fn grant_and_lay(
     front: Front,
@@ -55,26 +45,25 @@ fn grant_and_lay(
         ≡ refusing (ltb (length (grants_of h.now t)) (groups h.now)) NoRoom t memory.old
         (loaded h.now (grants_of h.now t) (image (bare front) volume.now fcb.now) t memory.old) }
 {
-    let pieces = t.pieces;
-    let regions = t.regions;
-    let m = t.granted;
-    let next = load_grants::grant_all(h, n, pieces, t.used, regions, m);
-    let count = next.count;
-    if count < m + n {
+    let before = t.regions();
+    let next = load_grants::grant_all(h, n, t.pieces(), before);
+    let granted = &next.used()[before.len()..];
+    if granted.len() < n {
         return refuse(LoadRefusal::NoRoom, t);
     }
-    let list = next.list;
-    lay::lay_groups(front, volume, fcb, h, list, m, n, memory);
-    let paragraph = page::page_start(h, list, m, n);
+    lay::lay_groups(front, volume, fcb, h, granted, memory);
+    let paragraph = page::page_start(h, granted);
     let at = PARAGRAPH_BYTES * paragraph;
-    page::put_page(h, list, m, n, &mut memory[at..at + PAGE_BYTES]);
+    page::put_page(h, granted, &mut memory[at..at + PAGE_BYTES]);
+    let pieces = t.pieces;
+    let regions = next.list;
     LoadReply {
         answer: LoadAnswer::Loaded(paragraph),
         table: Table {
             pieces,
             used: t.used,
-            regions: list,
-            granted: count,
+            regions,
+            granted: next.count,
         },
     }
 }
@@ -101,7 +90,7 @@ fn place(
         return refuse(LoadRefusal::Header, t);
     }
     let n = load_header::groups(h);
-    let image = Geometry::RECORD_BYTES * less_one(size);
+    let image = Geometry::RECORD_BYTES * size.saturating_sub(1);
     if image < PARAGRAPH_BYTES * load_header::image_start(h, n) {
         return refuse(LoadRefusal::Image, t);
     }

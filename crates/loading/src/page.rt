@@ -1,50 +1,44 @@
 // The base page: what the groups were granted, in eight fields of six bytes.
-ghost use Rattle.std.specs.Prelude.{◌≡◌, ◌+◌, ◌-◌, ◌*◌, ◌≤◌, ◌<◌, length, get_or};
-ghost use Rattle.memory_spans.specs.Span.{places, paragraph_bytes, none};
-ghost use Rattle.load_header.specs.Header.{descriptors, groups};
-ghost use Rattle.loading.specs.Page.{field_bytes, page_bytes, region_of, shown_of, last_of, field_of, field, base_page, page_start};
-ghost use Rattle.loading.specs.CodeLoad.{granted_in};
+ghost use Rattle.std.specs.Prelude.{◌≡◌, ◌<◌, length, get_or};
+ghost use Rattle.memory_spans.specs.Span.{none};
+ghost use Rattle.load_header.specs.Header.{groups};
+ghost use Rattle.loading.specs.Page.{field_bytes, page_bytes, region_of, shown_of, last_of, field_of, base_page, page_start};
 
 use load_header::{CODE, DATA, LAST_AUX};
-use memory_spans::{PARAGRAPH_BYTES, PLACES, Span};
+use memory_spans::{PARAGRAPH_BYTES, Span};
 
 // How many bytes a field has, and all fields.
 const FIELD_BYTES: usize = 6;
 
 pub(crate) const PAGE_BYTES: usize = 48;
 
-// What group j was granted: the regions of n groups stand behind m others.
-pub(crate) fn span_at(list: [Span; PLACES], m: usize, n: usize, j: usize) -> Span
-    requires { m + n ≤ places }
-    ensures { result ≡ get_or (granted_in list m n) j none }
+// What group j was granted.
+fn span_at(granted: &[Span], j: usize) -> Span
+    ensures { result ≡ get_or granted.now j none }
 {
-    if j < n {
-        return list[m + j];
-    }
-    Span {
+    granted.get(j).copied().unwrap_or(Span {
         start: 0,
         length: 0,
-    }
+    })
 }
 
 // What the group of that type was granted.
-fn region_of(h: &[u8], list: [Span; PLACES], m: usize, n: usize, kind: usize) -> Span
-    requires { m + n ≤ places }
-    ensures { result ≡ region_of h.now (granted_in list m n) kind }
+fn region_of(h: &[u8], granted: &[Span], kind: usize) -> Span
+    ensures { result ≡ region_of h.now granted.now kind }
 {
-    let place = load_header::place_of(h, kind);
-    span_at(list, m, n, place)
+    span_at(granted, load_header::place_of(h, kind))
 }
 
 // The region that the field of that type shows.
-fn shown_of(h: &[u8], list: [Span; PLACES], m: usize, n: usize, kind: usize) -> Span
-    requires { (m + n ≤ places) × (n ≡ groups h.now) }
-    ensures { result ≡ shown_of h.now (granted_in list m n) kind }
+fn shown_of(h: &[u8], granted: &[Span], kind: usize) -> Span
+    requires { length granted.now ≡ groups h.now }
+    ensures { result ≡ shown_of h.now granted.now kind }
 {
+    let n = granted.len();
     if (n == 1) & (kind == DATA) {
-        return region_of(h, list, m, n, CODE);
+        return region_of(h, granted, CODE);
     }
-    region_of(h, list, m, n, kind)
+    region_of(h, granted, kind)
 }
 
 // The last byte of the field of that type.
@@ -55,57 +49,36 @@ fn last_of(h: &[u8], n: usize, kind: usize) -> u8
     if (n == 1) & (kind == CODE) { 1 } else { 0 }
 }
 
-// How many bytes were granted, less 1; 0 where nothing was.
-fn bytes_less_1(paragraphs: usize) -> usize
-    requires { paragraphs < 65536 }
-    ensures { result ≡ paragraph_bytes * paragraphs - 1 }
-{
-    if paragraphs == 0 {
-        return 0;
-    }
-    PARAGRAPH_BYTES * paragraphs - 1
-}
-
 // Lays a field into six bytes.
 fn put_field(out: &mut [u8], s: Span, last: u8)
     requires { length out.old ≡ field_bytes }
     ensures { out.new ≡ field_of s last }
 {
-    let end = bytes_less_1(memory_spans::wide(s.length));
-    let start = memory_spans::wide(s.start);
-    let bytes = [
-        (end % 256) as u8,
-        (end / 256 % 256) as u8,
-        (end / 256 / 256 % 256) as u8,
-        (start % 256) as u8,
-        (start / 256 % 256) as u8,
-        last,
-    ];
-    lists::copy(out, &bytes);
+    let bytes = PARAGRAPH_BYTES * usize::from(s.length);
+    let end = bytes.saturating_sub(1) as u32;
+    let [end_low, end_middle, end_high, _] = end.to_le_bytes();
+    let [start_low, start_high] = s.start.to_le_bytes();
+    out.copy_from_slice(&[end_low, end_middle, end_high, start_low, start_high, last]);
 }
 
 // Lays the base page.
-pub(crate) fn put_page(h: &[u8], list: [Span; PLACES], m: usize, n: usize, out: &mut [u8])
-    requires { (length out.old ≡ page_bytes) × ((m + n ≤ places) × (n ≡ groups h.now)) }
-    ensures { out.new ≡ base_page h.now (granted_in list m n) }
+pub(crate) fn put_page(h: &[u8], granted: &[Span], out: &mut [u8])
+    requires { (length out.old ≡ page_bytes) × (length granted.now ≡ groups h.now) }
+    ensures { out.new ≡ base_page h.now granted.now }
 {
-    let mut i = 0;
-    while i < LAST_AUX {
+    for i in 0..LAST_AUX {
         let kind = i + 1;
-        let s = shown_of(h, list, m, n, kind);
-        let last = last_of(h, n, kind);
+        let s = shown_of(h, granted, kind);
+        let last = last_of(h, granted.len(), kind);
         let at = FIELD_BYTES * i;
         put_field(&mut out[at..at + FIELD_BYTES], s, last);
-        i += 1;
     }
 }
 
 // The paragraph where the base page begins.
-pub(crate) fn page_start(h: &[u8], list: [Span; PLACES], m: usize, n: usize) -> usize
-    requires { m + n ≤ places }
-    ensures { (result ≡ page_start h.now (granted_in list m n)) × (result < 65536) }
+pub(crate) fn page_start(h: &[u8], granted: &[Span]) -> usize
+    ensures { (result ≡ page_start h.now granted.now) × (result < 65536) }
 {
-    let place = load_header::page_place(h);
-    let s = span_at(list, m, n, place);
-    memory_spans::wide(s.start)
+    let s = span_at(granted, load_header::page_place(h));
+    usize::from(s.start)
 }

@@ -1,5 +1,5 @@
 -- The spans in the bytes, one by one, and the eight places that they fill.
-use mathlib.Core.Path.{◌≡◌, refl, ap}
+use mathlib.Core.Path.{◌≡◌, refl, sym, ap, ◌∙◌}
 use mathlib.Core.Bool.{Bool, true, false}
 use mathlib.Core.List.{List, [], ◌∷◌, ◌++◌, append-nil}
 use Prim.Native.Nat.{ℕ, zero, suc, ◌+◌, ◌*◌, ◌≤◌, ◌<◌}
@@ -13,7 +13,7 @@ use Rattle.joined.proofs.JoinedLaws.{joined_length}
 use Rattle.numbers.specs.Numbers.{bytes_of}
 use Rattle.memory_spans.specs.declared.Span.{Span}
 use Rattle.memory_spans.specs.Span.{places, none}
-use Rattle.memory_regions.specs.Places.{padded}
+use Rattle.std.proofs.lemmas.List.FromFn.{fill_by_all}
 use Rattle.memory_bytes.specs.TableBytes.{table_bytes, PIECES, REGIONS, span_bytes, span_at, spans_at, used_in, span_laid, spans_laid}
 
 pub spans_length : (b : List ℕ) (a k : ℕ) → length (spans_at b a k) ≡ k
@@ -29,13 +29,11 @@ spans_place b a (suc k) (suc j) h =
     let z : a + span_bytes * suc j ≡ a + span_bytes + span_bytes * j = omega arith in
     rw z (spans_place b (a + span_bytes) k j (omega arith))
 
--- as many as there are places
-pub padded_full : (n : ℕ) (l : List Span) → length l ≡ n → padded n l ≡ l
-unfolding padded
-padded_full zero [] h = refl
-padded_full zero (x ∷ l) h = absurd (omega arith)
-padded_full (suc n) [] h = absurd (omega arith)
-padded_full (suc n) (x ∷ l) h = ap (λ (k : List Span). x ∷ k) (padded_full n l (omega arith))
+-- eight places read one by one
+pub spans_read : (b : List ℕ) (a : ℕ) (out : List Span) → length out ≡ places → ((k : ℕ) → k < places → get_or out k none ≡ span_at b (a + span_bytes * k)) → out ≡ spans_at b a places
+spans_read b a out e h =
+    fill_by_all (λ k. span_at b (a + span_bytes * k)) out places none e h
+    ∙ sym (fill_by_all (λ k. span_at b (a + span_bytes * k)) (spans_at b a places) places none (spans_length b a places) (λ k x. spans_place b a places k x))
 
 pub span_length : (s : Span) → length (span_laid s) ≡ span_bytes
 unfolding span_laid bytes_of

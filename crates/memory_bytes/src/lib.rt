@@ -46,11 +46,8 @@ fn spans_at(b: &[u8], a: usize) -> [Span; PLACES]
         start: 0,
         length: 0,
     }; PLACES];
-    let mut i = 0;
-    while i < PLACES {
-        let s = span_at(b, a + SPAN_BYTES * i);
-        out[i] = s;
-        i += 1;
+    for i in 0..PLACES {
+        out[i] = span_at(b, a + SPAN_BYTES * i);
     }
     out
 }
@@ -62,7 +59,7 @@ fn used_in(b: &[u8]) -> usize
     if b.len() != TABLE_BYTES {
         return PLACES + 1;
     }
-    lists::wide(numbers::byte_at(b, 0))
+    usize::from(numbers::byte_at(b, 0))
 }
 
 // The table in the bytes.
@@ -75,7 +72,7 @@ pub fn table_of(b: &[u8]) -> Table
         pieces,
         used: used_in(b),
         regions,
-        granted: lists::wide(numbers::byte_at(b, 1)),
+        granted: usize::from(numbers::byte_at(b, 1)),
     }
 }
 
@@ -97,40 +94,23 @@ fn put_span(out: &mut [u8], s: Span)
     requires { length out.old ≡ span_bytes }
     ensures { out.new ≡ span_laid s }
 {
-    let bytes = [
-        (s.start % 256) as u8,
-        (s.start / 256 % 256) as u8,
-        (s.length % 256) as u8,
-        (s.length / 256 % 256) as u8,
-    ];
-    lists::copy(out, &bytes);
+    let [start_low, start_high] = s.start.to_le_bytes();
+    let [length_low, length_high] = s.length.to_le_bytes();
+    out.copy_from_slice(&[start_low, start_high, length_low, length_high]);
 }
 
-// Place i of which the first n are used.
-fn used_at(list: [Span; PLACES], n: usize, i: usize) -> Span
-    requires { i < places }
-    ensures { result ≡ get_or (take n list) i none }
-{
-    if i < n {
-        return list[i];
-    }
-    Span {
-        start: 0,
-        length: 0,
-    }
-}
-
-// Lays eight spans, of which the first n are used.
-fn put_spans(out: &mut [u8], list: [Span; PLACES], n: usize)
+// Lays eight places: the spans, and behind them zeros.
+fn put_spans(out: &mut [u8], list: &[Span])
     requires { length out.old ≡ span_bytes * places }
-    ensures { out.new ≡ spans_laid (take n list) }
+    ensures { out.new ≡ spans_laid list.now }
 {
-    let mut i = 0;
-    while i < PLACES {
-        let s = used_at(list, n, i);
+    for i in 0..PLACES {
+        let s = list.get(i).copied().unwrap_or(Span {
+            start: 0,
+            length: 0,
+        });
         let at = SPAN_BYTES * i;
         put_span(&mut out[at..at + SPAN_BYTES], s);
-        i += 1;
     }
 }
 
@@ -140,11 +120,9 @@ pub fn put_table(out: &mut [u8], t: Table)
     ensures { out.new ≡ table_laid t }
 {
     let numbers = [t.used as u8, t.granted as u8];
-    lists::copy(&mut out[0..PIECES], &numbers);
-    let pieces = t.pieces;
-    put_spans(&mut out[PIECES..REGIONS], pieces, t.used);
-    let regions = t.regions;
-    put_spans(&mut out[REGIONS..TABLE_BYTES], regions, t.granted);
+    out[..PIECES].copy_from_slice(&numbers);
+    put_spans(&mut out[PIECES..REGIONS], t.pieces());
+    put_spans(&mut out[REGIONS..TABLE_BYTES], t.regions());
 }
 
 // Lays a control block.
@@ -152,14 +130,9 @@ fn put_mcb(out: &mut [u8], m: Mcb)
     requires { length out.old ≡ mcb_bytes }
     ensures { out.new ≡ mcb_laid m }
 {
-    let bytes = [
-        (m.base % 256) as u8,
-        (m.base / 256 % 256) as u8,
-        (m.length % 256) as u8,
-        (m.length / 256 % 256) as u8,
-        m.ext,
-    ];
-    lists::copy(out, &bytes);
+    let [base_low, base_high] = m.base.to_le_bytes();
+    let [length_low, length_high] = m.length.to_le_bytes();
+    out.copy_from_slice(&[base_low, base_high, length_low, length_high, m.ext]);
 }
 
 // Is the control block refused by its length? 53 to 57 are lent one.

@@ -1,17 +1,21 @@
 -- What the tests of the calls tell.
-use mathlib.Core.Path.{◌≡◌}
-use mathlib.Core.Bool.{Bool, true, false, ◌&&◌, ◌||◌, true≢false}
+use mathlib.Core.Path.{◌≡◌, refl, sym, ◌∙◌}
+use mathlib.Core.Bool.{Bool, true, false, cond, ◌&&◌, ◌||◌, true≢false}
 use mathlib.Core.List.{List}
 use Prim.Native.Nat.{ℕ, ◌≤◌, ◌<◌}
 use native.Mathlib.Decide.{dec_lt}
 use native.Mathlib.Omega.{arith}
-use borrow.Author.Tests.{leb-true, eqb-false, le-leb}
+use borrow.Author.Tests.{ltb-true, leb-true, eqb-false, le-leb}
 use lib.Dec.{leb, eqb}
-use lib.ListN.{length, get_or, get_or-eq_default}
+use lib.ListN.{length, length-take, get_or, get_or-eq_default}
 use lib.Seq.{get_or-take}
 use Rattle.lists.proofs.BoolLaws.{and_parts}
 use Rattle.memory_spans.specs.declared.Span.{Span}
-use Rattle.memory_spans.specs.Span.{places, paragraphs, none, end}
+use Rattle.memory_spans.specs.Span.{places, paragraphs, none, end, any_of}
+use Rattle.std.specs.Prelude.{Option, Some, None}
+use Rattle.memory_regions.specs.Freeing.{edge}
+use Rattle.memory_regions.specs.CodeFreeing.{first_edge}
+use Rattle.memory_regions.proofs.FreeLaws.{first_any}
 use Rattle.memory_spans.specs.Rules.{lawful}
 use Rattle.memory_spans.proofs.MemberLaws.{in_at}
 use Rattle.memory_spans.proofs.RulesLaws.{region_in_memory}
@@ -64,3 +68,37 @@ longest_named pieces regions a k s e f z =
     let n = eqb-false k 0 (or_right a (eqb k 0) z) in
     let p : 0 < k = omega (arith, n) in
     rw (f, e) (longest_there pieces regions (rw e at p))
+
+-- what the search for a region to free tells
+pub record FreeAt (part : Span) (t : Table) (at : ℕ) : Type 0 where
+  pub few : length (regions_of t) ≤ places
+  pub first : at ≡ first_edge part (regions_of t)
+  pub below : at < length (regions_of t)
+  pub named : end (get_or (regions_of t) at none) ≤ paragraphs
+
+pub found_edge : (part : Span) (l : List Span) (at : ℕ) → Some at ≡ cond (any_of (edge part) l) (Some (first_edge part l)) None
+    → (any_of (edge part) l ≡ true) × (at ≡ first_edge part l)
+found_edge part l at e = go (any_of (edge part) l) e
+  where
+    go : (b : Bool) → Some at ≡ cond b (Some (first_edge part l)) None → (b ≡ true) × (at ≡ first_edge part l)
+    go true f = (refl, (cc))
+    go false f = (cc)
+
+pub not_found : (part : Span) (l : List Span) → ◌≡◌ {A = Option ℕ} None (cond (any_of (edge part) l) (Some (first_edge part l)) None) → any_of (edge part) l ≡ false
+not_found part l e = go (any_of (edge part) l) e
+  where
+    go : (b : Bool) → ◌≡◌ {A = Option ℕ} None (cond b (Some (first_edge part l)) None) → b ≡ false
+    go true f = (cc)
+    go false f = refl
+
+pub found : (part : Span) (t : Table) (at : ℕ) → Ready t → Some at ≡ cond (any_of (edge part) (regions_of t)) (Some (first_edge part (regions_of t))) None → FreeAt part t at
+found part t at r e =
+    let f = found_edge part (regions_of t) at e in
+    let b : at < length (regions_of t) = ltb-true at (length (regions_of t)) (rw f.1 (sym (first_any part (regions_of t)) ∙ f.0)) in
+    let n : length (regions_of t) ≤ t.granted = rw length-take (omega arith) in
+    record {
+      few = omega (arith, n, r.few_regions);
+      first = f.1;
+      below = b;
+      named = rw (get_or-take t.granted t.regions at none (omega arith)) (r.named at (omega arith));
+    }

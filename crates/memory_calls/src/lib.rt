@@ -21,6 +21,22 @@ pub struct Table {
     pub granted: usize,
 }
 
+impl Table {
+    // The pieces in use.
+    pub fn pieces(&self) -> &[Span]
+        ensures { result.now ≡ pieces_of self.now }
+    {
+        &self.pieces[..self.used.min(PLACES)]
+    }
+
+    // The regions in use.
+    pub fn regions(&self) -> &[Span]
+        ensures { result.now ≡ regions_of self.now }
+    {
+        &self.regions[..self.granted.min(PLACES)]
+    }
+}
+
 // The memory control block: M-Base, M-Length, M-Ext.
 #[derive(Clone, Copy)]
 pub struct Mcb {
@@ -94,17 +110,13 @@ pub fn number(a: Answer) -> u8
 }
 
 // Is the table within the rules in a memory of so many bytes?
+#[tactic(auto, unfolding(crate::specs::Table::within_rules))]
 pub fn is_within_rules(bytes: usize, t: Table) -> bool
     ensures { result ≡ within_rules bytes t }
 {
-    let n = t.used;
-    let m = t.granted;
-    if (n <= PLACES) & (m <= PLACES) {
-        let pieces = t.pieces;
-        let regions = t.regions;
-        return memory_spans::is_lawful(bytes, pieces, n, regions, m);
-    }
-    false
+    (t.used <= PLACES)
+        & (t.granted <= PLACES)
+        & memory_spans::is_lawful(bytes, t.pieces(), t.regions())
 }
 
 // Refused, and all as it was.
@@ -153,8 +165,7 @@ fn grant_region(t: Table, start: u16, length: u16) -> Reply
     requires { t.granted < places }
     ensures { result ≡ granting t start length }
 {
-    let regions = t.regions;
-    let next = memory_regions::add(regions, t.granted, Span { start, length });
+    let next = memory_regions::add(t.regions(), Span { start, length });
     let table = with_places(t, next);
     done(table, start, length)
 }
@@ -164,17 +175,13 @@ fn longest_run(t: Table, mcb: Mcb) -> Reply
     requires { Ready t }
     ensures { result ≡ longest_run_of t mcb }
 {
-    let pieces = t.pieces;
-    let regions = t.regions;
-    let n = t.used;
-    let m = t.granted;
-    let asked = memory_spans::wide(mcb.length);
-    let k = memory_room::longest(pieces, n, regions, m);
+    let asked = usize::from(mcb.length);
+    let k = memory_room::longest(t.pieces(), t.regions());
     if (asked == 0) | (k == 0) {
         return refuse(Refusal::NoRoom, t, mcb);
     }
-    let start = memory_room::lowest_start(pieces, n, regions, m, k);
-    let length = memory_room::smaller(k, asked);
+    let start = memory_room::lowest_start(t.pieces(), t.regions(), k);
+    let length = k.min(asked);
     done(t, start as u16, length as u16)
 }
 
@@ -183,15 +190,11 @@ fn has_room(t: Table, mcb: Mcb) -> bool
     requires { Ready t }
     ensures { result ≡ has_room (pieces_of t) (regions_of t) mcb.length mcb.base }
 {
-    let pieces = t.pieces;
-    let regions = t.regions;
     memory_spans::has_room(
-        pieces,
-        t.used,
-        regions,
-        t.granted,
-        memory_spans::wide(mcb.length),
-        memory_spans::wide(mcb.base),
+        t.pieces(),
+        t.regions(),
+        usize::from(mcb.length),
+        usize::from(mcb.base),
     )
 }
 
@@ -214,15 +217,7 @@ fn grant(t: Table, mcb: Mcb) -> Reply
     if PLACES <= t.granted {
         return refuse(Refusal::NoPlace, t, mcb);
     }
-    let pieces = t.pieces;
-    let regions = t.regions;
-    let start = memory_room::lowest_start(
-        pieces,
-        t.used,
-        regions,
-        t.granted,
-        memory_spans::wide(mcb.length),
-    );
+    let start = memory_room::lowest_start(t.pieces(), t.regions(), usize::from(mcb.length));
     if PARAGRAPHS <= start {
         return refuse(Refusal::NoRoom, t, mcb);
     }
@@ -264,14 +259,14 @@ fn free_part(t: Table, mcb: Mcb) -> Reply
         start: mcb.base,
         length: mcb.length,
     };
-    let regions = t.regions;
-    let m = t.granted;
-    let at = memory_regions::first_edge(regions, m, part);
-    if (mcb.length != 0) & (at < m) {
-        let table = with_places(t, memory_regions::free_at(regions, m, part, at));
-        return done(table, mcb.base, mcb.length);
+    if mcb.length == 0 {
+        return refuse(Refusal::BadFree, t, mcb);
     }
-    refuse(Refusal::BadFree, t, mcb)
+    let Some(at) = memory_regions::first_edge(t.regions(), part) else {
+        return refuse(Refusal::BadFree, t, mcb);
+    };
+    let table = with_places(t, memory_regions::free_at(t.regions(), part, at));
+    done(table, mcb.base, mcb.length)
 }
 
 // 58: all regions.

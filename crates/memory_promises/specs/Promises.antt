@@ -1,10 +1,9 @@
 -- The promises of the memory calls and of a group's grant. proofs/Theorem.antt and proofs/GroupTheorem.antt prove each statement under its name.
-use Rattle.std.specs.Prelude.{◌≡◌, true, false, List, [], ◌∷◌, ◌++◌, ◌⊎◌, ℕ, ◌+◌, ◌≤◌, ◌<◌, min, length, get_or}
+use Rattle.std.specs.Prelude.{◌≡◌, Some, None, true, false, List, [], ◌∷◌, ◌++◌, ◌⊎◌, ℕ, ◌+◌, ◌≤◌, ◌<◌, min, length, get_or}
 use Rattle.memory_spans.specs.declared.Span.{Span}
 use Rattle.memory_spans.specs.Span.{places, paragraphs, none, end, covers}
 use Rattle.memory_spans.specs.Room.{free, taken}
 use Rattle.memory_spans.specs.Rules.{lawful}
-use Rattle.memory_room.specs.declared.Granted.TheVariants.{Given, Nowhere}
 use Rattle.memory_room.specs.Starts.{grant_of}
 use Rattle.memory_calls.specs.declared.Table.{Table}
 use Rattle.memory_calls.specs.declared.Mcb.{Mcb}
@@ -112,12 +111,12 @@ abbrev pub GroupKeepsRules : Type 0
 GroupKeepsRules =
     (bytes : ℕ) (pieces regions : List Span) (base need most : ℕ) (s : Span)
     → lawful bytes pieces regions ≡ true
-    → grant_of pieces regions base need most ≡ Given s
+    → grant_of pieces regions base need most ≡ Some s
     → (lawful bytes pieces (regions ++ (s ∷ [])) ≡ true) × (need ≤ s.length)
 
 abbrev pub NowhereMeansNoRoom : Type 0
 NowhereMeansNoRoom =
     (pieces regions : List Span) (base need most : ℕ)
     → Exactly
-    (grant_of pieces regions base need most ≡ Nowhere)
+    (grant_of pieces regions base need most ≡ None)
     ((s : ℕ) → s < paragraphs → (base ≡ 0) ⊎ (s ≡ base) → Room pieces regions need s → ⊥)

@@ -3,18 +3,22 @@ use mathlib.Core.Path.{◌≡◌, refl, sym, ap, ◌∙◌}
 use mathlib.Core.Bool.{Bool, true, false, cond, ◌||◌}
 use mathlib.Core.List.{List, [], ◌∷◌, ◌++◌}
 use mathlib.Core.Logic.{◌⊎◌, inl, inr}
-use Prim.Native.Nat.{ℕ, zero, suc, ◌-◌, ◌≤◌, ◌<◌}
+use Prim.Native.Nat.{ℕ, zero, suc, ◌≤◌, ◌<◌}
 use native.Mathlib.Omega.{arith}
 use borrow.Author.Tests.{eqb-true, eq-eqb, ltb-true, ltb-false}
 use lib.Dec.{ltb, eqb}
 use lib.ListN.{length, get_or, take, drop}
+use Rattle.std.specs.Prelude.{Some, None}
+use Rattle.std.specs.List.{position_or_len}
+use Rattle.std.proofs.lemmas.List.Sums.{position_or_len_is}
 use Rattle.lists.specs.Bounded.{low_from}
 use Rattle.lists.proofs.BoolLaws.{and_parts}
 use Rattle.lists.proofs.BoundedLaws.{low_hit, low_miss}
 use Rattle.memory_spans.specs.declared.Span.{Span}
 use Rattle.memory_spans.specs.Span.{paragraphs, none, end, lies_in, any_of}
+use native.Mathlib.Nat.{sub-zero}
 use Rattle.memory_spans.proofs.SpanLaws.{LiesIn, lies_facts}
-use Rattle.memory_regions.proofs.PlaceLaws.{used_length}
+use Rattle.memory_spans.proofs.RoomLaws.{Stop, low_stop}
 use Rattle.memory_regions.specs.Freeing.{edge, left, freed}
 use Rattle.memory_regions.specs.CodeFreeing.{first_edge}
 
@@ -101,25 +105,18 @@ pub left_none : (part region : Span) → part.length ≡ region.length → left 
 unfolding left
 left_none part region e = rw (eq-eqb part.length region.length e)
 
-named : (part : Span) (arr : List Span) (m r : ℕ)
-    → length arr ≡ 8
-    → m ≤ 8
-    → low_from (λ i. edge part (get_or (take m arr) i none)) 0 (m - 0) ≡ r
-    → r ≡ first_edge part (take m arr)
-unfolding first_edge
-named part arr m r e h s =
-    let z : m - 0 ≡ m = omega arith in
-    sym (rw (used_length arr m e h) (rw z at s))
-
 -- the search of the code
-pub first_is : (part : Span) (arr : List Span) (m r : ℕ)
-    → length arr ≡ 8
-    → m ≤ 8
-    → low_from (λ i. edge part (get_or (take m arr) i none)) 0 (m - 0) ≡ r
-    → (r ≡ first_edge part (take m arr)) × (ltb r m ≡ any_of (edge part) (take m arr))
-first_is part arr m r e h s =
-    let a : r ≡ first_edge part (take m arr) = named part arr m r e h s in
-    (a, sym (first_any part (take m arr) ∙ rw (← a, used_length arr m e h)))
+position_is : (part : Span) (l : List Span) → position_or_len (edge part) l ≡ first_edge part l
+unfolding first_edge
+position_is part l =
+    let t = λ (i : ℕ). edge part (get_or l i none) in
+    let s : Stop t 0 (length l) (low_from t 0 (length l)) = rw sub-zero at (low_stop t 0 (length l) (omega arith)) in
+    position_or_len_is (edge part) l (low_from t 0 (length l)) none s.to (λ k h. s.before k (omega arith) h) s.hit
+
+pub first_found : (part : Span) (l : List Span)
+    → cond (ltb (position_or_len (edge part) l) (length l)) (Some (position_or_len (edge part) l)) None
+    ≡ cond (any_of (edge part) l) (Some (first_edge part l)) None
+first_found part l = rw (position_is part l, first_any part l)
 
 -- all of the region is freed, or a part of it
 pub freed_whole : (part : Span) (l : List Span) (at : ℕ) → First part l at → part.length ≡ (get_or l at none).length → freed part l ≡ take at l ++ drop (suc at) l

@@ -1,12 +1,11 @@
--- Laws of the region places: element by element, after one is put in or taken out, and the loop that lays them down.
+-- Laws of the region places: element by element, laid down part by part, and the loop that lays them down.
 use mathlib.Core.Path.{◌≡◌, refl, sym, ap, ◌∙◌}
-use mathlib.Core.List.{List, [], ◌∷◌, ◌++◌, append-nil}
-use Prim.Native.Nat.{ℕ, zero, suc, ◌+◌, ◌≤◌, ◌<◌}
-use native.Mathlib.Nat.{zero-add}
+use mathlib.Core.List.{List, [], ◌∷◌, ◌++◌, append_assoc}
+use Prim.Native.Nat.{ℕ, zero, suc, ◌+◌, ◌-◌, ◌≤◌, ◌<◌}
 use native.Mathlib.Numerals.{add-one}
 use native.Mathlib.Omega.{arith}
-use lib.ListN.{length, get_or, take, drop, set, length-take, length-append, length-set, get_or-eq_default, drop_of_length-le}
-use lib.Seq.{paste, paste-zero, paste-suc, take_all, get_or-take}
+use lib.ListN.{length, get_or, take, drop, length-take, length-drop, length-append, get_or-eq_default}
+use lib.Seq.{take-append_seam, drop-append_seam, drop-drop, take_all, get_or-take}
 use Rattle.memory_spans.specs.declared.Span.{Span}
 use Rattle.memory_spans.specs.Span.{none}
 use Rattle.memory_regions.specs.Places.{padded, places_of}
@@ -38,33 +37,6 @@ padded_used n [] h = refl
 padded_used zero (x ∷ l) h = absurd (omega arith)
 padded_used (suc n) (x ∷ l) h = ap (λ (k : List Span). x ∷ k) (padded_used n l (omega arith))
 
--- ---- s at place `at`
-pub with_at : (l : List Span) (at : ℕ) (s : Span) → at ≤ length l → get_or (take at l ++ (s ∷ drop (suc at) l)) at none ≡ s
-with_at l zero s h = refl
-with_at [] (suc at) s h = absurd (omega arith)
-with_at (x ∷ l) (suc at) s h = with_at l at s (omega arith)
-
-pub with_other : (l : List Span) (at j : ℕ) (s : Span) → at ≤ length l → (j ≡ at → ⊥) → get_or (take at l ++ (s ∷ drop (suc at) l)) j none ≡ get_or l j none
-with_other l zero zero s h n = absurd (n refl)
-with_other [] zero (suc j) s h n = refl
-with_other (x ∷ l) zero (suc j) s h n = refl
-with_other [] (suc at) j s h n = absurd (omega arith)
-with_other (x ∷ l) (suc at) zero s h n = refl
-with_other (x ∷ l) (suc at) (suc j) s h n = with_other l at j s (omega arith) (λ z. n (ap suc z))
-
--- ---- the region of place `at` taken out
-pub without_before : (l : List Span) (at j : ℕ) → at < length l → j < at → get_or (take at l ++ drop (suc at) l) j none ≡ get_or l j none
-without_before l zero j h k = absurd (omega arith)
-without_before [] (suc at) j h k = absurd (omega arith)
-without_before (x ∷ l) (suc at) zero h k = refl
-without_before (x ∷ l) (suc at) (suc j) h k = without_before l at j (omega arith) (omega arith)
-
-pub without_behind : (l : List Span) (at j : ℕ) → at < length l → at ≤ j → get_or (take at l ++ drop (suc at) l) j none ≡ get_or l (suc j) none
-without_behind [] at j h k = absurd (omega arith)
-without_behind (x ∷ l) zero j h k = refl
-without_behind (x ∷ l) (suc at) zero h k = absurd (omega arith)
-without_behind (x ∷ l) (suc at) (suc j) h k = without_behind l at j (omega arith) (omega arith)
-
 -- ---- an element of the first m
 pub used_at : (arr : List Span) (m j : ℕ) → j < m → get_or (take m arr) j none ≡ get_or arr j none
 used_at arr m j h = get_or-take m arr j none h
@@ -76,54 +48,32 @@ used_past arr m j h = get_or-eq_default (take m arr) none (rw length-take (omega
 pub used_length : (arr : List Span) (m : ℕ) → length arr ≡ 8 → m ≤ 8 → length (take m arr) ≡ m
 used_length arr m e h = length-take m arr ∙ omega arith
 
-pub with_length : (l : List Span) (at : ℕ) (s : Span) → at < length l → length (take at l ++ (s ∷ drop (suc at) l)) ≡ length l
-with_length [] at s h = absurd (omega arith)
-with_length (x ∷ l) zero s h = refl
-with_length (x ∷ l) (suc at) s h = ap suc (with_length l at s (omega arith))
+-- ---- three parts laid down one behind the other, over eight unused places
+padded_split : (n : ℕ) (l : List Span) → length l ≤ n → l ++ drop (length l) (padded n []) ≡ padded n l
+unfolding padded
+padded_split n [] h = refl
+padded_split zero (x ∷ l) h = absurd (omega arith)
+padded_split (suc n) (x ∷ l) h = ap (λ (k : List Span). x ∷ k) (padded_split n l (omega arith))
 
-pub without_length : (l : List Span) (at : ℕ) → at < length l → suc (length (take at l ++ drop (suc at) l)) ≡ length l
-without_length [] at h = absurd (omega arith)
-without_length (x ∷ l) zero h = refl
-without_length (x ∷ l) (suc at) h = ap suc (without_length l at (omega arith))
+more : (zeros l m : List Span) {a k : ℕ} → a ≡ length l → k ≡ length m
+    → take a (l ++ drop a zeros) ++ (m ++ drop k (drop a (l ++ drop a zeros))) ≡ (l ++ m) ++ drop (length (l ++ m)) zeros
+more zeros l m {a} {k} e f =
+    rw (e, f, take-append_seam l (drop (length l) zeros), drop-append_seam l (drop (length l) zeros), drop-drop (length m) (length l) zeros, length-append l m, append_assoc l m (drop (length l + length m) zeros))
 
--- ---- a loop that lays the eight places down
-pub record Laid (l : List Span) (out₀ out : List Span) (j : ℕ) : Type 0 where
-  pub size : length out₀ ≡ 8
-  pub so : out ≡ paste out₀ 0 (padded 8 l) j
-  pub size_now : length out ≡ 8
+pub three_laid : (front middle back : List Span) {zeros x y z : List Span} {k n : ℕ} → zeros ≡ padded 8 [] → x ≡ front → y ≡ middle → z ≡ back
+    → k ≡ length middle → n ≡ length back → length front + (length middle + length back) ≤ 8
+    → (let l = take (length front) (x ++ drop (length front) zeros) ++ (y ++ drop k (drop (length front) (x ++ drop (length front) zeros))) in
+    take (length front + length middle) l ++ (z ++ drop n (drop (length front + length middle) l)))
+    ≡ padded 8 (front ++ (middle ++ back))
+three_laid front middle back {zeros} {x} {y} {z} {k} {n} ez ex ey eb ek en h =
+    let first = more zeros front middle {a = length front} {k = k} refl ek in
+    let second = more zeros (front ++ middle) back {a = length front + length middle} {k = n} (sym (length-append front middle)) en in
+    let whole = padded_split 8 (front ++ (middle ++ back)) (simp (length-append, length-append) (omega arith)) in
+    rw (ex, ey, eb, first, length-append front middle, second, ez, append_assoc front middle back) whole
 
-pub laid_start : {l out : List Span} → length out ≡ 8 → Laid l out out 0
-laid_start {l} {out} h = record { size = h; so = paste-zero out 0 (padded 8 l); size_now = h }
-
-pub laid_next : {l out₀ out : List Span} {j : ℕ} {x : Span} → Laid l out₀ out j → j < 8 → x ≡ get_or l j none → Laid l out₀ (set out j x) (j + 1)
-laid_next {l} {out₀} {out} {j} {x} a h e =
-    let b : j < length (padded 8 l) = rw padded_length h in
-    let c : 0 + j < length out₀ = omega (arith, a.size) in
-    record {
-      size = a.size;
-      so = ap (set out j) (e ∙ sym (padded_at 8 l j h))
-          ∙ ap (λ (k : List Span). set k j (get_or (padded 8 l) j none)) a.so
-          ∙ ap (λ (k : ℕ). set (paste out₀ 0 (padded 8 l) j) k (get_or (padded 8 l) j none)) (sym (zero-add j))
-          ∙ paste-suc out₀ 0 (padded 8 l) j none c b
-          ∙ ap (paste out₀ 0 (padded 8 l)) (sym (add-one j));
-      size_now = length-set out j x ∙ a.size_now;
-    }
-
-pub laid_end : {l out₀ out : List Span} {j : ℕ} → Laid l out₀ out j → 8 ≤ j → out ≡ padded 8 l
-laid_end {l} {out₀} {out} {j} a h =
-    let k : length out₀ ≤ 0 + j = omega (arith, a.size) in
-    let n : length (padded 8 l) ≤ j = rw padded_length h in
-    a.so ∙ rw (take_all j (padded 8 l) n, drop_of_length-le out₀ k, append-nil)
+-- what lies behind place `at`, as a slice
+pub behind : (l : List Span) (at : ℕ) → take (length l - (at + 1)) (drop (at + 1) l) ≡ drop (suc at) l
+behind l at = rw add-one (take_all (length l - suc at) (drop (suc at) l) (simp length-drop (omega arith)))
 
 pub places_are : (l list : List Span) (count : ℕ) → list ≡ padded 8 l → count ≡ length l → ◌≡◌ {A = Regions} (record { list = list; count = count }) (places_of l)
 places_are l list count e f = λ i. record { list = e i; count = f i }
-
--- s behind the others
-pub added_as : (arr : List Span) (m : ℕ) (s : Span) → take m (take m arr) ++ (s ∷ drop (suc m) (take m arr)) ≡ take m arr ++ (s ∷ [])
-added_as arr m s =
-    let a : length (take m arr) ≤ m = rw length-take (omega arith) in
-    let b : length (take m arr) ≤ suc m = omega arith in
-    rw (take_all m (take m arr) a, drop_of_length-le (take m arr) b)
-
-pub added_length : (arr : List Span) (m : ℕ) (s : Span) → length arr ≡ 8 → m ≤ 8 → m + 1 ≡ length (take m arr ++ (s ∷ []))
-added_length arr m s e h = sym (length-append (take m arr) (s ∷ []) ∙ rw (used_length arr m e h))

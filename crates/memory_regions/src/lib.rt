@@ -1,9 +1,9 @@
 // The regions of a table: one added behind the others, and a part of one freed.
 #![tactic(auto)]
 
-ghost use Rattle.std.specs.Prelude.{◌≡◌, true, [], ◌∷◌, ◌++◌, suc, ◌≤◌, ◌<◌, ltb, take, drop, get_or};
+ghost use Rattle.std.specs.Prelude.{◌≡◌, Option, Some, None, true, cond, [], ◌∷◌, ◌++◌, ◌+◌, ◌≤◌, ◌<◌, length, take, get_or};
 ghost use Rattle.memory_spans.specs.Span.{places, paragraphs, none, end, any_of};
-ghost use Rattle.memory_regions.specs.Places.{padded, places_of};
+ghost use Rattle.memory_regions.specs.Places.{places_of};
 ghost use Rattle.memory_regions.specs.Freeing.{edge, left, freed};
 ghost use Rattle.memory_regions.specs.CodeFreeing.{first_edge};
 
@@ -16,83 +16,47 @@ pub struct Regions {
     pub count: usize,
 }
 
-// Place j where the span of place `at` is s and the first m others are as they were.
-fn kept_with(regions: [Span; PLACES], m: usize, at: usize, s: Span, j: usize) -> Span
-    requires { (m ≤ places) × (at ≤ m) }
-    ensures { result ≡ get_or (take at (take m regions) ++ (s ∷ drop (suc at) (take m regions))) j none }
+// The places with the regions of the three parts, in their order.
+fn joined(front: &[Span], middle: &[Span], back: &[Span]) -> Regions
+    requires { length front.now + (length middle.now + length back.now) ≤ places }
+    ensures { result ≡ places_of (front.now ++ (middle.now ++ back.now)) }
 {
-    if j == at {
-        return s;
-    }
-    if j < m {
-        return regions[j];
-    }
-    Span {
-        start: 0,
-        length: 0,
-    }
-}
-
-// The region places with s at place `at`.
-fn with_region(regions: [Span; PLACES], m: usize, at: usize, s: Span) -> [Span; PLACES]
-    requires { (m ≤ places) × (at ≤ m) }
-    ensures { result ≡ padded places (take at (take m regions) ++ (s ∷ drop (suc at) (take m regions))) }
-{
-    let mut out = [Span {
+    let mut list = [Span {
         start: 0,
         length: 0,
     }; PLACES];
-    let mut j = 0;
-    while j < PLACES {
-        let x = kept_with(regions, m, at, s, j);
-        out[j] = x;
-        j += 1;
-    }
-    out
+    let from = front.len();
+    let to = from + middle.len();
+    let count = to + back.len();
+    list[..from].copy_from_slice(front);
+    list[from..to].copy_from_slice(middle);
+    list[to..count].copy_from_slice(back);
+    Regions { list, count }
 }
 
-// Place j where the region of place `at` is gone and the later ones close up.
-fn kept_without(regions: [Span; PLACES], m: usize, at: usize, j: usize) -> Span
-    requires { (m ≤ places) × ((at < m) × (j < places)) }
-    ensures { result ≡ get_or (take at (take m regions) ++ drop (suc at) (take m regions)) j none }
-{
-    if j < at {
-        return regions[j];
+impl Regions {
+    // The places with these regions.
+    pub fn of(regions: &[Span]) -> Regions
+        requires { length regions.now ≤ places }
+        ensures { result ≡ places_of regions.now }
+    {
+        joined(regions, &[], &[])
     }
-    if j + 1 < m {
-        return regions[j + 1];
-    }
-    Span {
-        start: 0,
-        length: 0,
-    }
-}
 
-// The region places without the region of place `at`.
-fn without_region(regions: [Span; PLACES], m: usize, at: usize) -> [Span; PLACES]
-    requires { (m ≤ places) × (at < m) }
-    ensures { result ≡ padded places (take at (take m regions) ++ drop (suc at) (take m regions)) }
-{
-    let mut out = [Span {
-        start: 0,
-        length: 0,
-    }; PLACES];
-    let mut j = 0;
-    while j < PLACES {
-        let x = kept_without(regions, m, at, j);
-        out[j] = x;
-        j += 1;
+    // The regions in use.
+    pub fn used(&self) -> &[Span]
+        ensures { result.now ≡ take self.now.count self.now.list }
+    {
+        &self.list[..self.count.min(PLACES)]
     }
-    out
 }
 
 // The regions with s behind them.
-pub fn add(regions: [Span; PLACES], m: usize, s: Span) -> Regions
-    requires { m < places }
-    ensures { result ≡ places_of (take m regions ++ (s ∷ [])) }
+pub fn add(regions: &[Span], s: Span) -> Regions
+    requires { length regions.now < places }
+    ensures { result ≡ places_of (regions.now ++ (s ∷ [])) }
 {
-    let list = with_region(regions, m, m, s);
-    Regions { list, count: m + 1 }
+    joined(regions, &[s], &[])
 }
 
 // No region at all.
@@ -109,6 +73,7 @@ pub fn empty() -> Regions
 }
 
 // Is the part the start or the end of the region?
+#[tactic(auto, unfolding(crate::specs::Freeing::edge))]
 fn is_edge(part: Span, region: Span) -> bool
     ensures { result ≡ edge part region }
 {
@@ -117,20 +82,11 @@ fn is_edge(part: Span, region: Span) -> bool
     inside & ((to == memory_spans::end_of(region)) | (part.start == region.start))
 }
 
-// The place of the first region whose start or end the part is, m where it is none's.
-pub fn first_edge(regions: [Span; PLACES], m: usize, part: Span) -> usize
-    requires { m ≤ places }
-    ensures { (result ≡ first_edge part (take m regions)) × (ltb result m ≡ any_of (edge part) (take m regions)) }
+// The place of the first region whose start or end the part is.
+pub fn first_edge(regions: &[Span], part: Span) -> Option<usize>
+    ensures { result ≡ cond (any_of (edge part) regions.now) (Some (first_edge part regions.now)) None }
 {
-    let mut i = 0;
-    while i < m {
-        let region = regions[i];
-        if is_edge(part, region) {
-            return i;
-        }
-        i += 1;
-    }
-    i
+    regions.iter().position(|region| is_edge(part, *region))
 }
 
 // What is left of a region without its start or its end.
@@ -154,15 +110,15 @@ fn rest(part: Span, region: Span) -> Span
 }
 
 // The regions after the free of the part, which is the start or the end of the region at place `at`.
-pub fn free_at(regions: [Span; PLACES], m: usize, part: Span, at: usize) -> Regions
-    requires { (m ≤ places) × ((at ≡ first_edge part (take m regions)) × ((at < m) × (end (get_or regions at none) ≤ paragraphs))) }
-    ensures { result ≡ places_of (freed part (take m regions)) }
+pub fn free_at(regions: &[Span], part: Span, at: usize) -> Regions
+    requires { (length regions.now ≤ places) × ((at ≡ first_edge part regions.now) × ((at < length regions.now) × (end (get_or regions.now at none) ≤ paragraphs))) }
+    ensures { result ≡ places_of (freed part regions.now) }
 {
     let region = regions[at];
+    let front = &regions[..at];
+    let back = &regions[at + 1..];
     if part.length == region.length {
-        let list = without_region(regions, m, at);
-        return Regions { list, count: m - 1 };
+        return joined(front, &[], back);
     }
-    let list = with_region(regions, m, at, rest(part, region));
-    Regions { list, count: m }
+    joined(front, &[rest(part, region)], back)
 }

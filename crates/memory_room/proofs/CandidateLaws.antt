@@ -2,7 +2,8 @@
 -- the lowest one nor for the longest run.
 use mathlib.Core.Path.{◌≡◌, refl, sym, ap, ◌∙◌}
 use mathlib.Core.Bool.{Bool, true, false, cond, ◌&&◌, true≢false}
-use mathlib.Core.List.{List, [], ◌∷◌}
+use mathlib.Core.List.{List, [], ◌∷◌, ◌++◌, map}
+use Rattle.std.specs.List.{fold}
 use mathlib.Core.Logic.{◌⊎◌, inl, inr, ⊎_elim}
 use Prim.Native.Nat.{ℕ, suc, ◌+◌, ◌-◌, ◌≤◌, ◌<◌, max}
 use native.Mathlib.Decide.{ℕ_discrete}
@@ -10,14 +11,13 @@ use native.Mathlib.Nat.{sub-zero}
 use native.Mathlib.Omega.{arith}
 use borrow.Author.Tests.{ltb-true, ltb-false, lt-ltb, eqb-true, eq-eqb}
 use lib.Dec.{ltb, eqb}
-use lib.ListN.{length, get_or, take, drop}
 use Rattle.lists.specs.Bounded.{low_from}
 use Rattle.lists.proofs.BoolLaws.{and_parts}
-use Rattle.lists.proofs.BoundedLaws.{low_miss}
+use Rattle.lists.proofs.BoundedLaws.{low_le, low_miss}
 use Rattle.memory_spans.specs.declared.Span.{Span}
-use Rattle.memory_spans.specs.Span.{paragraphs, none, end, covers, any_of, most_of}
+use Rattle.memory_spans.specs.Span.{paragraphs, end, covers, any_of, most_of}
 use Rattle.memory_spans.specs.Room.{taken, free_in, room, has_room}
-use Rattle.memory_spans.proofs.SpanLaws.{next, past, Covers, covers_facts, covers_test}
+use Rattle.memory_spans.proofs.SpanLaws.{Covers, covers_facts, covers_test}
 use Rattle.memory_spans.proofs.MemberLaws.{In, Hit, any_true}
 use Rattle.memory_spans.proofs.SearchMore.{low_or}
 use Rattle.memory_spans.proofs.RoomLaws.{Stop, low_stop, stop_low, room_facts, room_test, Roomy, has_roomy, roomy_has, free_in_test, free_in_covers, free_in_clear}
@@ -83,26 +83,6 @@ at_one_passes of l p s e = (and_parts (any_of (λ x. eqb (of x) s) l) (p s) e).1
 at_one_test : (of : Span → ℕ) (x : Span) (l : List Span) (p : ℕ → Bool) (s : ℕ) → In x l → of x ≡ s → p s ≡ true → at_one of l p s ≡ true
 unfolding at_one
 at_one_test of x l p s i z e = rw (i.any (λ y. eqb (of y) s) (eq-eqb (of x) s z), e)
-
--- a loop over candidates
-pub record Lowered (of : Span → ℕ) (arr : List Span) (n : ℕ) (p : ℕ → Bool) (below low i : ℕ) : Type 0 where
-  pub rest : low_from (at_one of (take n arr) p) 0 below ≡ low_from (at_one of (drop i (take n arr)) p) 0 low
-
-module _ {of : Span → ℕ} {arr : List Span} {n : ℕ} {p : ℕ → Bool} {below : ℕ} where
-  pub lowered_start : Lowered of arr n p below below 0
-  lowered_start = record { rest = refl }
-
-  pub lowered_next : {low more i : ℕ}
-      → Lowered of arr n p below low i
-      → i < n
-      → n ≤ length arr
-      → more ≡ cond (ltb (of (get_or arr i none)) low && p (of (get_or arr i none))) (of (get_or arr i none)) low
-      → Lowered of arr n p below more (i + 1)
-  lowered_next {low} {more} {i} a h k e =
-      record { rest = a.rest ∙ rw (next arr n i h k, e) (at_one_next of (get_or arr i none) (drop (i + 1) (take n arr)) p low) }
-
-  pub lowered_end : {low i : ℕ} → Lowered of arr n p below low i → n ≤ i → low ≡ low_from (at_one of (take n arr) p) 0 below
-  lowered_end {low} {i} a h = sym (a.rest ∙ rw (past arr n i h) (at_one_none of p low))
 
 -- ---- the lowest start with room is one of the candidates
 module _ (pieces regions : List Span) (k : ℕ) where
@@ -254,6 +234,36 @@ lowest_by pieces regions k =
     (sym (lower_of_is (λ x. end x) regions (has_room pieces regions k) (lower_of (λ x. x.start) pieces (has_room pieces regions k) paragraphs)))
     ).0
 
+-- the candidates in the code's order, and its two searches of them
+abbrev pub candidates : List Span → List Span → List ℕ
+candidates pieces regions = map (λ x. x.start) pieces ++ map (λ x. end x) regions
+
+abbrev pub lowered : (ℕ → Bool) → ℕ → ℕ → ℕ
+lowered p low s = cond (ltb s low && p s) s low
+
+lowered_is : (of : Span → ℕ) (l : List Span) (p : ℕ → Bool) (low : ℕ) → fold (lowered p) low (map of l) ≡ lower_of of l p low
+unfolding lower_of
+lowered_is of [] p low = refl
+lowered_is of (x ∷ l) p low = lowered_is of l p (lowered p low (of x))
+
+fold_both : (h : ℕ → ℕ → ℕ) (a : ℕ) (l m : List ℕ) → fold h a (l ++ m) ≡ fold h (fold h a l) m
+fold_both h a [] m = refl
+fold_both h a (x ∷ l) m = fold_both h (h a x) l m
+
+pub lowest_folded : (pieces regions : List Span) (k r : ℕ)
+    → r ≡ fold (lowered (has_room pieces regions k)) paragraphs (candidates pieces regions)
+    → (r ≡ lowest_start pieces regions k) × (r ≤ paragraphs)
+unfolding lowest_start
+lowest_folded pieces regions k r e =
+    let p = has_room pieces regions k in
+    let is : r ≡ lowest_start pieces regions k =
+    e
+    ∙ fold_both (lowered p) paragraphs (map (λ x. x.start) pieces) (map (λ x. end x) regions)
+    ∙ lowered_is (λ x. end x) regions p (fold (lowered p) paragraphs (map (λ x. x.start) pieces))
+    ∙ ap (lower_of (λ x. end x) regions p) (lowered_is (λ x. x.start) pieces p paragraphs)
+    ∙ sym (lowest_by pieces regions k) in
+    (is, omega (arith, is, low_le p 0 paragraphs))
+
 -- ---- the longest run begins at a candidate
 below_le : (pieces regions : List Span) (s : ℕ) → room_below pieces regions s ≤ longest pieces regions
 unfolding room_below longest
@@ -311,6 +321,33 @@ longest_is pieces regions =
 
     up : longest pieces regions ≤ max (most_of (λ x. room_below pieces regions x.start) pieces) (most_of (λ x. room_below pieces regions (end x)) regions)
     up = longest_le pieces regions (max (most_of (λ x. room_below pieces regions x.start) pieces) (most_of (λ x. room_below pieces regions (end x)) regions)) (λ m h. one m h (has_room pieces regions (room pieces regions m) m) refl)
+
+largest : (f : ℕ → ℕ) (of : Span → ℕ) (a : ℕ) (l : List Span) → fold (λ m s. max m (f s)) a (map of l) ≡ max a (most_of (λ x. f (of x)) l)
+unfolding most_of
+largest f of a [] = omega arith
+largest f of a (x ∷ l) = largest f of (max a (f (of x))) l ∙ omega arith
+
+-- the largest so far of the candidates, which 16 bits can name
+pub record Largest (pieces regions : List Span) (l : List ℕ) (so : ℕ) : Type 0 where
+  pub is : so ≡ fold (λ m s. max m (room_below pieces regions s)) 0 l
+  pub named : so < paragraphs
+
+pub largest_start : (pieces regions : List Span) → Largest pieces regions [] 0
+largest_start pieces regions = record { is = refl; named = omega arith }
+
+pub largest_next : (pieces regions : List Span) (l : List ℕ) (so s more : ℕ) → Largest pieces regions l so
+    → more ≡ max so (room_below pieces regions s) → more < paragraphs → Largest pieces regions (l ++ (s ∷ [])) more
+largest_next pieces regions l so s more g e b =
+    record { is = e ∙ rw (fold_both (λ m s. max m (room_below pieces regions s)) 0 l (s ∷ []), g.is); named = b }
+
+pub longest_folded : (pieces regions : List Span) (r : ℕ) → Largest pieces regions (candidates pieces regions) r
+    → (r ≡ longest pieces regions) × (r < paragraphs)
+longest_folded pieces regions r g =
+    let f = room_below pieces regions in
+    let both = fold_both (λ m s. max m (f s)) 0 (map (λ x. x.start) pieces) (map (λ x. end x) regions) in
+    let first = largest f (λ x. x.start) 0 pieces in
+    let second = largest f (λ x. end x) (fold (λ m s. max m (f s)) 0 (map (λ x. x.start) pieces)) regions in
+    (omega (arith, g.is, both, first, second, longest_is pieces regions), g.named)
 
 -- where there is a free paragraph, a start has the most room
 pub longest_there : (pieces regions : List Span) → 0 < longest pieces regions → lowest_start pieces regions (longest pieces regions) < paragraphs

@@ -7,7 +7,7 @@ use Rattle.memory_spans.specs.declared.Span.{Span}
 use Rattle.memory_spans.specs.Span.{span, covers, overlap, lies_in, any_of, all_of, most_of}
 use Rattle.memory_spans.specs.Rules.{apart, lawful}
 use Rattle.memory_spans.specs.Room.{taken, free_in, run, room, has_room}
-use Rattle.memory_room.specs.declared.Granted.TheVariants.{Given, Nowhere}
+use Rattle.std.specs.Prelude.{Some, None}
 use Rattle.memory_room.specs.CodeCandidates.{room_below}
 use Rattle.memory_room.proofs.CandidateLaws.{lower_of, lowest_by, longest_is}
 use Rattle.memory_room.specs.Starts.{lowest_start, longest, grant_at, grant_of}
@@ -42,24 +42,24 @@ unfolding lower_of has_room room run free_in taken covers any_of most_of
 longest_at = lowest_by pieces regions 32
 
 -- a group that needs 20 and takes up to 25 paragraphs; up to 100; at its base; with a most below its need; nowhere
-granted_most : grant_of pieces regions 0 20 25 ≡ Given (span 288 25)
+granted_most : grant_of pieces regions 0 20 25 ≡ Some (span 288 25)
 unfolding grant_of grant_at lower_of has_room room run free_in taken covers any_of most_of
 granted_most = rw (lowest_by pieces regions 20)
 
-granted_room : grant_of pieces regions 0 20 100 ≡ Given (span 288 32)
+granted_room : grant_of pieces regions 0 20 100 ≡ Some (span 288 32)
 unfolding grant_of grant_at lower_of has_room room run free_in taken covers any_of most_of
 granted_room = rw (lowest_by pieces regions 20)
 
-granted_base : grant_of pieces regions 360 4 0 ≡ Given (span 360 4)
+granted_base : grant_of pieces regions 360 4 0 ≡ Some (span 360 4)
 unfolding grant_of grant_at has_room room run free_in taken covers any_of most_of
 granted_base = refl
 
-granted_not : grant_of pieces regions 300 21 0 ≡ Nowhere
+granted_not : grant_of pieces regions 300 21 0 ≡ None
 unfolding grant_of grant_at has_room room run free_in taken covers any_of most_of
 granted_not = refl
 
 -- "0 paragraphs have no room"
-granted_none : grant_of pieces regions 300 0 10 ≡ Nowhere
+granted_none : grant_of pieces regions 300 0 10 ≡ None
 unfolding grant_of grant_at has_room
 granted_none = refl
 

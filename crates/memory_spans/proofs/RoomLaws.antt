@@ -2,7 +2,7 @@
 use mathlib.Core.Path.{◌≡◌, refl, ◌∙◌}
 use mathlib.Core.Bool.{Bool, true, false, not, ◌&&◌, true≢false}
 use mathlib.Core.List.{List, [], ◌∷◌}
-use Prim.Native.Nat.{ℕ, ◌+◌, ◌-◌, ◌≤◌, ◌<◌}
+use Prim.Native.Nat.{ℕ, ◌+◌, ◌-◌, ◌≤◌, ◌<◌, max}
 use native.Mathlib.Omega.{arith}
 use borrow.Author.Tests.{ltb-true, ltb-false, lt-ltb, leb-true, le-leb, eqb-false, ne_eqb, not-true}
 use lib.Dec.{ltb, leb, eqb}
@@ -104,12 +104,12 @@ meets_facts region start stop e =
     let b = and_parts (ltb region.start (end region)) (ltb start (end region)) a.0 in
     record { own = ltb-true region.start (end region) b.0; behind = ltb-true start (end region) b.1; ahead = ltb-true region.start stop a.1 }
 
-pub met_at_start : (region : Span) (start stop : ℕ) → Meets region start stop → region.start < start → Met region start stop start
-met_at_start region start stop m h = record { clear = λ p a b. absurd (omega arith); hit = λ x. covers_test region start (omega arith) m.behind }
-
-pub met_ahead : (region : Span) (start stop : ℕ) → Meets region start stop → Met region start stop region.start
-met_ahead region start stop m =
-    record { clear = λ p a b. covers_not region p (λ x y. omega arith); hit = λ x. covers_test region region.start (omega arith) m.own }
+pub met_where : (region : Span) (start stop : ℕ) → Meets region start stop → Met region start stop (max region.start start)
+met_where region start stop m =
+    record {
+      clear = λ p a b. covers_not region p (λ x y. omega arith);
+      hit = λ x. covers_test region (max region.start start) (omega arith) (omega (arith, m.own, m.behind));
+    }
 
 pub met_never : (region : Span) (start stop : ℕ)
     → (ltb region.start (end region) && ltb start (end region) && ltb region.start stop) ≡ false

@@ -3,10 +3,10 @@ use mathlib.Core.Path.{◌≡◌, refl, ◌∙◌}
 use mathlib.Core.Bool.{true, false, ◌&&◌}
 use mathlib.Core.List.{List}
 use Prim.Native.Nat.{ℕ, ◌+◌, ◌*◌, ◌≤◌, ◌<◌}
-use borrow.Author.Tests.{leb-true, le-leb, lt-leb}
+use borrow.Author.Tests.{leb-true}
 use native.Mathlib.Omega.{arith}
 use lib.Dec.{leb}
-use lib.ListN.{length, get_or, take, drop}
+use lib.ListN.{length, get_or, drop}
 use Rattle.lists.proofs.BoolLaws.{and_parts}
 use Rattle.memory_spans.specs.declared.Span.{Span}
 use Rattle.memory_spans.specs.Span.{paragraph_bytes, paragraphs, none, end, overlap, lies_in, any_of, all_of}
@@ -46,32 +46,21 @@ region_in_memory bytes pieces regions e s i =
     (omega (arith, f.to), omega (arith, f.to))
 
 -- ---- a loop that asks of each whether a later one overlaps it
-pub record Parted (arr : List Span) (n i : ℕ) : Type 0 where
-  pub rest : apart (take n arr) ≡ apart (drop i (take n arr))
+pub record Parted (l : List Span) (i : ℕ) : Type 0 where
+  pub rest : apart l ≡ apart (drop i l)
 
-module _ {arr : List Span} {n : ℕ} where
-  pub parted_start : Parted arr n 0
+module _ {l : List Span} where
+  pub parted_start : Parted l 0
   parted_start = record { rest = refl }
 
-  pub parted_next : {i : ℕ} → Parted arr n i → i < n → n ≤ length arr → any_of (overlap (get_or arr i none)) (drop (i + 1) (take n arr)) ≡ false → Parted arr n (i + 1)
+  pub parted_next : {i : ℕ} → Parted l i → i < length l → any_of (overlap (get_or l i none)) (drop (i + 1) l) ≡ false → Parted l (i + 1)
   unfolding apart
-  parted_next {i} a h k e = record { rest = a.rest ∙ rw (next arr n i h k, e) }
+  parted_next {i} a h e = record { rest = a.rest ∙ rw (next l i h, e) }
 
-  pub parted_not : {i : ℕ} → Parted arr n i → i < n → n ≤ length arr → any_of (overlap (get_or arr i none)) (drop (i + 1) (take n arr)) ≡ true → apart (take n arr) ≡ false
+  pub parted_not : {i : ℕ} → Parted l i → i < length l → any_of (overlap (get_or l i none)) (drop (i + 1) l) ≡ true → apart l ≡ false
   unfolding apart
-  parted_not {i} a h k e = a.rest ∙ rw (next arr n i h k, e)
+  parted_not {i} a h e = a.rest ∙ rw (next l i h, e)
 
-  pub parted_all : {i : ℕ} → Parted arr n i → n ≤ i → apart (take n arr) ≡ true
+  pub parted_all : {i : ℕ} → Parted l i → length l ≤ i → apart l ≡ true
   unfolding apart
-  parted_all {i} a h = a.rest ∙ rw (past arr n i h)
-
--- ---- a piece in the memory, by where it ends
-module _ (bytes : ℕ) (s : Span) {to : ℕ} (e : to ≡ end s) where
-  pub behind_all : paragraphs < to → in_memory bytes s ≡ false
-  behind_all h = rw (← e, lt-leb to paragraphs h)
-
-  pub beyond_memory : to ≤ paragraphs → bytes < paragraph_bytes * to → in_memory bytes s ≡ false
-  beyond_memory h k = rw (← e, le-leb to paragraphs h, lt-leb (paragraph_bytes * to) bytes k)
-
-  pub within_memory : to ≤ paragraphs → paragraph_bytes * to ≤ bytes → in_memory bytes s ≡ true
-  within_memory h k = rw (← e, le-leb to paragraphs h, le-leb (paragraph_bytes * to) bytes k)
+  parted_all {i} a h = a.rest ∙ rw (past l i h)

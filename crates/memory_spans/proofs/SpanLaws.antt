@@ -1,14 +1,15 @@
 -- Laws of spans and of lists of them: what covering, overlapping and lying in tell, and loops over the used places.
 use mathlib.Core.Path.{◌≡◌, refl, sym, ◌∙◌}
-use mathlib.Core.Bool.{Bool, true, false, ◌&&◌}
+use mathlib.Core.Bool.{Bool, true, false, cond, ◌&&◌, ◌||◌}
 use mathlib.Core.List.{List, [], ◌∷◌}
 use Prim.Native.Nat.{ℕ, ◌+◌, ◌≤◌, ◌<◌, max, min}
 use native.Mathlib.Numerals.{add-one}
 use native.Mathlib.Omega.{arith}
 use borrow.Author.Tests.{ltb-true, ltb-false, leb-true, lt-ltb, le-leb}
 use lib.Dec.{leb, ltb}
-use lib.ListN.{length, get_or, take, drop, length-take, drop_of_length-le}
-use lib.Seq.{drop-cons, get_or-take}
+use lib.ListN.{length, get_or, drop, drop_of_length-le}
+use lib.Seq.{drop-cons}
+use Rattle.std.specs.List.{list_any, list_all}
 use Rattle.lists.proofs.BoolLaws.{and_parts}
 use Rattle.memory_spans.specs.declared.Span.{Span}
 use Rattle.memory_spans.specs.Span.{none, end, covers, overlap, lies_in, any_of, all_of, most_of}
@@ -111,67 +112,44 @@ pub lies_test : (s outer : Span) → outer.start ≤ s.start → end s ≤ end o
 unfolding lies_in
 lies_test s outer a b = rw (le-leb outer.start s.start a, le-leb (end s) (end outer) b)
 
--- ---- a loop over the used places: the list from place i on
-pub next : (arr : List Span) (n i : ℕ) → i < n → n ≤ length arr → drop i (take n arr) ≡ get_or arr i none ∷ drop (i + 1) (take n arr)
-next arr n i h k =
-    let l : i < length (take n arr) = rw length-take (omega arith) in
-    drop-cons (take n arr) i none l ∙ rw (get_or-take n arr i none h, add-one)
+-- ---- a loop over a list: what is ahead at place i
+pub next : (l : List Span) (i : ℕ) → i < length l → drop i l ≡ get_or l i none ∷ drop (i + 1) l
+next l i h = drop-cons l i none h ∙ rw add-one
 
-pub past : (arr : List Span) (n i : ℕ) → n ≤ i → drop i (take n arr) ≡ []
-past arr n i h =
-    let l : length (take n arr) ≤ i = rw length-take (omega arith) in
-    drop_of_length-le (take n arr) l
+pub past : (l : List Span) (i : ℕ) → length l ≤ i → drop i l ≡ []
+past l i h = drop_of_length-le l h
 
-pub record Asked (p : Span → Bool) (arr : List Span) (n from i : ℕ) : Type 0 where
-  pub rest : any_of p (drop from (take n arr)) ≡ any_of p (drop i (take n arr))
+-- ---- a chain that asks of each: std's words for it are the paper's
+pub any_is : (p : Span → Bool) (l : List Span) → list_any p l ≡ any_of p l
+unfolding any_of
+any_is p [] = refl
+any_is p (x ∷ l) = rw (any_is p l) (go (p x))
+  where
+    go : (t : Bool) → (t || any_of p l) ≡ cond t true (any_of p l)
+    go true = refl
+    go false = refl
 
-module _ {p : Span → Bool} {arr : List Span} {n from : ℕ} where
-  pub asked_start : Asked p arr n from from
-  asked_start = record { rest = refl }
-
-  pub asked_next : {i : ℕ} → Asked p arr n from i → i < n → n ≤ length arr → p (get_or arr i none) ≡ false → Asked p arr n from (i + 1)
-  unfolding any_of
-  asked_next {i} a h k e = record { rest = a.rest ∙ rw (next arr n i h k, e) }
-
-  pub asked_hit : {i : ℕ} → Asked p arr n from i → i < n → n ≤ length arr → p (get_or arr i none) ≡ true → any_of p (drop from (take n arr)) ≡ true
-  unfolding any_of
-  asked_hit {i} a h k e = a.rest ∙ rw (next arr n i h k, e)
-
-  pub asked_none : {i : ℕ} → Asked p arr n from i → n ≤ i → any_of p (drop from (take n arr)) ≡ false
-  unfolding any_of
-  asked_none {i} a h = a.rest ∙ rw (past arr n i h)
-
-pub record Passed (p : Span → Bool) (arr : List Span) (n i : ℕ) : Type 0 where
-  pub rest : all_of p (take n arr) ≡ all_of p (drop i (take n arr))
-
-module _ {p : Span → Bool} {arr : List Span} {n : ℕ} where
-  pub passed_start : Passed p arr n 0
-  passed_start = record { rest = refl }
-
-  pub passed_next : {i : ℕ} → Passed p arr n i → i < n → n ≤ length arr → p (get_or arr i none) ≡ true → Passed p arr n (i + 1)
-  unfolding all_of
-  passed_next {i} a h k e = record { rest = a.rest ∙ rw (next arr n i h k, e) }
-
-  pub passed_fails : {i : ℕ} → Passed p arr n i → i < n → n ≤ length arr → p (get_or arr i none) ≡ false → all_of p (take n arr) ≡ false
-  unfolding all_of
-  passed_fails {i} a h k e = a.rest ∙ rw (next arr n i h k, e)
-
-  pub passed_all : {i : ℕ} → Passed p arr n i → n ≤ i → all_of p (take n arr) ≡ true
-  unfolding all_of
-  passed_all {i} a h = a.rest ∙ rw (past arr n i h)
+pub all_is : (p : Span → Bool) (l : List Span) → list_all p l ≡ all_of p l
+unfolding all_of
+all_is p [] = refl
+all_is p (x ∷ l) = rw (all_is p l) (go (p x))
+  where
+    go : (t : Bool) → (t && all_of p l) ≡ cond t (all_of p l) false
+    go true = refl
+    go false = refl
 
 -- ---- a loop that keeps the largest figure so far
-pub record Kept (f : Span → ℕ) (arr : List Span) (n so i : ℕ) : Type 0 where
-  pub rest : most_of f (take n arr) ≡ max so (most_of f (drop i (take n arr)))
+pub record Kept (f : Span → ℕ) (l : List Span) (so i : ℕ) : Type 0 where
+  pub rest : most_of f l ≡ max so (most_of f (drop i l))
 
-module _ {f : Span → ℕ} {arr : List Span} {n : ℕ} where
-  pub kept_start : Kept f arr n 0 0
+module _ {f : Span → ℕ} {l : List Span} where
+  pub kept_start : Kept f l 0 0
   kept_start = record { rest = omega arith }
 
-  pub kept_next : {so more i : ℕ} → Kept f arr n so i → i < n → n ≤ length arr → more ≡ max so (f (get_or arr i none)) → Kept f arr n more (i + 1)
+  pub kept_next : {so more i : ℕ} → Kept f l so i → i < length l → more ≡ max so (f (get_or l i none)) → Kept f l more (i + 1)
   unfolding most_of
-  kept_next {so} {more} {i} a h k e = record { rest = a.rest ∙ rw (next arr n i h k) (omega arith) }
+  kept_next {so} {more} {i} a h e = record { rest = a.rest ∙ rw (next l i h) (omega arith) }
 
-  pub kept_end : {so i : ℕ} → Kept f arr n so i → n ≤ i → so ≡ most_of f (take n arr)
+  pub kept_end : {so i : ℕ} → Kept f l so i → length l ≤ i → so ≡ most_of f l
   unfolding most_of
-  kept_end {so} {i} a h = sym (a.rest ∙ rw (past arr n i h) (omega arith))
+  kept_end {so} {i} a h = sym (a.rest ∙ rw (past l i h) (omega arith))

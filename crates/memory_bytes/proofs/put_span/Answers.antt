@@ -5,4 +5,4 @@ use Rattle.memory_bytes.proofs.put_span.Goals as goal
 
 pub returns : goal.returns
 unfolding span_laid bytes_of
-returns c = c.copy.ensures
+returns c = rw (c.to_le_bytes.ensures, c.to_le_bytes-2.ensures) at c.copy_from_slice.ensures.after

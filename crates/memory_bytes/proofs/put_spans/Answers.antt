@@ -4,23 +4,21 @@ use Rattle.memory_bytes.proofs.BytesLaws.{span_length, span_is}
 use Rattle.joined.proofs.JoinedLaws.{joined_start, joined_next, joined_end}
 use Rattle.memory_spans.specs.Span.{places}
 use native.Mathlib.Omega.{arith}
-use lib.ListN.{take}
+use mathlib.Core.Path.{◌∙◌}
 use borrow.Author.Rules.{rules}
 use Rattle.memory_bytes.proofs.put_spans.Goals as goal
 
 pub loop-i-init : goal.loop-i-init
-loop-i-init c = (c.requires, (search rules, joined_start _ span_bytes 0 c.args.out.now))
+loop-i-init c = joined_start _ span_bytes 0 c.args.out.now
 
 pub loop-i-preserved : goal.loop-i-preserved
 loop-i-preserved c =
     let a = c.args in
-    let l = c.loop-i in (
-      search rules,
-      (search rules, joined_next _ span_bytes 0 l.i l.out _ (omega arith) l.invariant.1.1 (span_is (take a.n a.list) l.i c.used_at-s.ensures c.put_span.ensures) (span_length _)),
-    )
+    let l = c.loop-i in
+    joined_next _ span_bytes 0 l.i l.out _ (omega arith) l.invariant (span_is a.list.now l.i (c.unwrap_or-s.ensures ∙ rw c.copied.ensures (search rules)) c.put_span.ensures) (span_length _)
 
 pub returns : goal.returns
 unfolding spans_laid
 returns c =
     let l = c.loop-i in
-    joined_end _ span_bytes 0 l.i places l.out (omega arith) l.invariant.0 l.invariant.1.1
+    joined_end _ span_bytes 0 l.i places l.out (omega arith) (search rules) l.invariant

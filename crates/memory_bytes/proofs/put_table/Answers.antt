@@ -11,5 +11,5 @@ returns c =
     let a = c.args in
     let p = spans_laid (pieces_of a.t) in
     let r = spans_laid (regions_of a.t) in
-    rw (c.copy.ensures, c.put_spans.ensures, c.put_spans-2.ensures)
+    rw (c.copy_from_slice.ensures.after, c.put_spans.ensures, c.put_spans-2.ensures, c.pieces.ensures, c.regions.ensures)
     (table_laid_lem a.out.now a.t.used a.t.granted p r c.requires.0 (spans_laid_length (pieces_of a.t)) (spans_laid_length (regions_of a.t)))

@@ -10,4 +10,4 @@ returns-then-b-ne-TABLE_BYTES c = rw (ne_eqb _ _ c.if-b-ne-TABLE_BYTES.true)
 
 pub returns : goal.returns
 unfolding used_in
-returns c = rw (eq-eqb _ _ c.if-b-ne-TABLE_BYTES.false) (c.wide.ensures.0 ∙ c.byte_at.ensures)
+returns c = rw (eq-eqb _ _ c.if-b-ne-TABLE_BYTES.false) (c.from.ensures ∙ c.byte_at.ensures)

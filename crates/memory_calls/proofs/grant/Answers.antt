@@ -10,11 +10,11 @@ returns-then-t-ge-PLACES c = rw (le-ltb _ 8 c.if-t-ge-PLACES.true) c.refuse.ensu
 pub returns-then-start-ge-PARAGRAPHS : goal.returns-then-start-ge-PARAGRAPHS
 unfolding granted
 returns-then-start-ge-PARAGRAPHS c =
-    let s = rw c.wide.ensures.0 at c.lowest_start-start.ensures.0 in
+    let s = rw (c.from.ensures, c.pieces.ensures, c.regions.ensures) at c.lowest_start-start.ensures.0 in
     rw (lt-ltb _ 8 c.if-t-ge-PLACES.false, ← s, le-ltb _ 65536 c.if-start-ge-PARAGRAPHS.true) c.refuse-then-start-ge-PARAGRAPHS.ensures
 
 pub returns : goal.returns
 unfolding granted
 returns c =
-    let s = rw c.wide.ensures.0 at c.lowest_start-start.ensures.0 in
+    let s = rw (c.from.ensures, c.pieces.ensures, c.regions.ensures) at c.lowest_start-start.ensures.0 in
     rw (lt-ltb _ 8 c.if-t-ge-PLACES.false, ← s, lt-ltb _ 65536 c.if-start-ge-PARAGRAPHS.false) c.grant_region.ensures

@@ -2,4 +2,4 @@
 use Rattle.memory_calls.proofs.grant_region.Goals as goal
 
 pub returns : goal.returns
-returns c = rw (c.done.ensures, c.with_places-table.ensures, c.add-next.ensures)
+returns c = rw (c.done.ensures, c.with_places-table.ensures, c.add-next.ensures, c.regions.ensures)

@@ -1,18 +1,14 @@
--- What is still to be asked from place i on gives the whole.
-use Rattle.memory_spans.proofs.SpanLaws.{asked_start, asked_next, asked_hit, asked_none}
-use native.Mathlib.Omega.{arith}
-use mathlib.Core.Path.{sym, ◌∙◌}
-use borrow.Author.Rules.{rules}
+-- The chain's test is the paper's.
+use Rattle.std.proofs.lemmas.Iterator.{YieldsList-from_slice}
+use Rattle.std.proofs.lemmas.Iterator.Adapters.{YieldsList-from_skip}
+use Rattle.std.proofs.lemmas.Iterator.Search.{any_from_yields_List}
+use Rattle.memory_spans.proofs.SpanLaws.{any_is}
+use Rattle.memory_spans.specs.Span.{overlap}
+use mathlib.Core.Path.{◌∙◌}
+use Rattle.std.proofs.Common.{rules, tests}
 use Rattle.memory_spans.proofs.overlaps_from.Goals as goal
 
-pub loop-i-init : goal.loop-i-init
-loop-i-init c = (search rules, asked_start)
-
-pub returns-then-overlap : goal.returns-then-overlap
-returns-then-overlap c = sym (asked_hit c.loop-i.invariant.1 (omega arith) (omega arith) (sym c.overlap.ensures ∙ c.if-overlap.true))
-
-pub loop-i-preserved : goal.loop-i-preserved
-loop-i-preserved c = (c.loop-i.invariant.0, asked_next c.loop-i.invariant.1 (omega arith) (omega arith) (sym c.overlap.ensures ∙ c.if-overlap.false))
-
 pub returns : goal.returns
-returns c = sym (asked_none c.loop-i.invariant.1 (omega arith))
+returns c =
+    let list = c.args.list.now in
+    any_from_yields_List (overlap c.args.s) _ _ _ c.any.ensures.ran (YieldsList-from_skip c.args.from (YieldsList-from_slice list (cc)) (cc)) (λ x b q k. search (rules, tests)) ∙ any_is _ _

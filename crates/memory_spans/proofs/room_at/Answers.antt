@@ -7,14 +7,14 @@ use mathlib.Core.Path.{ap, ◌∙◌}
 use borrow.Author.Rules.{rules}
 use Rattle.memory_spans.proofs.room_at.Goals as goal
 
-pub loop-i-init : goal.loop-i-init
-loop-i-init c = (search rules, (search rules, kept_start))
+pub loop-piece-init : goal.loop-piece-init
+loop-piece-init c = (search rules, kept_start)
 
-pub loop-i-preserved : goal.loop-i-preserved
-loop-i-preserved c =
-    let l = c.loop-i in
-    (l.invariant.0, (omega (arith, c.larger-most.ensures, c.room_in.ensures.1, l.invariant.1.0), kept_next l.invariant.1.1 (omega arith) (omega arith) (c.larger-most.ensures ∙ ap (max l.most) c.room_in.ensures.0)))
+pub loop-piece-preserved : goal.loop-piece-preserved
+loop-piece-preserved c =
+    let l = c.loop-piece in
+    (omega (arith, c.max-most.ensures, c.room_in.ensures.1, l.invariant.0), kept_next l.invariant.1 (omega arith) (c.max-most.ensures ∙ ap (max l.most) c.room_in.ensures.0))
 
 pub returns : goal.returns
 unfolding room
-returns c = (kept_end c.loop-i.invariant.1.1 (omega arith), c.loop-i.invariant.1.0)
+returns c = (kept_end c.loop-piece.invariant.1 (omega arith), c.loop-piece.invariant.0)

@@ -16,7 +16,7 @@ pub returns-then-image-image_start : goal.returns-then-image-image_start
 returns-then-image-image_start c =
     let a = sym c.is_within_rules.ensures ∙ c.if-not-is_within_rules.false in
     let b = sym c.is_good.ensures ∙ c.if-not-is_good.false in
-    let x = c.less_one-image.ensures ∙ ap (λ (k : ℕ). k - 1) c.requires.1.0 in
+    let x = c.saturating_sub-image.ensures ∙ ap (λ (k : ℕ). k - 1) c.requires.1.0 in
     no_image _ _ _ _ _ a b c.groups-n.ensures.0 (rw (x, c.image_start.ensures.0) at c.if-image-image_start.true) c.refuse-then-image-image_start.ensures
 
 pub overflow_add-t : goal.overflow_add-t
@@ -26,7 +26,7 @@ pub returns-then-t-n-gt-PLACES : goal.returns-then-t-n-gt-PLACES
 returns-then-t-n-gt-PLACES c =
     let a = sym c.is_within_rules.ensures ∙ c.if-not-is_within_rules.false in
     let b = sym c.is_good.ensures ∙ c.if-not-is_good.false in
-    let x = c.less_one-image.ensures ∙ ap (λ (k : ℕ). k - 1) c.requires.1.0 in
+    let x = c.saturating_sub-image.ensures ∙ ap (λ (k : ℕ). k - 1) c.requires.1.0 in
     let whole = rw (x, c.image_start.ensures.0) at c.if-image-image_start.false in
     no_place _ _ _ _ _ a b c.groups-n.ensures.0 whole c.if-t-n-gt-PLACES.true c.refuse-then-t-n-gt-PLACES.ensures
 
@@ -34,7 +34,7 @@ pub grant_and_lay-requires : goal.grant_and_lay-requires
 grant_and_lay-requires c =
     let a = sym c.is_within_rules.ensures ∙ c.if-not-is_within_rules.false in
     let b = sym c.is_good.ensures ∙ c.if-not-is_good.false in
-    let x = c.less_one-image.ensures ∙ ap (λ (k : ℕ). k - 1) c.requires.1.0 in
+    let x = c.saturating_sub-image.ensures ∙ ap (λ (k : ℕ). k - 1) c.requires.1.0 in
     let whole = rw (x, c.image_start.ensures.0) at c.if-image-image_start.false in
     let w = within_facts _ _ a in
     record { lent = c.requires.0; number = c.groups-n.ensures.0; few = c.groups-n.ensures.1; rules = a; header = b; whole = whole; left = c.if-t-n-gt-PLACES.false; used = w.few_pieces }
@@ -43,6 +43,6 @@ pub returns : goal.returns
 returns c =
     let a = sym c.is_within_rules.ensures ∙ c.if-not-is_within_rules.false in
     let b = sym c.is_good.ensures ∙ c.if-not-is_good.false in
-    let x = c.less_one-image.ensures ∙ ap (λ (k : ℕ). k - 1) c.requires.1.0 in
+    let x = c.saturating_sub-image.ensures ∙ ap (λ (k : ℕ). k - 1) c.requires.1.0 in
     let whole = rw (x, c.image_start.ensures.0) at c.if-image-image_start.false in
     goes_on _ _ _ _ _ a b c.groups-n.ensures.0 whole c.if-t-n-gt-PLACES.false c.grant_and_lay.ensures

@@ -5,4 +5,4 @@ use Rattle.loading.proofs.page.region_of.Goals as goal
 
 pub returns : goal.returns
 unfolding region_of
-returns c = c.span_at.ensures ∙ rw c.place_of-place.ensures.0
+returns c = c.span_at.ensures ∙ rw c.place_of.ensures.0
