@@ -66,8 +66,7 @@ pub(crate) fn file_length(sizes: Groups) -> usize
     requires { SizeWithin sizes }
     ensures { result ≡ file_length sizes }
 {
-    (image_end(sizes) + Geometry::RECORD_BYTES - 1) / Geometry::RECORD_BYTES
-        * Geometry::RECORD_BYTES
+    image_end(sizes).next_multiple_of(Geometry::RECORD_BYTES)
 }
 
 // The file of a text whose groups have these sizes.

@@ -2,7 +2,7 @@
 use mathlib.Core.Path.{◌≡◌, refl, sym, ap, ◌∙◌}
 use mathlib.Core.Bool.{Bool, true, false, cond, ◌&&◌, ◌||◌}
 use mathlib.Core.List.{List, [], ◌∷◌}
-use Prim.Native.Nat.{ℕ, zero, suc, ◌+◌, ◌-◌, ◌≤◌, ◌<◌}
+use Prim.Native.Nat.{ℕ, zero, suc, ◌+◌, ◌-◌, ◌<◌}
 use native.Mathlib.Decide.{dec_lt, ℕ_discrete}
 use native.Mathlib.Numerals.{add-one}
 use native.Mathlib.Omega.{arith}
@@ -14,9 +14,7 @@ use Rattle.lists.specs.Bytes.{byte}
 use Rattle.lists.specs.Bounded.{fold}
 use Rattle.lists.proofs.FoldLaws.{fold_add}
 use Rattle.gencmd_lines.specs.Line.{Line, count_of, address_of, data_of, group_of, is_end}
-use Rattle.gencmd_lines.specs.Lines.{data_lines, lines_in}
-use Rattle.gencmd_lines.specs.CodeWalk.{next_colon, next_line}
-use Rattle.gencmd_lines.proofs.LinesLaws.{Walk, lines_at, lent_line, lines_here, lines_end, lines_next_colon, next_colon_walk, next_line_walk}
+use Rattle.gencmd_lines.specs.Lines.{data_lines}
 use Rattle.gencmd_groups.specs.Groups.{gives, given, byte_at, group_bytes}
 use Rattle.gencmd_groups.specs.CodeLaying.{lay_byte, laid}
 use Rattle.gencmd_groups.proofs.ListLaws.{list_is}
@@ -106,49 +104,42 @@ unfolding given byte_at
 later_zero [] g a = refl
 later_zero (l ∷ ls) g a = later_line l ls g a 0
 
--- ---- a loop's invariant: the walk stands at a place, and the lines that are left make each byte what it is to be
-pub record Laying (t : List ℕ) (g n : ℕ) (bytes : List ℕ) (at : ℕ) : Type 0 where
-  pub walk : Walk t at
+-- ---- a walk over the lines: those that are still to come make each byte what it is to be
+pub record Laying (all : List Line) (g n : ℕ) (bytes : List ℕ) (now : List Line) : Type 0 where
   pub size : length bytes ≡ n
-  pub rest : (a : ℕ) → a < n → later_over (data_lines (lines_at t at)) g a (byte bytes a) ≡ byte_at (lines_in t) g a
+  pub rest : (a : ℕ) → a < n → later_over (data_lines now) g a (byte bytes a) ≡ byte_at (data_lines all) g a
 
-pub laying_start : {t : List ℕ} {at : ℕ} (g n : ℕ) (bytes : List ℕ) → bytes ≡ replicate n 0 → at ≡ next_colon t 0 → Laying t g n bytes at
-laying_start {t} {at} g n bytes z e =
+pub laying_start : {now all : List Line} (g n : ℕ) (bytes : List ℕ) → bytes ≡ replicate n 0 → now ≡ all → Laying all g n bytes now
+laying_start {now} {all} g n bytes z e =
     record {
-      walk = rw e (next_colon_walk t 0 (omega arith));
       size = ap length z ∙ length-replicate n 0;
-      rest = λ a h. ap (λ (x : ℕ). later_over (data_lines (lines_at t at)) g a x) (ap (λ (l : List ℕ). byte l a) z ∙ get_or-replicate n a 0 0 h)
-          ∙ later_zero (data_lines (lines_at t at)) g a
-          ∙ ap (λ (ls : List Line). byte_at (data_lines ls) g a) (ap (lines_at t) e ∙ sym (lines_next_colon t 0 (omega arith)));
+      rest = λ a h. ap (λ (x : ℕ). later_over (data_lines now) g a x) (ap (λ (l : List ℕ). byte l a) z ∙ get_or-replicate n a 0 0 h)
+          ∙ later_zero (data_lines now) g a
+          ∙ ap (λ (ls : List Line). byte_at (data_lines ls) g a) e;
     }
 
-module _ {t : List ℕ} {g n : ℕ} {bytes : List ℕ} {at : ℕ} (y : Laying t g n bytes at) where
-  laying_done : data_lines (lines_at t at) ≡ [] → bytes ≡ group_bytes (lines_in t) g n
+module _ {all : List Line} {g n : ℕ} {bytes : List ℕ} {now : List Line} (y : Laying all g n bytes now) where
+  laying_done : data_lines now ≡ [] → bytes ≡ group_bytes (data_lines all) g n
   laying_done e =
-      list_is (byte_at (lines_in t) g) n bytes y.size
+      list_is (byte_at (data_lines all) g) n bytes y.size
       (λ a k. sym (ap (λ (ls : List Line). later_over ls g a (byte bytes a)) e ∙ unfold given in refl) ∙ y.rest a k)
 
-  pub laying_end : at < length t → is_end (lent_line t at) ≡ true → bytes ≡ group_bytes (lines_in t) g n
-  laying_end h e = laying_done (unfold data_lines in rw (lines_here t at y.walk h, e))
+  pub laying_over : now ≡ [] → bytes ≡ group_bytes (data_lines all) g n
+  laying_over e = laying_done (unfold data_lines in rw e)
 
-  pub laying_over : length t ≤ at → bytes ≡ group_bytes (lines_in t) g n
-  laying_over h = laying_done (unfold data_lines in rw (lines_end t at h))
+  module _ {l : Line} {ls : List Line} (e : now ≡ l ∷ ls) where
+    pub laying_end : is_end l ≡ true → bytes ≡ group_bytes (data_lines all) g n
+    laying_end f = laying_done (unfold data_lines in rw (e, f))
 
-  pub laying_next : {more : List ℕ} {to : ℕ} → at < length t → is_end (lent_line t at) ≡ false → more ≡ laid bytes (lent_line t at) g → to ≡ next_line t at → Laying t g n more to
-  laying_next {more} {to} h e m x =
-      record {
-        walk = rw x (next_line_walk t at y.walk h);
-        size = ap length m ∙ laid_length (lent_line t at) bytes g ∙ y.size;
-        rest = λ a k. step a k;
-      }
-    where
-      lines : data_lines (lines_at t at) ≡ lent_line t at ∷ data_lines (lines_at t (next_line t at))
-      lines = unfold data_lines in rw (lines_here t at y.walk h, e)
+    pub laying_next : {more : List ℕ} → is_end l ≡ false → more ≡ laid bytes l g → Laying all g n more ls
+    laying_next {more} f m = record { size = ap length m ∙ laid_length l bytes g ∙ y.size; rest = step }
+      where
+        lines : data_lines now ≡ l ∷ data_lines ls
+        lines = unfold data_lines in rw (e, f)
 
-      step : (a : ℕ) → a < n → later_over (data_lines (lines_at t to)) g a (byte more a) ≡ byte_at (lines_in t) g a
-      step a k =
-          ap (λ (p : ℕ). later_over (data_lines (lines_at t p)) g a (byte more a)) x
-          ∙ ap (λ (b : ℕ). later_over (data_lines (lines_at t (next_line t at))) g a b) (ap (λ (l : List ℕ). byte l a) m ∙ laid_byte (lent_line t at) bytes g a (omega (arith, y.size)))
-          ∙ sym (later_line (lent_line t at) (data_lines (lines_at t (next_line t at))) g a (byte bytes a))
-          ∙ ap (λ (ls : List Line). later_over ls g a (byte bytes a)) (sym lines)
-          ∙ y.rest a k
+        step : (a : ℕ) → a < n → later_over (data_lines ls) g a (byte more a) ≡ byte_at (data_lines all) g a
+        step a k =
+            ap (λ (b : ℕ). later_over (data_lines ls) g a b) (ap (λ (l : List ℕ). byte l a) m ∙ laid_byte l bytes g a (omega (arith, y.size)))
+            ∙ sym (later_line l (data_lines ls) g a (byte bytes a))
+            ∙ ap (λ (ls : List Line). later_over ls g a (byte bytes a)) (sym lines)
+            ∙ y.rest a k

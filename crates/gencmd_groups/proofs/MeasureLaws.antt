@@ -1,10 +1,9 @@
 -- Measuring line by line: the reach so far, and what the lines that are left add to it.
 use mathlib.Core.Path.{◌≡◌, refl, sym, ap, ◌∙◌}
-use mathlib.Core.Bool.{true, false, cond}
+use mathlib.Core.Bool.{true, false}
 use mathlib.Core.List.{List, [], ◌∷◌}
-use Prim.Native.Nat.{ℕ, ◌<◌, ◌≤◌, max}
+use Prim.Native.Nat.{ℕ, max}
 use native.Mathlib.Omega.{arith}
-use lib.ListN.{length}
 use Rattle.load_header.specs.Header.{CODE, DATA, EXTRA, STACK}
 use Rattle.gencmd_lines.specs.declared.Refusal.{Refusal}
 use Rattle.gencmd_lines.specs.declared.Refusal.TheVariants.{NoEnd}
@@ -12,9 +11,7 @@ use Rattle.gencmd_lines.specs.Refusal.{unless}
 use Rattle.gencmd_lines.proofs.RefusalLaws.{not_refused, is_refused}
 use Rattle.std.specs.Prelude.{is_none, Some, Result, Ok, Err}
 use Rattle.gencmd_lines.specs.Line.{Line, is_end, line_refusal}
-use Rattle.gencmd_lines.specs.Lines.{lines_of, lines_refusal, data_lines}
-use Rattle.gencmd_lines.specs.CodeWalk.{next_colon, next_line}
-use Rattle.gencmd_lines.proofs.LinesLaws.{Walk, lines_at, lent_line, lines_here, lines_end, lines_next_colon, next_colon_walk, next_line_walk}
+use Rattle.gencmd_lines.specs.Lines.{lines_refusal, data_lines}
 use Rattle.gencmd_groups.specs.declared.Groups.{Groups}
 use Rattle.gencmd_groups.specs.Groups.{end_of, reach_of, reaches}
 use Rattle.gencmd_groups.specs.CodeMeasure.{reach_over, measured}
@@ -72,29 +69,26 @@ module _ (r : Groups) (l : Line) (ls : List Line) where
         regroup r.stack (end_of l STACK) (reach_of (data_lines ls) STACK),
       )
 
--- ---- a loop's invariant: the walk stands at a place, and what is left gives the whole
-pub record Measuring (t : List ℕ) (r : Groups) (at : ℕ) : Type 0 where
-  pub walk : Walk t at
-  pub rest : after r (lines_at t at) ≡ measured (lines_of t)
+-- ---- a walk over the lines: the reach so far and the lines that are still to come give the whole
+pub record Measuring (r : Groups) (now all : List Line) : Type 0 where
+  pub rest : after r now ≡ measured all
 
-pub measuring_start : {t : List ℕ} {at : ℕ} → at ≡ next_colon t 0 → Measuring t nothing at
-measuring_start {t} {at} e =
-    record { walk = rw e (next_colon_walk t 0 (omega arith)); rest = rw e (ap (after nothing) (sym (lines_next_colon t 0 (omega arith))) ∙ after_nothing (lines_of t)) }
+pub measuring_start : {now all : List Line} → now ≡ all → Measuring nothing now all
+measuring_start {now} {all} e = record { rest = ap (after nothing) e ∙ after_nothing all }
 
-module _ {t : List ℕ} {r : Groups} {at : ℕ} (m : Measuring t r at) where
-  whole : (h : at < length t) → after r (lent_line t at ∷ lines_at t (next_line t at)) ≡ measured (lines_of t)
-  whole h = ap (after r) (sym (lines_here t at m.walk h)) ∙ m.rest
+module _ {r : Groups} {now all : List Line} (m : Measuring r now all) where
+  pub measuring_none : now ≡ [] → Err NoEnd ≡ measured all
+  measuring_none e = sym (after_none r) ∙ ap (after r) (sym e) ∙ m.rest
 
-  pub measuring_refused : {why : Refusal} → at < length t → Err why ≡ unless (line_refusal (lent_line t at)) (tt {0}) → Err why ≡ measured (lines_of t)
-  measuring_refused h e = sym (after_refused r (lent_line t at) _ (is_refused (line_refusal (lent_line t at)) (tt {0}) e)) ∙ whole h
+  module _ {l : Line} {ls : List Line} (e : now ≡ l ∷ ls) where
+    whole : after r (l ∷ ls) ≡ measured all
+    whole = ap (after r) (sym e) ∙ m.rest
 
-  pub measuring_end : at < length t → Ok (tt {0}) ≡ unless (line_refusal (lent_line t at)) (tt {0}) → is_end (lent_line t at) ≡ true → Ok r ≡ measured (lines_of t)
-  measuring_end h e f = sym (after_end r (lent_line t at) _ (not_refused (line_refusal (lent_line t at)) (tt {0}) e) f) ∙ whole h
+    pub measuring_refused : {why : Refusal} → Err why ≡ unless (line_refusal l) (tt {0}) → Err why ≡ measured all
+    measuring_refused h = sym (after_refused r l ls (is_refused (line_refusal l) (tt {0}) h)) ∙ whole
 
-  pub measuring_next : {s : Groups} {to : ℕ} → at < length t → Ok (tt {0}) ≡ unless (line_refusal (lent_line t at)) (tt {0}) → is_end (lent_line t at) ≡ false
-      → s ≡ reach_over r (lent_line t at) → to ≡ next_line t at → Measuring t s to
-  measuring_next h e f x y =
-      record { walk = rw y (next_line_walk t at m.walk h); rest = rw (x, y) (sym (after_next r (lent_line t at) _ (not_refused (line_refusal (lent_line t at)) (tt {0}) e) f) ∙ whole h) }
+    pub measuring_end : Ok (tt {0}) ≡ unless (line_refusal l) (tt {0}) → is_end l ≡ true → Ok r ≡ measured all
+    measuring_end h f = sym (after_end r l ls (not_refused (line_refusal l) (tt {0}) h) f) ∙ whole
 
-  pub measuring_none : length t ≤ at → Err NoEnd ≡ measured (lines_of t)
-  measuring_none h = sym (after_none r) ∙ ap (after r) (sym (lines_end t at h)) ∙ m.rest
+    pub measuring_next : {s : Groups} → Ok (tt {0}) ≡ unless (line_refusal l) (tt {0}) → is_end l ≡ false → s ≡ reach_over r l → Measuring s ls all
+    measuring_next h f x = record { rest = rw x (sym (after_next r l ls (not_refused (line_refusal l) (tt {0}) h) f) ∙ whole) }

@@ -4,7 +4,8 @@ ghost use Rattle.gencmd_lines.specs.Lines.{lines_in};
 ghost use Rattle.gencmd_groups.specs.Groups.{group_bytes};
 ghost use Rattle.gencmd_groups.specs.CodeLaying.{laid};
 
-use gencmd_lines::{line, walk};
+use gencmd_lines::line;
+use gencmd_lines::walk::Lines;
 
 // The byte b at address a, where the part reaches so far.
 fn lay_byte(part: &mut [u8], a: usize, b: u8)
@@ -38,14 +39,10 @@ pub fn lay_group(part: &mut [u8], text: &[u8], group: usize)
         return;
     }
     part.fill(0);
-    let mut at = walk::next_colon(text, 0);
-    // No for: the walk goes from colon to colon.
-    while at < text.len() {
-        let line = &text[at + 1..];
+    for line in Lines::new(text) {
         if line::is_end(line) {
             return;
         }
         lay_line(part, line, group);
-        at = walk::next_line(text, at);
     }
 }

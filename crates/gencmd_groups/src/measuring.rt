@@ -4,7 +4,8 @@ ghost use Rattle.gencmd_lines.specs.Lines.{lines_of};
 ghost use Rattle.gencmd_groups.specs.CodeMeasure.{reach_over, measured};
 
 use crate::Groups;
-use gencmd_lines::{Refusal, line, walk};
+use gencmd_lines::walk::Lines;
+use gencmd_lines::{Refusal, line};
 use load_header::{CODE, DATA, EXTRA, STACK};
 
 // The larger of two numbers, where the second counts.
@@ -40,16 +41,12 @@ pub fn measure(text: &[u8]) -> Result<Groups, Refusal>
         extra: 0,
         stack: 0,
     };
-    let mut at = walk::next_colon(text, 0);
-    // No for: the walk goes from colon to colon.
-    while at < text.len() {
-        let line = &text[at + 1..];
+    for line in Lines::new(text) {
         line::line_why(line)?;
         if line::is_end(line) {
             return Ok(reach);
         }
         reach = reach_over(reach, line);
-        at = walk::next_line(text, at);
     }
     Err(Refusal::NoEnd)
 }

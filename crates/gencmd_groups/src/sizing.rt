@@ -17,7 +17,7 @@ fn paragraphs_of(least: usize, reach: usize) -> usize
     if reach == 0 {
         return 0;
     }
-    let n = (reach + PARAGRAPH_BYTES - 1) / PARAGRAPH_BYTES;
+    let n = reach.div_ceil(PARAGRAPH_BYTES);
     least.max(n)
 }
 

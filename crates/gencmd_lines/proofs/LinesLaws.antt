@@ -6,11 +6,7 @@ use Rattle.lists.specs.Bounded.{low_from}
 use Rattle.lists.proofs.BoundedLaws.{low_le, low_hit}
 use Rattle.gencmd_lines.specs.Line.{Line, digits_in}
 use Rattle.gencmd_lines.specs.Lines.{colon, lines_from}
-use Rattle.gencmd_lines.specs.CodeWalk.{is_colon, next_colon, next_line}
-
--- the lines from place p on
-abbrev pub lines_at : List ℕ → ℕ → List Line
-lines_at t p = lines_from 0 (drop p t)
+use Rattle.gencmd_lines.specs.CodeWalk.{is_colon, next_colon, next_line, lines_at}
 
 -- a line as the code lends it: the text behind place p
 abbrev pub lent_line : List ℕ → ℕ → Line
@@ -82,10 +78,6 @@ module _ (t : List ℕ) (from : ℕ) (h : from ≤ length t) where
   unfolding next_colon
   lines_next_colon = to_low t from (length t - from) (omega arith)
 
-  pub next_colon_from : from ≤ next_colon t from
-  unfolding next_colon
-  next_colon_from = low_from_lem (is_colon t) from (length t - from)
-
   pub next_colon_walk : Walk t (next_colon t from)
   unfolding next_colon
   next_colon_walk =
@@ -100,15 +92,25 @@ module _ (t : List ℕ) (at : ℕ) (w : Walk t at) (h : at < length t) where
       ∙ ap (λ (ls : List Line). drop (at + 1) t ∷ ls) (cut t (at + 1 + digits_in (drop (at + 1) t)) ∙ lines_next_colon t _ (omega arith))
       ∙ ap (λ (l : Line). l ∷ lines_at t (next_line t at)) (sym (lent t at))
 
-  pub next_line_walk : Walk t (next_line t at)
-  unfolding next_line
-  next_line_walk = next_colon_walk t _ (omega arith)
-
-  pub next_line_further : at < next_line t at
-  unfolding next_line
-  next_line_further = let k = next_colon_from t (min (at + 1 + digits_in (drop (at + 1) t)) (length t)) (omega arith) in omega arith
-
 -- the next line's place, as the code works it out
 pub next_line_by : (t : List ℕ) (at n from : ℕ) → n ≡ digits_in (lent_line t at) → from ≡ min (at + 1 + n) (length t) → next_colon t from ≡ next_line t at
 unfolding next_line
 next_line_by t at n from e f = let whole : n ≡ digits_in (drop (at + 1) t) = e ∙ ap digits_in (lent t at) in rw (f, whole)
+
+-- ---- the first of the lines from a place on, by the next colon
+module _ (t : List ℕ) (p at : ℕ) (e : at ≡ next_colon t p) where
+  pub left_none : length t ≤ at → lines_at t p ≡ []
+  left_none h = go (dec_lt (length t) p)
+    where
+      go : Dec (length t < p) → lines_at t p ≡ []
+      go (yes k) = lines_end t p (omega arith)
+      go (no k) = lines_next_colon t p (omega arith) ∙ lines_end t (next_colon t p) (omega arith)
+
+  not_before : p ≤ next_colon t p
+  unfolding next_colon
+  not_before = low_from_lem (is_colon t) p (length t - p)
+
+  pub left_first : at < length t → lines_at t p ≡ lent_line t at ∷ lines_at t (next_line t at)
+  left_first h =
+      let k : p ≤ length t = omega (arith, not_before) in
+      lines_next_colon t p k ∙ ap (lines_at t) (sym e) ∙ lines_here t at (rw e (next_colon_walk t p k)) h

@@ -1,6 +1,6 @@
 -- A line that is not refused: none of its tests is met, so it belongs to one of the four groups, and none of its bytes lies beyond
 -- address FFFFH.
-use Rattle.std.proofs.Common.{◌≡◌, ℕ, ◌+◌, ◌≤◌, Bool, true, false, cond, not, eqb, ltb, is_none, Option, Some, None, Result, Ok, Err, sym, refl, ◌∙◌, ltb-false}
+use Rattle.std.proofs.Common.{◌≡◌, ℕ, ◌+◌, ◌≤◌, Bool, true, false, cond, not, eqb, ltb, is_none, Option, Some, None, Ok, Err, sym, refl, ◌∙◌, ltb-false}
 use mathlib.Core.Bool.{false≢true}
 use borrow.Author.Tests.{eqb-false}
 use Rattle.load_header.specs.Header.{CODE, DATA, EXTRA, STACK}

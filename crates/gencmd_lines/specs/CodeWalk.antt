@@ -2,8 +2,9 @@
 use Rattle.std.specs.Prelude.{ℕ, ◌+◌, ◌-◌, min, Bool, List, length, drop, ◌==◌}
 use Rattle.lists.specs.Bytes.{byte}
 use Rattle.lists.specs.Bounded.{low_from}
-use Rattle.gencmd_lines.specs.Line.{data_most, digits_in}
-use Rattle.gencmd_lines.specs.Lines.{colon}
+use Rattle.gencmd_lines.specs.declared.walk.Lines.{Lines}
+use Rattle.gencmd_lines.specs.Line.{Line, data_most, digits_in}
+use Rattle.gencmd_lines.specs.Lines.{colon, lines_from}
 
 -- the most bytes that a line has
 abbrev pub most_bytes : ℕ
@@ -19,3 +20,11 @@ next_colon text from = low_from (is_colon text) from (length text - from)
 -- where the next line's colon stands, behind the line whose colon stands at a place
 unfoldable pub next_line : List ℕ → ℕ → ℕ
 next_line text at = next_colon text (min (at + 1 + digits_in (drop (at + 1) text)) (length text))
+
+-- the lines from place p on
+abbrev pub lines_at : List ℕ → ℕ → List Line
+lines_at t p = lines_from 0 (drop p t)
+
+-- those that are still to come
+abbrev pub left : Lines → List Line
+left w = lines_at w.text.now w.at

@@ -1,8 +1,44 @@
 // A walk over the lines of a text, from colon to colon.
 ghost use Rattle.std.specs.Prelude.{◌≡◌, ◌<◌, length};
-ghost use Rattle.gencmd_lines.specs.CodeWalk.{next_colon, next_line};
+ghost use Rattle.std.specs.Iterator.{YieldsFirstRef, item_count};
+ghost use Rattle.gencmd_lines.specs.Lines.{lines_of};
+ghost use Rattle.gencmd_lines.specs.CodeWalk.{next_colon, next_line, left};
 
 use crate::line::digits_in;
+
+// The lines of a text that are still to come: those whose colons stand from a place on. Each is lent from behind its colon to the
+// end of the text.
+#[derive(Clone, Copy)]
+pub struct Lines<'a> {
+    text: &'a [u8],
+    at: usize,
+}
+
+impl<'a> Lines<'a> {
+    // All lines of a text.
+    pub fn new(text: &'a [u8]) -> Lines<'a>
+        ensures { left result ≡ lines_of text.now }
+    {
+        Lines { text, at: 0 }
+    }
+}
+
+impl<'a> Iterator for Lines<'a> {
+    type Item = &'a [u8];
+
+    ghost next_gives = { YieldsFirstRef left };
+
+    ghost remaining = { item_count left };
+
+    fn next(&mut self) -> Option<&'a [u8]> {
+        let at = next_colon(self.text, self.at);
+        if self.text.len() <= at {
+            return None;
+        }
+        self.at = next_line(self.text, at);
+        Some(&self.text[at + 1..])
+    }
+}
 
 // Where the next colon stands, from a place on; the end of the text where there is none.
 pub fn next_colon(text: &[u8], from: usize) -> usize

@@ -1,11 +1,9 @@
--- The lines that are left, laid over the bytes so far, make each byte what it is to be.
-use Rattle.gencmd_groups.proofs.LayingLaws.{Laying}
+-- The lines that are still to come, laid over the bytes so far, make each byte what it is to be.
 use lib.ListN.{length}
-use Prim.Native.Nat.{◌-◌}
+use Rattle.gencmd_lines.specs.Lines.{lines_of}
+use Rattle.gencmd_lines.specs.CodeWalk.{left}
+use Rattle.gencmd_groups.proofs.LayingLaws.{Laying}
 use Rattle.gencmd_groups.proofs.laying.lay_group.Given as goal
 
-abbrev pub invariant-loop-at : goal.invariant-loop-at
-invariant-loop-at l = Laying l.text l.group (length l.initial.part) l.part l.at
-
-abbrev pub decreases-loop-at : goal.decreases-loop-at
-decreases-loop-at l = length l.text - l.at
+abbrev pub invariant-loop-line : goal.invariant-loop-line
+invariant-loop-line l = Laying (lines_of l.text) l.group (length l.initial.part) l.part (left l.line-iterator)
