@@ -1,12 +1,13 @@
 // The header: a descriptor for each group that is there, then zeros.
 ghost use Rattle.std.specs.Prelude.{◌≡◌, ◌≤◌, length};
 ghost use Rattle.lists.specs.Bytes.{put};
-ghost use Rattle.text.specs.Text.{text, puts};
+ghost use Rattle.text.specs.Writer.{Appends};
 ghost use Rattle.numbers.specs.Numbers.{bytes_of};
 ghost use Rattle.gencmd_file.specs.File.{header_bytes, descriptor, header};
 
 use gencmd_groups::Groups;
 use load_header::{CODE, DATA, EXTRA, STACK};
+use text::Writer;
 
 // How many bytes the header has.
 pub(crate) const HEADER_BYTES: usize = 128;
@@ -15,25 +16,25 @@ pub(crate) const HEADER_BYTES: usize = 128;
 const ANYWHERE: usize = 0;
 
 // A number of 16 bits, low byte first.
-fn put_two(out: &mut [u8], at: usize, n: usize) -> usize
-    ensures { text out.new result ≡ puts (text out.old at) (bytes_of 2 n) }
+fn put_two(w: &mut Writer<'_>, n: usize)
+    ensures { Appends w.old (bytes_of 2 n) w.new }
 {
-    let next = text::put_byte(out, at, (n % 256) as u8);
-    text::put_byte(out, next, (n / 256 % 256) as u8)
+    w.bytes(&n.to_le_bytes()[..2]);
 }
 
-// The descriptor of a group of n paragraphs; nothing for a group that is not there.
-fn put_descriptor(out: &mut [u8], at: usize, group: usize, n: usize) -> usize
-    ensures { text out.new result ≡ puts (text out.old at) (descriptor group n) }
+// The descriptor of a group of n paragraphs, form, length, base, least and most; nothing for a group that is not there.
+fn put_descriptor(w: &mut Writer<'_>, group: usize, n: usize)
+    ensures { Appends w.old (descriptor group n) w.new }
 {
     if n == 0 {
-        return at;
+        return;
     }
-    let form = text::put_byte(out, at, (group % 256) as u8);
-    let length = put_two(out, form, n);
-    let base = put_two(out, length, ANYWHERE);
-    let least = put_two(out, base, n);
-    put_two(out, least, n)
+    w.byte((group % 256) as u8);
+    put_two(w, n);
+    put_two(w, ANYWHERE);
+    let (least, most) = (n, n);
+    put_two(w, least);
+    put_two(w, most);
 }
 
 // The header for groups of these sizes, in 128 bytes.
@@ -41,11 +42,12 @@ fn lay_header(part: &mut [u8], sizes: Groups)
     requires { length part.old ≡ header_bytes }
     ensures { part.new ≡ header sizes }
 {
-    lists::fill(part, 0);
-    let a = put_descriptor(part, 0, CODE, sizes.code);
-    let b = put_descriptor(part, a, DATA, sizes.data);
-    let c = put_descriptor(part, b, EXTRA, sizes.extra);
-    put_descriptor(part, c, STACK, sizes.stack);
+    part.fill(0);
+    let mut w = Writer::new(part, 0);
+    put_descriptor(&mut w, CODE, sizes.code);
+    put_descriptor(&mut w, DATA, sizes.data);
+    put_descriptor(&mut w, EXTRA, sizes.extra);
+    put_descriptor(&mut w, STACK, sizes.stack);
 }
 
 // The header in the first bytes of the file.

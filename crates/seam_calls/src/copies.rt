@@ -66,8 +66,8 @@ fn cut_with(
         (decoded drive.old) volume.old volume.new left.new result }
     ensures upper_bound { result < 65536 }
 {
-    lists::copy(fcb_copy, fcb);
-    lists::copy(buffer_copy, buffer);
+    fcb_copy.copy_from_slice(fcb);
+    buffer_copy.copy_from_slice(buffer);
     let told = call_most(
         function,
         parameter,

@@ -43,21 +43,20 @@ fn asks_open(kind: Call) -> bool
     ensures { result ≡ asks_open kind }
 {
     match kind {
-        Call::LogIn => false,
-        Call::Open => true,
-        Call::Close => true,
-        Call::SearchFirst => true,
-        Call::SearchNext => true,
-        Call::Delete => true,
-        Call::Make => true,
-        Call::Rename => true,
-        Call::Protect => true,
-        Call::Attributes => true,
-        Call::User => true,
-        Call::Size => true,
-        Call::SetRandom => true,
-        Call::Moves(_) => true,
-        Call::Unserved => false,
+        Call::LogIn | Call::Unserved => false,
+        Call::Open
+        | Call::Close
+        | Call::SearchFirst
+        | Call::SearchNext
+        | Call::Delete
+        | Call::Make
+        | Call::Rename
+        | Call::Protect
+        | Call::Attributes
+        | Call::User
+        | Call::Size
+        | Call::SetRandom
+        | Call::Moves(_) => true,
     }
 }
 
@@ -81,8 +80,7 @@ fn log_in_anew(front: Front, drive: &mut [u8], volume: &[u8]) -> Answer
         return Answer::Refused(Refusal::Closed);
     }
     let reply = Drive::log_in(front.geometry, volume);
-    let next = reply.drive;
-    drive_bytes::encode(next, drive);
+    drive_bytes::encode(reply.drive, drive);
     reply.answer
 }
 
@@ -105,12 +103,10 @@ fn ask(
         return Answer::Refused(Refusal::Closed);
     }
     let reply = bdos::ask(kind, parameter, front, volume, fcb, buffer);
-    let answer = reply.answer;
-    let next = reply.front;
-    if call_answers::succeeded(answer) {
-        drive_bytes::lay_front(drive, next);
+    if call_answers::succeeded(reply.answer) {
+        drive_bytes::lay_front(drive, reply.front);
     }
-    answer
+    reply.answer
 }
 
 // Does a call that changes the volume, as long as a store is left. Where it succeeds the held blocks are laid back; the front is as
@@ -134,11 +130,10 @@ fn change(
     let mut held = [0u64; WORDS];
     drive_bytes::load_words(drive, &mut held);
     let reply = bdos::change(kind, parameter, front, &mut held, volume, fcb, buffer, left);
-    let answer = reply.answer;
-    if call_answers::succeeded(answer) {
+    if call_answers::succeeded(reply.answer) {
         drive_bytes::lay_words(drive, &held);
     }
-    answer
+    reply.answer
 }
 
 // Does the call over a drive's bytes, by its way through the door, as long as a store is left.
@@ -158,8 +153,7 @@ fn call_of_kind(
         buffer.old result drive.new volume.new fcb.new buffer.new
         left.new }
 {
-    let way = bdos::way_of(kind);
-    match way {
+    match bdos::way_of(kind) {
         Way::LogsIn => log_in_anew(front, drive, volume),
         Way::Asks => ask(kind, parameter, front, drive, volume, fcb, buffer),
         Way::Changes => change(kind, parameter, front, drive, volume, fcb, buffer, left),
@@ -184,10 +178,8 @@ pub fn log_in(
         return seal(Answer::Refused(Refusal::Closed));
     }
     let reply = Drive::log_in(g, volume);
-    let next = reply.drive;
-    drive_bytes::encode(next, drive);
-    let answer = reply.answer;
-    seal(answer)
+    drive_bytes::encode(reply.drive, drive);
+    seal(reply.answer)
 }
 
 // Does the call of this function's number over the drive's bytes as long as a store is left; a drive that counts as closed is
@@ -249,10 +241,10 @@ pub fn cut(
     }
     let d = drive_bytes::front(drive);
     if !d.is_open() {
-        lists::fill(drive, 0);
+        drive.fill(0);
         return seal(Answer::Refused(Refusal::Closed));
     }
     let r = copies::cut_open(size(most), function, parameter, drive, volume, fcb, buffer);
-    lists::fill(drive, 0);
+    drive.fill(0);
     r
 }

@@ -20,7 +20,7 @@ pub fn size(x: u32) -> usize
 pub fn wide(b: u8) -> u32
     ensures { (result ≡ b) × (result < 256) }
 {
-    b as u32
+    u32::from(b)
 }
 
 // The geometry of a caller's four numbers.
@@ -39,7 +39,7 @@ pub fn geometry(block_bytes: u32, blocks: u32, directory_blocks: u32, placing: u
 pub fn seal(a: Answer) -> u32
     ensures { (result % 65536 ≡ number_of a) × (value_of a < 65536 → result ≡ answered a) }
 {
-    let number = wide(call_answers::number(a));
+    let number = u32::from(call_answers::number(a));
     let value = (call_answers::value(a) % 65536) as u32;
     number + 65536 * value
 }

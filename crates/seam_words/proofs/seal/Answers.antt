@@ -5,4 +5,4 @@ use Rattle.seam_words.proofs.seal.Goals as goal
 
 pub returns : goal.returns
 unfolding answered
-returns c = (omega (arith, c.wide-number.ensures, c.number.ensures), λ h. omega (arith, h, c.wide-number.ensures, c.number.ensures, c.value.ensures))
+returns c = (omega (arith, c.from-number.ensures, c.number.ensures), λ h. omega (arith, h, c.from-number.ensures, c.number.ensures, c.value.ensures))
