@@ -88,6 +88,7 @@ impl Geometry {
     }
 
     // The volume's length: T times B, or that of an eight-inch disk.
+    #[tactic(auto, using(crate::proofs::GeometryLaws::placed_floppy, crate::proofs::GeometryLaws::bytes_straight, crate::proofs::GeometryLaws::bytes_floppy))]
     pub fn bytes(self) -> usize
         requires { lawful self ≡ true }
         ensures { result ≡ bytes self }
@@ -171,6 +172,7 @@ impl Geometry {
     }
 
     // Where the directory record begins that holds slot i.
+    #[tactic(auto, using(crate::proofs::GeometryLaws::slot_record_below))]
     pub fn slot_record(self, i: usize) -> usize
         requires { (lawful self ≡ true) × (i < slots self) }
         ensures { (result ≡ start self (i / record_slots)) × (result + record_bytes ≤ bytes self) }
@@ -179,6 +181,7 @@ impl Geometry {
     }
 
     // Where slot i begins.
+    #[tactic(auto, using(crate::proofs::GeometryLaws::bounds), unfolding(crate::specs::Geometry::slot_start))]
     pub fn slot_start(self, i: usize) -> usize
         requires { (lawful self ≡ true) × (i < slots self) }
         ensures { (result ≡ slot_start self i) × (result + entry_bytes ≤ bytes self) }
