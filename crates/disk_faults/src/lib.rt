@@ -177,36 +177,6 @@ fn slot_of(g: Geometry, volume: &[u8], i: usize, b: usize) -> usize
     i
 }
 
-// Does place p of the entry e in slot i break the rule?
-fn is_broken(g: Geometry, volume: &[u8], i: usize, e: &[u8], rule: MapRule, p: usize) -> bool
-    requires { EntryAt g volume.now i e.now × (p < places g) }
-    ensures { result ≡ breaks_at g volume.now i rule p }
-{
-    let b = entry::block_in(g, e, p);
-    if b == 0 {
-        return false;
-    }
-    match rule {
-        MapRule::Outside => !g.is_inside(b),
-        MapRule::Twice => in_places(g, e, p, b),
-        MapRule::Lower => slot_of(g, volume, i, b) < i,
-    }
-}
-
-// The lowest place of the entry e in slot i that breaks the rule, the number of places where none does.
-fn place_of(g: Geometry, volume: &[u8], i: usize, e: &[u8], rule: MapRule) -> usize
-    requires { EntryAt g volume.now i e.now }
-    ensures { result ≡ place_of g volume.now i rule }
-{
-    let n = g.places();
-    for p in 0..n {
-        if is_broken(g, volume, i, e, rule, p) {
-            return p;
-        }
-    }
-    n
-}
-
 // The other slot where the map's rule has one.
 fn other_slot(g: Geometry, volume: &[u8], i: usize, rule: MapRule, b: usize) -> usize
     requires { IsVolume g volume.now × (i ≤ slots g) }
@@ -218,63 +188,100 @@ fn other_slot(g: Geometry, volume: &[u8], i: usize, rule: MapRule, b: usize) -> 
     }
 }
 
-// The fault of a map's rule in the lowest place that breaks it.
-fn map_fault(g: Geometry, volume: &[u8], i: usize, e: &[u8], rule: MapRule) -> Option<Fault>
-    requires { EntryAt g volume.now i e.now }
-    ensures { result ≡ map_fault g volume.now i rule }
-{
-    let p = place_of(g, volume, i, e, rule);
-    if g.places() <= p {
-        return None;
-    }
-    let b = entry::block_in(g, e, p);
-    Some(Fault {
-        rule: Rule::Map(rule),
-        place: p,
-        block: b,
-        other: other_slot(g, volume, i, rule, b),
-    })
+// The entry in a slot of a volume, beside the volume.
+#[derive(Clone, Copy)]
+struct Slot<'a> {
+    g: Geometry,
+    volume: &'a [u8],
+    i: usize,
+    entry: &'a [u8],
+    ghost stands: { EntryAt g volume.now i entry.now },
 }
 
-// The fault where a lower slot has the user, name and group of the entry e in slot i.
-fn twin_fault(g: Geometry, volume: &[u8], i: usize, e: &[u8]) -> Option<Fault>
-    requires { EntryAt g volume.now i e.now }
-    ensures { result ≡ twin_fault g volume.now i }
-{
-    let wanted = Wanted::Group(g.group(entry::extent_of(e)));
-    let slot = directory::find(
-        g,
-        volume,
-        e[fields::USER],
-        &e[fields::NAME..fields::NAME_END],
-        wanted,
-    );
-    if slot < i {
-        return Some(Fault {
-            rule: Rule::Twin,
-            place: 0,
-            block: 0,
-            other: slot,
-        });
+impl Slot<'_> {
+    // Does place p break the rule?
+    fn is_broken(&self, rule: MapRule, p: usize) -> bool
+        requires { p < places self.now.g }
+        ensures { result ≡ breaks_at self.now.g self.now.volume.now self.now.i rule p }
+    {
+        let b = entry::block_in(self.g, self.entry, p);
+        if b == 0 {
+            return false;
+        }
+        match rule {
+            MapRule::Outside => !self.g.is_inside(b),
+            MapRule::Twice => in_places(self.g, self.entry, p, b),
+            MapRule::Lower => slot_of(self.g, self.volume, self.i, b) < self.i,
+        }
     }
-    None
-}
 
-// The first rule that the entry e in slot i breaks.
-fn fault_of(g: Geometry, volume: &[u8], i: usize, e: &[u8]) -> Option<Fault>
-    requires { EntryAt g volume.now i e.now }
-    ensures { result ≡ found g volume.now i }
-{
-    if e[fields::USER] == fields::EMPTY {
-        return None;
+    // The lowest place that breaks the rule, the number of places where none does.
+    fn place_of(&self, rule: MapRule) -> usize
+        ensures { result ≡ place_of self.now.g self.now.volume.now self.now.i rule }
+    {
+        let n = self.g.places();
+        for p in 0..n {
+            if self.is_broken(rule, p) {
+                return p;
+            }
+        }
+        n
     }
-    if let Some(rule) = entry_rule(e) {
-        return Some(alone(rule));
+
+    // The fault of a map's rule in the lowest place that breaks it.
+    fn map_fault(&self, rule: MapRule) -> Option<Fault>
+        ensures { result ≡ map_fault self.now.g self.now.volume.now self.now.i rule }
+    {
+        let p = self.place_of(rule);
+        if self.g.places() <= p {
+            return None;
+        }
+        let b = entry::block_in(self.g, self.entry, p);
+        Some(Fault {
+            rule: Rule::Map(rule),
+            place: p,
+            block: b,
+            other: other_slot(self.g, self.volume, self.i, rule, b),
+        })
     }
-    map_fault(g, volume, i, e, MapRule::Outside)
-        .or(map_fault(g, volume, i, e, MapRule::Twice))
-        .or(map_fault(g, volume, i, e, MapRule::Lower))
-        .or(twin_fault(g, volume, i, e))
+
+    // The fault where a lower slot has the entry's user, name and group.
+    fn twin_fault(&self) -> Option<Fault>
+        ensures { result ≡ twin_fault self.now.g self.now.volume.now self.now.i }
+    {
+        let slot = directory::find(
+            self.g,
+            self.volume,
+            self.entry[fields::USER],
+            &self.entry[fields::NAME..fields::NAME_END],
+            Wanted::Group(self.g.group(entry::extent_of(self.entry))),
+        );
+        if slot < self.i {
+            return Some(Fault {
+                rule: Rule::Twin,
+                place: 0,
+                block: 0,
+                other: slot,
+            });
+        }
+        None
+    }
+
+    // The first rule that the entry breaks.
+    fn fault(&self) -> Option<Fault>
+        ensures { result ≡ found self.now.g self.now.volume.now self.now.i }
+    {
+        if self.entry[fields::USER] == fields::EMPTY {
+            return None;
+        }
+        if let Some(rule) = entry_rule(self.entry) {
+            return Some(alone(rule));
+        }
+        self.map_fault(MapRule::Outside)
+            .or(self.map_fault(MapRule::Twice))
+            .or(self.map_fault(MapRule::Lower))
+            .or(self.twin_fault())
+    }
 }
 
 // The first rule that slot i breaks, None where it breaks none.
@@ -283,5 +290,11 @@ pub fn first_broken(g: Geometry, volume: &[u8], i: usize) -> Option<Fault>
     ensures { result ≡ first_broken g volume.now i }
 {
     let at = g.slot_start(i);
-    fault_of(g, volume, i, &volume[at..at + Geometry::ENTRY_BYTES])
+    let slot = Slot {
+        g,
+        volume,
+        i,
+        entry: &volume[at..at + Geometry::ENTRY_BYTES],
+    };
+    slot.fault()
 }

@@ -5,10 +5,10 @@ use mathlib.Core.Path.{◌∙◌}
 use borrow.Author.Rules.{rules}
 use Rattle.disk_faults.proofs.first_broken.Goals as goal
 
-pub fault_of-requires : goal.fault_of-requires
-fault_of-requires c =
+pub invariant_of-slot : goal.invariant_of-slot
+invariant_of-slot c =
     let a = c.args in
-    (search rules, (search rules, (search rules, lent_slot a.g a.volume.now a.i c.slot_start-at.result c.slot_start-at.ensures.0)))
+    record { stands = (search rules, (search rules, (search rules, lent_slot a.g a.volume.now a.i c.slot_start-at.result c.slot_start-at.ensures.0))) }
 
 pub returns : goal.returns
-returns c = c.fault_of.ensures ∙ ladder _ _ _ c.requires.1
+returns c = c.fault.ensures ∙ ladder _ _ _ c.requires.1
