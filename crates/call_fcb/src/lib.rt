@@ -30,6 +30,7 @@ pub const FCB_BYTES: usize = 36;
 pub const FILE_RECORDS: usize = 65536;
 
 // Answers the sequential position of the control block.
+#[tactic(auto, unfolding(crate::specs::Fcb::position))]
 pub fn position_of(fcb: &[u8]) -> usize
     requires { IsFcb fcb.now }
     ensures { (result ≡ position fcb.now) × (result < 1100000) }
@@ -38,6 +39,7 @@ pub fn position_of(fcb: &[u8]) -> usize
 }
 
 // Answers the record that a random call means.
+#[tactic(auto, unfolding(crate::specs::Fcb::random))]
 pub fn random_of(fcb: &[u8]) -> usize
     requires { IsFcb fcb.now }
     ensures { (result ≡ random fcb.now) × (result < file_records) }
@@ -46,6 +48,7 @@ pub fn random_of(fcb: &[u8]) -> usize
 }
 
 // Sets the control block to record n of the entry e, with this cr.
+#[tactic(auto, unfolding(crate::specs::Fcb::set_to, lists::specs::Bytes::part, lists::specs::Bytes::put))]
 pub fn set_to(fcb: &mut [u8], e: &[u8], n: usize, cr: u8)
     requires { IsFcb fcb.old × (IsEntry e.now × (n < file_records)) }
     ensures { fcb.new ≡ set_to fcb.old e.now n cr }
@@ -60,6 +63,7 @@ pub fn set_to(fcb: &mut [u8], e: &[u8], n: usize, cr: u8)
 }
 
 // Shows the entry e in the control block, as open does.
+#[tactic(auto, unfolding(crate::specs::Fcb::opened, lists::specs::Bytes::part, lists::specs::Bytes::put))]
 pub fn set_open(fcb: &mut [u8], e: &[u8])
     requires { IsFcb fcb.old × IsEntry e.now }
     ensures { fcb.new ≡ opened fcb.old e.now }
@@ -82,6 +86,7 @@ pub fn set_made(fcb: &mut [u8], name: &[u8])
 }
 
 // Lays a number into r0 r1 r2, low byte first.
+#[tactic(auto, unfolding(crate::specs::Fcb::with_random))]
 pub fn set_random(fcb: &mut [u8], n: usize)
     requires { IsFcb fcb.old × (n < 16777216) }
     ensures { fcb.new ≡ with_random fcb.old n }

@@ -37,6 +37,7 @@ pub enum Call {
 }
 
 // Answers the call of a function's number, Unserved where there is none.
+#[tactic(auto, unfolding(crate::specs::Calls::call_of))]
 pub fn call_of(function: u8) -> Call
     ensures { result ≡ call_of function }
 {
