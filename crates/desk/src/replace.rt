@@ -1,14 +1,16 @@
 // The replacement of one siglum by another in one chapter: everything is tested, and the matches are fixed, before anything
 // is changed. Beneath it stands a function that ends when no store is left: the call is that function with enough of them.
-ghost use Rattle.std.specs.Prelude.{◌≡◌, cond, List, ℕ, ◌+◌, ◌≤◌, ◌<◌, length};
+ghost use Rattle.std.specs.Prelude.{◌≡◌, true, false, cond, List, ℕ, ◌+◌, ◌≤◌, ◌<◌, length, MatchResult};
 ghost use Rattle.lists.specs.Bounded.{count_from};
 ghost use Rattle.call_fcb.specs.Fcb.{fcb_bytes, file_records};
+ghost use Rattle.call_answers.specs.Refusal.{is_none};
 ghost use Rattle.filecalls.specs.CodeFront.{joined};
 ghost use Rattle.desk.specs.Replace.{plan_in, plan, left, replacement};
 ghost use Rattle.desk.specs.Stores.{stores_if, all_stores, desk_cut, cut_replacement};
 ghost use Rattle.desk.specs.CodeDesk.{Stored, marked, Sifted, Planned};
 
 use crate::{ENOUGH, Reply, Why, records};
+use call_answers::Refusal;
 use call_fcb::FILE_RECORDS;
 use disk_geometry::Geometry;
 use disk_held::WORDS;
@@ -64,6 +66,17 @@ fn plan_in(
     ))
 }
 
+// A refusal that is met as an error.
+fn passed(why: Refusal) -> Result<(), Refusal>
+    ensures { MatchResult result (λ _. is_none why ≡ true) (λ met. (met ≡ why) × (is_none why ≡ false)) }
+{
+    if call_answers::is_none(why) {
+        Ok(())
+    } else {
+        Err(why)
+    }
+}
+
 // Decides, by reading alone; the matching records of a body to be replaced are marked.
 fn plan(
     front: Front,
@@ -78,15 +91,9 @@ fn plan(
         → (result ≡ plan (joined front held) volume.now fcb.now chapter)
         × Planned (joined front held) volume.now fcb.now old marks.new result }
 {
-    let why = front.change_why(volume, fcb);
-    if !call_answers::is_none(why) {
-        return Err(Why::Call(why));
-    }
+    passed(front.change_why(volume, fcb))?;
     let mut s = [0u8; Geometry::RECORD_BYTES];
-    let unread = records::show(front, volume, fcb, 0, &mut s);
-    if !call_answers::is_none(unread) {
-        return Err(Why::Call(unread));
-    }
+    passed(records::show(front, volume, fcb, 0, &mut s))?;
     plan_in(front, volume, fcb, &s, chapter, old, marks)
 }
 
