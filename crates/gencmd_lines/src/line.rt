@@ -82,7 +82,7 @@ fn sum_of(line: &[u8]) -> u8
     sum
 }
 
-// The group that a line's type names, 0 for no group.
+// The group that a line's type names, 0 for no group: no Option, since `gives` and what lay_group promises speak of group 0 too.
 #[tactic(auto, unfolding(crate::specs::Line::group_of_type))]
 fn group_of_type(kind: u8) -> usize
     ensures { result ≡ group_of_type kind }

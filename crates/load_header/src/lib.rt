@@ -142,7 +142,8 @@ fn are_good(h: &[u8], n: usize) -> bool
     true
 }
 
-// The place of the group of this type, the number of groups where there is none.
+// The place of the group of this type, the number of groups where there is none: no Option, since the definition `place_of` says this
+// number too.
 pub fn place_of(h: &[u8], kind: usize) -> usize
     ensures { (result ≡ place_of h.now kind) × (result ≤ descriptors) }
 {

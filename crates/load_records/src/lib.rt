@@ -21,28 +21,6 @@ pub struct Seen {
     pub records: usize,
 }
 
-// The control block with n as its record, in a copy.
-fn point(copy: &mut [u8], fcb: &[u8], n: usize)
-    requires { (length copy.old ≡ fcb_bytes) × ((length fcb.now ≡ fcb_bytes) × (n < 16777216)) }
-    ensures { copy.new ≡ with_random fcb.now n }
-{
-    copy.copy_from_slice(fcb);
-    call_fcb::set_random(copy, n);
-}
-
-// Reads record n.
-fn show(front: Front, volume: &[u8], fcb: &[u8], n: usize, buffer: &mut [u8]) -> Refusal
-    requires { (length fcb.now ≡ fcb_bytes) × ((n < 16777216) × (length buffer.old ≡ record_bytes)) }
-    ensures { (result ≡ unread (bare front) volume.now fcb.now n)
-        × (buffer.new ≡ record_of (bare front) volume.now fcb.now n) }
-{
-    let mut copy = [0u8; FCB_BYTES];
-    point(&mut copy, fcb, n);
-    buffer.fill(0);
-    let r = front.read_random(volume, &mut copy, buffer);
-    call_answers::why_of(r.answer)
-}
-
 // Reads with a control block of a wrong length, which is refused whatever its bytes are.
 fn show_short(front: Front, volume: &[u8], buffer: &mut [u8]) -> Refusal
     requires { length buffer.old ≡ record_bytes }
@@ -61,35 +39,95 @@ fn random_of(fcb: &[u8]) -> usize
     numbers::two_at(fcb, R0) + 65536 * usize::from(numbers::byte_at(fcb, R2))
 }
 
-// The file's size in records.
-fn measure(front: Front, volume: &[u8], fcb: &[u8]) -> Seen
-    requires { length fcb.now ≡ fcb_bytes }
-    ensures { (result.why ≡ unsized (bare front) volume.now fcb.now)
-        × ((result.records ≡ records (bare front) volume.now fcb.now) × (result.records < 16777216)) }
-{
-    let mut copy = [0u8; FCB_BYTES];
-    copy.copy_from_slice(fcb);
-    let r = front.file_size(volume, &mut copy);
-    let why = call_answers::why_of(r.answer);
-    Seen {
-        why,
-        records: random_of(&copy),
-    }
+// A file: what each of its reads is lent. Its control block is whole.
+#[derive(Clone, Copy)]
+struct File<'a> {
+    front: Front,
+    volume: &'a [u8],
+    fcb: &'a [u8],
+    ghost whole: { length fcb.now ≡ fcb_bytes },
 }
 
-// Why one of the records from record 1 on, below so many, can't be read.
-fn why_unread(front: Front, volume: &[u8], fcb: &[u8], records: usize) -> Refusal
-    requires { (length fcb.now ≡ fcb_bytes) × (records < 16777216) }
-    ensures { result ≡ first_from (unread (bare front) volume.now fcb.now) 1 (records - 1) }
-{
-    let mut buffer = [0u8; Geometry::RECORD_BYTES];
-    for n in 1..records {
-        let why = show(front, volume, fcb, n, &mut buffer);
-        if !call_answers::is_none(why) {
-            return why;
+impl<'a> File<'a> {
+    // The control block with n as its record, in a copy.
+    fn point(&self, n: usize, copy: &mut [u8])
+        requires { (length copy.old ≡ fcb_bytes) × (n < 16777216) }
+        ensures { copy.new ≡ with_random self.now.fcb.now n }
+    {
+        copy.copy_from_slice(self.fcb);
+        call_fcb::set_random(copy, n);
+    }
+
+    // Reads record n.
+    fn show(&self, n: usize, buffer: &mut [u8]) -> Refusal
+        requires { (n < 16777216) × (length buffer.old ≡ record_bytes) }
+        ensures { (result ≡ unread (bare self.now.front) self.now.volume.now self.now.fcb.now n)
+            × (buffer.new ≡ record_of (bare self.now.front) self.now.volume.now self.now.fcb.now n) }
+    {
+        let mut copy = [0u8; FCB_BYTES];
+        self.point(n, &mut copy);
+        buffer.fill(0);
+        let r = self.front.read_random(self.volume, &mut copy, buffer);
+        call_answers::why_of(r.answer)
+    }
+
+    // The file's size in records.
+    fn measure(&self) -> Seen
+        ensures { (result.why ≡ unsized (bare self.now.front) self.now.volume.now self.now.fcb.now)
+            × ((result.records ≡ records (bare self.now.front) self.now.volume.now self.now.fcb.now)
+            × (result.records < 16777216)) }
+    {
+        let mut copy = [0u8; FCB_BYTES];
+        copy.copy_from_slice(self.fcb);
+        let r = self.front.file_size(self.volume, &mut copy);
+        let why = call_answers::why_of(r.answer);
+        Seen {
+            why,
+            records: random_of(&copy),
         }
     }
-    Refusal::None
+
+    // Why one of the records from record 1 on, below so many, can't be read.
+    fn why_unread(&self, records: usize) -> Refusal
+        requires { records < 16777216 }
+        ensures { result
+            ≡ first_from (unread (bare self.now.front) self.now.volume.now self.now.fcb.now) 1 (records - 1) }
+    {
+        let mut buffer = [0u8; Geometry::RECORD_BYTES];
+        for n in 1..records {
+            let why = self.show(n, &mut buffer);
+            if !call_answers::is_none(why) {
+                return why;
+            }
+        }
+        Refusal::None
+    }
+
+    // The size, and each record below it but record 0.
+    fn read_rest(&self) -> Seen
+        ensures { RestRead (bare self.now.front) self.now.volume.now self.now.fcb.now result }
+    {
+        let sized = self.measure();
+        if !call_answers::is_none(sized.why) {
+            return sized;
+        }
+        Seen {
+            why: self.why_unread(sized.records),
+            records: sized.records,
+        }
+    }
+
+    // Lays the bytes of record n from `from` on into out.
+    fn lay_record(&self, n: usize, from: usize, out: &mut [u8])
+        requires { (n < 16777216) × (from + length out.old ≤ record_bytes) }
+        ensures { out.new
+            ≡ part (record_of (bare self.now.front) self.now.volume.now self.now.fcb.now n) from (length out.old) }
+    {
+        let mut buffer = [0u8; Geometry::RECORD_BYTES];
+        self.show(n, &mut buffer);
+        let to = from + out.len();
+        out.copy_from_slice(&buffer[from..to]);
+    }
 }
 
 // Reads the file to its end: record 0 into the header, the size, and each record below it.
@@ -101,40 +139,15 @@ pub fn read_all(front: Front, volume: &[u8], fcb: &[u8], header: &mut [u8]) -> S
         let why = show_short(front, volume, header);
         return Seen { why, records: 0 };
     }
-    let first = show(front, volume, fcb, 0, header);
+    let file = File { front, volume, fcb };
+    let first = file.show(0, header);
     if !call_answers::is_none(first) {
         return Seen {
             why: first,
             records: 0,
         };
     }
-    read_rest(front, volume, fcb)
-}
-
-// The size, and each record below it but record 0.
-fn read_rest(front: Front, volume: &[u8], fcb: &[u8]) -> Seen
-    requires { length fcb.now ≡ fcb_bytes }
-    ensures { RestRead (bare front) volume.now fcb.now result }
-{
-    let sized = measure(front, volume, fcb);
-    if !call_answers::is_none(sized.why) {
-        return sized;
-    }
-    Seen {
-        why: why_unread(front, volume, fcb, sized.records),
-        records: sized.records,
-    }
-}
-
-// Lays the bytes of record n from `from` on into out.
-fn lay_record(front: Front, volume: &[u8], fcb: &[u8], n: usize, from: usize, out: &mut [u8])
-    requires { (length fcb.now ≡ fcb_bytes) × ((n < 16777216) × (from + length out.old ≤ record_bytes)) }
-    ensures { out.new ≡ part (record_of (bare front) volume.now fcb.now n) from (length out.old) }
-{
-    let mut buffer = [0u8; Geometry::RECORD_BYTES];
-    show(front, volume, fcb, n, &mut buffer);
-    let to = from + out.len();
-    out.copy_from_slice(&buffer[from..to]);
+    file.read_rest()
 }
 
 // Lays the bytes of the image from `from` on into out, a record, or what is wanted of it, at a time.
@@ -143,6 +156,7 @@ pub fn lay_image(front: Front, volume: &[u8], fcb: &[u8], from: usize, out: &mut
     requires out_bound { (from + length out.old ≤ record_bytes * image_records (bare front) volume.now fcb.now) × (from + length out.old < 2147483520) }
     ensures { out.new ≡ part (image (bare front) volume.now fcb.now) from (length out.old) }
 {
+    let file = File { front, volume, fcb };
     let mut at = 0;
     // No for: the steps differ, as the first and the last record may be asked for in part.
     while at < out.len() {
@@ -150,14 +164,7 @@ pub fn lay_image(front: Front, volume: &[u8], fcb: &[u8], from: usize, out: &mut
         let within = place % Geometry::RECORD_BYTES;
         let k = (Geometry::RECORD_BYTES - within).min(out.len() - at);
         let to = at + k;
-        lay_record(
-            front,
-            volume,
-            fcb,
-            place / Geometry::RECORD_BYTES + 1,
-            within,
-            &mut out[at..to],
-        );
+        file.lay_record(place / Geometry::RECORD_BYTES + 1, within, &mut out[at..to]);
         at = to;
     }
 }

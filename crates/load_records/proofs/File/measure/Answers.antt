@@ -5,7 +5,7 @@ use Rattle.call_fcb.specs.Fcb.{R0}
 use mathlib.Core.List.{List, []}
 use Prim.Native.Nat.{ℕ}
 use mathlib.Core.Path.{ap, ◌∙◌}
-use Rattle.load_records.proofs.measure.Goals as goal
+use Rattle.load_records.proofs.File.measure.Goals as goal
 
 pub returns : goal.returns
 returns c =

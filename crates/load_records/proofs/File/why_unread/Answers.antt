@@ -2,7 +2,7 @@
 use Rattle.load_records.proofs.ReadLaws.{first_next, first_stop, first_end}
 use mathlib.Core.Path.{sym, ◌∙◌}
 use borrow.Author.Rules.{rules}
-use Rattle.load_records.proofs.why_unread.Goals as goal
+use Rattle.load_records.proofs.File.why_unread.Goals as goal
 
 pub returns-then-not-is_none : goal.returns-then-not-is_none
 returns-then-not-is_none c = first_stop c.loop-n.invariant (search rules) c.show-why.ensures.0 (sym c.is_none.ensures ∙ c.if-not-is_none.true)

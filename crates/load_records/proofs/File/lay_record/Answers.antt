@@ -4,7 +4,7 @@ use native.Mathlib.Omega.{arith}
 use lib.ListN.{length}
 use Prim.Native.Nat.{◌+◌, ◌-◌}
 use mathlib.Core.Path.{◌≡◌, ◌∙◌}
-use Rattle.load_records.proofs.lay_record.Goals as goal
+use Rattle.load_records.proofs.File.lay_record.Goals as goal
 
 pub returns : goal.returns
 unfolding part
