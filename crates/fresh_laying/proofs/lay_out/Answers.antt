@@ -1,20 +1,9 @@
 -- The entries in order, then blank slots and blank blocks: that is the fresh disk.
-use mathlib.Core.Path.{◌≡◌, sym, ◌∙◌}
-use Prim.Native.Nat.{ℕ}
-use lib.ListN.{length, take, length-replicate}
+use mathlib.Core.Path.{◌≡◌, ◌∙◌}
+use lib.ListN.{length, take}
 use lib.Seq.{length-take-le}
 use Rattle.fresh_laying.proofs.KeptLaws.{kept_few, kept_long, kept_is, numbers_low, laid_out}
 use Rattle.fresh_laying.proofs.lay_out.Goals as goal
-
-pub slice_bounds-order_of-end : goal.slice_bounds-order_of-end
-slice_bounds-order_of-end c = sym (length-replicate {A = ℕ} 2048 0)
-
-pub order_of-m-requires : goal.order_of-m-requires
-order_of-m-requires c =
-    record {
-      accepted = c.requires.accepted;
-      kept_len = length-replicate {A = ℕ} 2048 0;
-    }
 
 pub lay_entries-next-requires : goal.lay_entries-next-requires
 lay_entries-next-requires c =
