@@ -12,13 +12,11 @@ use filecalls::Drive;
 pub fn fresh_copy(g: Geometry, first: &[u8], second: &mut [u8]) -> Answer
     ensures { copied result first.now second.new ≡ fresh_copy g first.now second.old }
 {
-    let reply = Drive::log_in(g, first);
-    let answer = reply.answer;
+    let answer = Drive::log_in(g, first).answer;
     if !call_answers::succeeded(answer) {
         return answer;
     }
-    let whole = second.len() == g.bytes();
-    if !whole {
+    if second.len() != g.bytes() {
         return Answer::Refused(Refusal::VolumeLength);
     }
     fresh_laying::lay_out(g, first, second);

@@ -1,7 +1,7 @@
 // A fresh disk laid out: the entries in order, each with its blocks moved, then blank slots and blank blocks.
 #![tactic(auto)]
 
-ghost use Rattle.std.specs.Prelude.{◌≡◌, true, cond, ◌+◌, ◌-◌, ◌≤◌, ◌<◌, length};
+ghost use Rattle.std.specs.Prelude.{◌≡◌, true, cond, ◌+◌, ◌-◌, ◌≤◌, ◌<◌, length, map};
 ghost use Rattle.lists.specs.Bounded.{fold};
 ghost use Rattle.disk_geometry.specs.Geometry.{bytes, slots, blocks, places};
 ghost use Rattle.disk_volume.specs.Entry.{block_in, with_block};
@@ -10,7 +10,8 @@ ghost use Rattle.disk_volume.specs.Record.{record_at, put_record};
 ghost use Rattle.disk_volume.specs.CodeLent.{IsVolume, VolumeAnd, IsEntry, IsRecord};
 ghost use Rattle.files.specs.Files.{is_used};
 ghost use Rattle.fresh_order.specs.Order.{order};
-ghost use Rattle.fresh_sorting.specs.CodeKept.{InOrder, IsAccepted};
+ghost use Rattle.fresh_order.specs.CodeKeys.{key_of};
+ghost use Rattle.fresh_sorting.specs.CodeKept.{IsAccepted};
 ghost use Rattle.fresh_volume.specs.Copy.{blocks_below, number_place, numbered, first_number, put_block, fresh};
 ghost use Rattle.fresh_laying.specs.CodeLaying.{move_blocks, lay_entry, blank_slot, blank_block, MapFits};
 
@@ -137,17 +138,17 @@ fn lay_entry(g: Geometry, first: &[u8], i: usize, second: &mut [u8], k: usize, b
     next
 }
 
-// Lays the m entries whose numbers are kept, in order; the next number of a block.
-fn lay_entries(g: Geometry, first: &[u8], kept: &[usize], m: usize, second: &mut [u8]) -> usize
+// Lays the entries whose numbers are kept, in order; the next number of a block.
+fn lay_entries(g: Geometry, first: &[u8], kept: &[usize], second: &mut [u8]) -> usize
     requires accepted { IsAccepted g first.now × (length second.old ≡ bytes g) }
-    requires in_order { InOrder g first.now (slots g) kept.now m }
-    ensures value { result ≡ first_number g first.now (order g first.now) m }
+    requires in_order { kept.now ≡ map (key_of g first.now) (order g first.now) }
+    ensures value { result ≡ first_number g first.now (order g first.now) (length kept.now) }
     ensures second_after { second.new
-        ≡ fold (lay_entry g first.now (order g first.now)) second.old 0 m }
+        ≡ fold (lay_entry g first.now (order g first.now)) second.old 0 (length kept.now) }
 {
     let mut next = g.directory_blocks;
-    for k in 0..m {
-        next = lay_entry(g, first, kept[k] % MOST_SLOTS, second, k, next);
+    for (k, key) in kept.iter().enumerate() {
+        next = lay_entry(g, first, *key % MOST_SLOTS, second, k, next);
     }
     next
 }
@@ -183,7 +184,7 @@ pub fn lay_out(g: Geometry, first: &[u8], second: &mut [u8])
 {
     let mut kept = [0usize; MOST_SLOTS];
     let m = fresh_sorting::order_of(g, first, &mut kept);
-    let next = lay_entries(g, first, &kept, m, second);
+    let next = lay_entries(g, first, &kept[..m], second);
     blank_slots(g, second, m);
     blank_blocks(g, second, next);
 }

@@ -1,12 +1,9 @@
 -- None of the slots passed so far has the mark for the file, so what is still to be asked gives the whole.
 use Rattle.files.specs.Files.{is_marked}
-use Rattle.lists.proofs.AnyLaws.{asked_start, asked_next, asked_hit, asked_none}
+use Rattle.lists.proofs.AnyLaws.{asked_next, asked_hit, asked_none}
 use mathlib.Core.Path.{sym, ◌∙◌}
 use borrow.Author.Rules.{rules}
 use Rattle.files.proofs.is_marked.Goals as goal
-
-pub loop-i-init : goal.loop-i-init
-loop-i-init c = asked_start
 
 pub returns-then-marked_at : goal.returns-then-marked_at
 unfolding is_marked

@@ -1,15 +1,12 @@
 -- No slot passed so far stands for its file, so what is still to be searched gives the whole.
 use Rattle.files.specs.Files.{next_file}
 use Rattle.disk_volume.proofs.EntryLaws.{lent_slot}
-use Rattle.lists.proofs.BoundedLaws.{searched_start, searched_next, searched_hit, searched_none}
+use Rattle.lists.proofs.BoundedLaws.{searched_next, searched_hit, searched_none}
 use mathlib.Core.Path.{◌≡◌, sym, ◌∙◌}
 use native.Mathlib.Omega.{arith}
 use borrow.Author.Rules.{rules}
 use Rattle.files.proofs.next_file.Invariants.{listed_at}
 use Rattle.files.proofs.next_file.Goals as goal
-
-pub loop-i-init : goal.loop-i-init
-loop-i-init c = (search rules, searched_start)
 
 pub returns-then-is_listed : goal.returns-then-is_listed
 unfolding next_file

@@ -14,39 +14,39 @@ use Rattle.fresh_copy.proofs.fresh_copy.Goals as goal
 
 pub returns-then-not-succeeded : goal.returns-then-not-succeeded
 returns-then-not-succeeded c =
-    let said : (let a = c.args in c.log_in-reply.result.answer ≡ (log_in a.g a.first.now).answer) = ap (λ (r : Reply). r.answer) c.log_in-reply.ensures in
+    let said : (let a = c.args in c.log_in-answer.result.answer ≡ (log_in a.g a.first.now).answer) = ap (λ (r : Reply). r.answer) c.log_in-answer.ensures in
     let a = c.args in first_refused a.g a.first.now a.second.now said (sym c.succeeded.ensures ∙ c.if-not-succeeded.true)
 
 pub bytes-requires : goal.bytes-requires
 bytes-requires c =
-    let said : (let a = c.args in c.log_in-reply.result.answer ≡ (log_in a.g a.first.now).answer) = ap (λ (r : Reply). r.answer) c.log_in-reply.ensures in
-    let passed : succeeded c.log_in-reply.result.answer ≡ true = sym c.succeeded.ensures ∙ c.if-not-succeeded.false in
+    let said : (let a = c.args in c.log_in-answer.result.answer ≡ (log_in a.g a.first.now).answer) = ap (λ (r : Reply). r.answer) c.log_in-answer.ensures in
+    let passed : succeeded c.log_in-answer.result.answer ≡ true = sym c.succeeded.ensures ∙ c.if-not-succeeded.false in
     let ready : (let a = c.args in Accepted a.g a.first.now) = accepted _ _ (sym (ap succeeded said) ∙ passed) in
     ready.law
 
-pub returns-then-not-whole : goal.returns-then-not-whole
-returns-then-not-whole c =
-    let said : (let a = c.args in c.log_in-reply.result.answer ≡ (log_in a.g a.first.now).answer) = ap (λ (r : Reply). r.answer) c.log_in-reply.ensures in
-    let passed : succeeded c.log_in-reply.result.answer ≡ true = sym c.succeeded.ensures ∙ c.if-not-succeeded.false in
+pub returns-then-second-bytes : goal.returns-then-second-bytes
+returns-then-second-bytes c =
+    let said : (let a = c.args in c.log_in-answer.result.answer ≡ (log_in a.g a.first.now).answer) = ap (λ (r : Reply). r.answer) c.log_in-answer.ensures in
+    let passed : succeeded c.log_in-answer.result.answer ≡ true = sym c.succeeded.ensures ∙ c.if-not-succeeded.false in
     let a = c.args in
     second_refused a.g a.first.now a.second.now said passed
-    (ap (λ (n : ℕ). eqb (length a.second.now) n) (sym c.bytes.ensures) ∙ ne_eqb _ _ c.if-not-whole.true)
+    (ap (λ (n : ℕ). eqb (length a.second.now) n) (sym c.bytes.ensures) ∙ ne_eqb _ _ c.if-second-bytes.true)
 
 pub lay_out-requires : goal.lay_out-requires
 lay_out-requires c =
-    let said : (let a = c.args in c.log_in-reply.result.answer ≡ (log_in a.g a.first.now).answer) = ap (λ (r : Reply). r.answer) c.log_in-reply.ensures in
-    let passed : succeeded c.log_in-reply.result.answer ≡ true = sym c.succeeded.ensures ∙ c.if-not-succeeded.false in
+    let said : (let a = c.args in c.log_in-answer.result.answer ≡ (log_in a.g a.first.now).answer) = ap (λ (r : Reply). r.answer) c.log_in-answer.ensures in
+    let passed : succeeded c.log_in-answer.result.answer ≡ true = sym c.succeeded.ensures ∙ c.if-not-succeeded.false in
     let ready : (let a = c.args in Accepted a.g a.first.now) = accepted _ _ (sym (ap succeeded said) ∙ passed) in
     let r = ready in
     record {
       accepted = (r.law, (r.size, r.good));
-      second_len = c.if-not-whole.false ∙ c.bytes.ensures;
+      second_len = c.if-second-bytes.false ∙ c.bytes.ensures;
     }
 
 pub returns : goal.returns
 returns c =
-    let said : (let a = c.args in c.log_in-reply.result.answer ≡ (log_in a.g a.first.now).answer) = ap (λ (r : Reply). r.answer) c.log_in-reply.ensures in
-    let passed : succeeded c.log_in-reply.result.answer ≡ true = sym c.succeeded.ensures ∙ c.if-not-succeeded.false in
+    let said : (let a = c.args in c.log_in-answer.result.answer ≡ (log_in a.g a.first.now).answer) = ap (λ (r : Reply). r.answer) c.log_in-answer.ensures in
+    let passed : succeeded c.log_in-answer.result.answer ≡ true = sym c.succeeded.ensures ∙ c.if-not-succeeded.false in
     let a = c.args in
     copy_done a.g a.first.now a.second.now said passed
-    (ap (λ (n : ℕ). eqb (length a.second.now) n) (sym c.bytes.ensures) ∙ eq-eqb _ _ c.if-not-whole.false) c.lay_out.ensures
+    (ap (λ (n : ℕ). eqb (length a.second.now) n) (sym c.bytes.ensures) ∙ eq-eqb _ _ c.if-second-bytes.false) c.lay_out.ensures

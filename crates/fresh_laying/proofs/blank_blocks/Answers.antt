@@ -1,17 +1,7 @@
 -- The blocks passed so far are blank, so what is still to be laid gives the whole.
-use mathlib.Core.Path.{sym, ◌∙◌}
-use Rattle.fresh_laying.proofs.FoldFrom.{from_start, from_next, from_end}
+use mathlib.Core.Path.{sym}
+use Rattle.fresh_laying.proofs.FoldFrom.{from_next, from_end}
 use Rattle.fresh_laying.proofs.blank_blocks.Goals as goal
-
-pub loop-i-init : goal.loop-i-init
-loop-i-init c = from_start
-
-pub blank_block-requires : goal.blank_block-requires
-blank_block-requires c =
-    record {
-      volume = (c.requires.volume.0, c.loop-i.auto.second ∙ c.requires.volume.1);
-      b_bound = c.loop-i-test.true;
-    }
 
 pub loop-i-preserved : goal.loop-i-preserved
 loop-i-preserved c =

@@ -1,23 +1,17 @@
 -- The entries passed so far are laid.
 use mathlib.Core.Path.{◌∙◌}
-use native.Mathlib.Omega.{arith}
-use Rattle.fresh_laying.proofs.KeptLaws.{laid_none, laid_next, laid_number, laid_all, kept_long, entry_fits}
+use lib.ListN.{length}
+use Rattle.fresh_laying.proofs.KeptLaws.{laid_none, laid_next, laid_number, laid_all, entry_fits}
 use Rattle.fresh_laying.proofs.lay_entries.Goals as goal
 
 pub loop-k-init : goal.loop-k-init
-loop-k-init c = let a = c.args in laid_none a.g a.first.now a.m a.second.now
-
-pub offset_bounds-kept-k : goal.offset_bounds-kept-k
-offset_bounds-kept-k c = omega (arith, c.loop-k-test.true, kept_long c.args.g c.args.first.now c.requires.accepted.0 c.args.kept.now c.args.m c.requires.in_order)
-
-pub bounds-kept-k : goal.bounds-kept-k
-bounds-kept-k c = omega (arith, c.loop-k-test.true, kept_long c.args.g c.args.first.now c.requires.accepted.0 c.args.kept.now c.args.m c.requires.in_order)
+loop-k-init c = let a = c.args in laid_none a.g a.first.now (length a.kept.now) a.second.now
 
 pub lay_entry-next-requires : goal.lay_entry-next-requires
 lay_entry-next-requires c =
     let a = c.args in
     let l = c.loop-k in
-    let fits = entry_fits a.g a.first.now c.requires.accepted.0 a.kept.now a.m c.requires.in_order l.k c.loop-k-test.true l.next l.invariant.number in
+    let fits = entry_fits a.g a.first.now c.requires.accepted.0 a.kept.now c.requires.in_order l.k c.loop-k-test.true l.next l.invariant.number in
     record {
       volume_and = (c.requires.accepted.0.0, (c.requires.accepted.0.1.0, l.invariant.size ∙ c.requires.accepted.1));
       i_bound = fits;
@@ -28,7 +22,7 @@ loop-k-preserved c =
     let a = c.args in
     let l = c.loop-k in
     let o = c.lay_entry-next in
-    laid_next a.g a.first.now c.requires.accepted.0 a.kept.now a.m c.requires.in_order a.second.now l.second l.next l.k l.invariant c.loop-k-test.true
+    laid_next a.g a.first.now c.requires.accepted.0 a.kept.now c.requires.in_order a.second.now l.second l.next l.k l.invariant c.loop-k-test.true
     o.new.second o.result o.auto.second o.ensures.value o.ensures.second_after
 
 pub returns : goal.returns
@@ -36,6 +30,6 @@ returns c =
     let a = c.args in
     let l = c.loop-k in
     record {
-      value = laid_number a.g a.first.now a.m a.second.now l.second l.next l.k l.invariant c.loop-k-test.false;
-      second_after = laid_all a.g a.first.now a.m a.second.now l.second l.next l.k l.invariant c.loop-k-test.false;
+      value = laid_number a.g a.first.now (length a.kept.now) a.second.now l.second l.next l.k l.invariant c.loop-k-test.false;
+      second_after = laid_all a.g a.first.now (length a.kept.now) a.second.now l.second l.next l.k l.invariant c.loop-k-test.false;
     }

@@ -1,5 +1,5 @@
 -- The new entry is the old one's head, with the new number of each block; what is lent of the first disk is the slot's.
-use mathlib.Core.Path.{◌≡◌, sym, ap, ap₂, ◌∙◌, subst⁻¹}
+use mathlib.Core.Path.{◌≡◌, ap, ap₂, ◌∙◌, subst⁻¹}
 use mathlib.Core.List.{List, ◌++◌}
 use Prim.Native.Nat.{ℕ, ◌+◌}
 use native.Mathlib.Omega.{arith}
@@ -14,11 +14,6 @@ use Rattle.fresh_laying.specs.CodeLaying.{move_blocks, MapFits}
 use Rattle.fresh_laying.proofs.MoveLaws.{new_entry}
 use Rattle.fresh_laying.proofs.lay_entry.Goals as goal
 
-pub slice_bounds-move_blocks-end-2 : goal.slice_bounds-move_blocks-end-2
-slice_bounds-move_blocks-end-2 c =
-    let long : length (c.copy_from_slice.new.self ++ replicate 16 0) ≡ 32 = length-append c.copy_from_slice.new.self (replicate 16 0) ∙ omega (arith, c.copy_from_slice.auto.self) in
-    sym long
-
 pub move_blocks-next-requires : goal.move_blocks-next-requires
 move_blocks-next-requires c =
     let long : length (c.copy_from_slice.new.self ++ replicate 16 0) ≡ 32 = length-append c.copy_from_slice.new.self (replicate 16 0) ∙ omega (arith, c.copy_from_slice.auto.self) in
@@ -31,20 +26,6 @@ move_blocks-next-requires c =
         ap length e ∙ slot_length a.g c.requires.volume_and.0 a.first.now c.requires.volume_and.1.0 a.i c.requires.i_bound.0,
         (long, subst⁻¹ (λ (x : Entry). MapFits a.g x a.b) e c.requires.i_bound.1.1),
       );
-    }
-
-pub slice_bounds-lay_slot-end : goal.slice_bounds-lay_slot-end
-slice_bounds-lay_slot-end c =
-    let long : length (c.copy_from_slice.new.self ++ replicate 16 0) ≡ 32 = length-append c.copy_from_slice.new.self (replicate 16 0) ∙ omega (arith, c.copy_from_slice.auto.self) in
-    sym (c.move_blocks-next.auto.new ∙ long)
-
-pub lay_slot-requires : goal.lay_slot-requires
-lay_slot-requires c =
-    let long : length (c.copy_from_slice.new.self ++ replicate 16 0) ≡ 32 = length-append c.copy_from_slice.new.self (replicate 16 0) ∙ omega (arith, c.copy_from_slice.auto.self) in
-    let m = c.move_blocks-next in
-    record {
-      volume = (c.requires.volume_and.0, m.auto.second ∙ c.requires.volume_and.1.1);
-      k_bound = (c.requires.i_bound.1.0, m.auto.new ∙ long);
     }
 
 pub returns : goal.returns

@@ -1,6 +1,5 @@
 -- The blocks of the places passed so far are moved.
-use mathlib.Core.Path.{◌∙◌}
-use Prim.Native.Nat.{◌≤◌, ◌<◌}
+use Prim.Native.Nat.{◌≤◌}
 use native.Mathlib.Omega.{arith}
 use Rattle.disk_geometry.specs.Geometry.{places}
 use Rattle.fresh_laying.proofs.MoveLaws.{moved_none, moved_next, moved_number, moved_all, moved_entry}
@@ -8,16 +7,6 @@ use Rattle.fresh_laying.proofs.move_blocks.Goals as goal
 
 pub loop-p-init : goal.loop-p-init
 loop-p-init c = let a = c.args in moved_none a.g a.first.now a.e.now a.b a.second.now a.new.now
-
-pub move_place-next-requires : goal.move_place-next-requires
-move_place-next-requires c =
-    let l = c.loop-p in
-    let p< : l.p < places c.args.g = omega (arith, c.loop-p-test.true, c.places-p-end.ensures.0) in
-    record {
-      volume_and = (c.requires.volume_and.0, (c.requires.volume_and.1.0, l.invariant.size ∙ c.requires.volume_and.1.1));
-      p_bound = (p<, (c.requires.entry.0, l.invariant.long ∙ c.requires.entry.1.0));
-      p_bound_2 = λ u. rw l.invariant.number (c.requires.entry.1.1 l.p p< u);
-    }
 
 pub loop-p-preserved : goal.loop-p-preserved
 loop-p-preserved c =

@@ -30,15 +30,6 @@ loop-i-init c =
       go_on = no_nodes _ _ _ (search rules) (no_begin 2048);
     }
 
-pub add_slot-c-requires : goal.add_slot-c-requires
-add_slot-c-requires c =
-    let s = c.loop-i.invariant in
-    record {
-      volume = search rules;
-      i_bound = (search rules, (s.few_files, (s.few_entries, s.few_records)));
-      heads = (s.begin, s.go_on);
-    }
-
 pub loop-i-preserved : goal.loop-i-preserved
 loop-i-preserved c =
     let s = c.loop-i.invariant in

@@ -2,20 +2,10 @@
 use mathlib.Core.Path.{ap}
 use Prim.Native.Nat.{ℕ, ◌+◌}
 use native.Mathlib.Omega.{arith}
-use Rattle.sums.proofs.SumLaws.{summed_start, summed_next, summed_end}
+use Rattle.sums.proofs.SumLaws.{summed_next, summed_end}
 use Rattle.shelf_holdings.specs.CodeEntries.{entry_records}
 use borrow.Author.Rules.{rules}
 use Rattle.shelf_holdings.proofs.entry_records.Goals as goal
-
-pub loop-p-init : goal.loop-p-init
-loop-p-init c = record { few = search rules; rest = omega arith; sum = summed_start }
-
-pub place_records-m-requires : goal.place_records-m-requires
-place_records-m-requires c =
-    record {
-      g_value = search rules;
-      left_value = c.loop-p.invariant.rest;
-    }
 
 pub loop-p-preserved : goal.loop-p-preserved
 loop-p-preserved c =

@@ -11,22 +11,6 @@ use Rattle.shelf_holdings.proofs.run_of.Goals as goal
 pub nonzero_rem-result : goal.nonzero_rem-result
 nonzero_rem-result c = omega (arith, c.extents.ensures, (bounds _ c.requires.0).some_extents)
 
-pub overflow_mul-result : goal.overflow_mul-result
-overflow_mul-result c =
-    let few_below : c.extent_of-x.result % c.extents.result < 4 = (let b = bounds _ c.requires.0 in
-    let some : 0 < c.extents.result = omega (arith, c.extents.ensures, b.some_extents) in
-    let four : c.extents.result ≤ 4 = omega (arith, c.extents.ensures, b.block_high) in
-    omega (arith, mod-lt c.extent_of-x.result some)) in
-    omega (arith, few_below)
-
-pub overflow_add-result : goal.overflow_add-result
-overflow_add-result c =
-    let few_below : c.extent_of-x.result % c.extents.result < 4 = (let b = bounds _ c.requires.0 in
-    let some : 0 < c.extents.result = omega (arith, c.extents.ensures, b.some_extents) in
-    let four : c.extents.result ≤ 4 = omega (arith, c.extents.ensures, b.block_high) in
-    omega (arith, mod-lt c.extent_of-x.result some)) in
-    omega (arith, few_below, c.from.ensures, c.count_of.ensures.1)
-
 pub returns : goal.returns
 returns c =
     let few_below : c.extent_of-x.result % c.extents.result < 4 = (let b = bounds _ c.requires.0 in

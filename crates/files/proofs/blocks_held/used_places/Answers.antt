@@ -1,11 +1,8 @@
 -- The places seen so far and those still to be seen give the count.
-use Rattle.files.proofs.CountedLaws.{counted_start, counted_next, counted_end}
+use Rattle.files.proofs.CountedLaws.{counted_next, counted_end}
 use Rattle.files.specs.Files.{used_places}
 use borrow.Author.Rules.{rules}
 use Rattle.files.proofs.blocks_held.used_places.Goals as goal
-
-pub loop-p-init : goal.loop-p-init
-loop-p-init c = (search rules, counted_start)
 
 pub loop-p-preserved : goal.loop-p-preserved
 loop-p-preserved c = (search rules, counted_next c.loop-p.invariant.1 (search rules) c.used_at-used.ensures.0)
