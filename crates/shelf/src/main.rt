@@ -46,9 +46,8 @@ fn after_read(shelf: Shelf, buffer: &[u8], n: usize) -> Reading
         return Reading { shelf, more: false };
     }
     let added = shelf.put(listing::geometry(), &buffer[..n]);
-    let next = added.shelf;
     Reading {
-        shelf: next,
+        shelf: added.shelf,
         more: n == listing::VOLUME_BYTES,
     }
 }
@@ -60,6 +59,7 @@ fn read_volumes<R: Read>(from: &mut R, volume: &mut [u8]) -> Shelf
 {
     let mut shelf = Shelf::bare();
     let mut more = true;
+    // A `while`: it is no count, each turn goes to the next volume, until a reading says that none follows.
     while more {
         let n = streams::read_full(from, volume);
         let reading = after_read(shelf, volume, n);

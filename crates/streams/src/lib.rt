@@ -14,6 +14,7 @@ pub fn read_full<R: Read>(from: &mut R, buf: &mut [u8]) -> usize
     ensures bytes { Consumes (R.remaining from.old) (R.remaining from.new) (take result buf.new) }
 {
     let mut done = 0;
+    // A `while`: it is no count, each turn goes on behind what a read gave, and ends the loop where that is nothing.
     while done < buf.len() {
         let n = read_some(from, &mut buf[done..]);
         if n == 0 {
