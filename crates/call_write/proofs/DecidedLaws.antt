@@ -32,8 +32,10 @@ use Rattle.call_entry.proofs.GrowLaws.{like_extent}
 use Rattle.call_decide.specs.Write.{has_group, base_entry, needs_block, write_block, write_tests}
 use Rattle.call_decide.specs.CodePlan.{Decided}
 use Rattle.call_decide.proofs.WriteLaws.{write_passed}
-use Rattle.call_write.specs.Rewrite.{shown_bytes}
-use Rattle.call_write.specs.CodeWrite.{Carried, Wrote, counted_bytes}
+use Rattle.call_write.specs.declared.Source.{Source}
+use Rattle.call_write.specs.declared.Source.TheVariants.{Buffer, Standing}
+use Rattle.call_write.specs.Rewrite.{with_first_two, shown_bytes, bytes_of}
+use Rattle.call_write.specs.CodeWrite.{Carried, Wrote, counted_bytes, laid_bytes}
 
 -- ---- what is left
 module _ (g : Geometry) (fills : Bool) (v fcb b : List ℕ) (u : ℕ) (held : List ℕ) (n cr most : ℕ) {r : Refusal}
@@ -156,3 +158,9 @@ length_shown g v u name n good size = go (is_none (first_met (read_tests g v u n
         → length (cond t (record_at g v (read_block g v u name n) n) (replicate 128 0)) ≡ 128
     go true q = record_length g good v size (read_block g v u name n) n (block_below g v u name n (none_unmet g v u name n NoGroup refl q))
     go false q = refl
+
+-- ---- the bytes that are laid are those of the write
+pub laid_is : (g : Geometry) (v : List ℕ) (u : ℕ) (name : List ℕ) (n : ℕ) (source : Source) (e : Entry) (block : ℕ) (over : List ℕ)
+    → counted_bytes g v e n block over ≡ shown_bytes g v u name n → laid_bytes g v e n block source over ≡ bytes_of g v u name n source
+laid_is g v u name n (Buffer b) e block over h = refl
+laid_is g v u name n (Standing low high) e block over h = ap (with_first_two low high) h

@@ -12,6 +12,8 @@ use Rattle.call_entry.specs.Grown.{written_entry}
 use Rattle.call_store.specs.Stores.{data_then_entry}
 use Rattle.call_decide.specs.Write.{needs_block, write_block, entry_after, write_tests}
 use Rattle.call_write.specs.Write.{write_stores, hold_if}
+use Rattle.call_write.specs.declared.Source.{Source}
+use Rattle.call_write.specs.declared.Source.TheVariants.{Buffer, Standing}
 use Rattle.call_write.specs.Rewrite.{with_first_two}
 
 -- the stores of a write that is decided: into this block, and by the entry e that grows in this slot
@@ -32,8 +34,9 @@ abbrev pub counted_bytes : Geometry → List ℕ → Entry → ℕ → ℕ → L
 counted_bytes g v e n block b = cond (counted g e n) (record_at g v block n) b
 
 -- the bytes of a write, laid over others, by the entry e that grows
-abbrev pub laid_bytes : Geometry → List ℕ → Entry → ℕ → ℕ → List ℕ → Bool → ℕ → ℕ → List ℕ → List ℕ
-laid_bytes g v e n block b again low high over = cond again (with_first_two low high (counted_bytes g v e n block over)) b
+abbrev pub laid_bytes : Geometry → List ℕ → Entry → ℕ → ℕ → Source → List ℕ → List ℕ
+laid_bytes g v e n block (Buffer b) over = b.now
+laid_bytes g v e n block (Standing low high) over = with_first_two low high (counted_bytes g v e n block over)
 
 -- what a write of record n with the bytes b answers, and all that it leaves: a refusal alters nothing
 module _ (g : Geometry) (fills : Bool) (v fcb b : List ℕ) (u : ℕ) (held : List ℕ) (n cr most : ℕ) where

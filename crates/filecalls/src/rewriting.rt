@@ -6,6 +6,7 @@ ghost use Rattle.filecalls.specs.Rewrite.{rewritten_bytes};
 ghost use Rattle.filecalls.specs.CodeFront.{joined, joined_reply};
 
 use crate::{Front, FrontReply};
+use call_write::Source;
 use disk_geometry::Geometry;
 use disk_held::WORDS;
 
@@ -32,11 +33,9 @@ impl Front {
         if !call_answers::is_none(why) {
             return self.refused(why);
         }
-        let buffer = [0u8; Geometry::RECORD_BYTES];
         let n = call_fcb::random_of(fcb);
         let cr = (n % Geometry::EXTENT_RECORDS) as u8;
-        self.write_at(
-            held, volume, fcb, &buffer, true, low, high, n, cr, false, left,
-        )
+        let source = Source::Standing { low, high };
+        self.write_at(held, volume, fcb, source, n, cr, false, left)
     }
 }

@@ -3,7 +3,7 @@
 ghost use Rattle.std.specs.Prelude.{◌≡◌, [], ◌<◌, length};
 ghost use Rattle.disk_volume.specs.Name.{name_of};
 ghost use Rattle.call_fcb.specs.Fcb.{file_records};
-ghost use Rattle.call_write.specs.Rewrite.{bytes_of};
+ghost use Rattle.call_write.specs.Rewrite.{bytes_of, source_length};
 ghost use Rattle.filecalls.specs.Outcome.{unless};
 ghost use Rattle.filecalls.specs.Write.{directory_tests, write_done, write_sequential_act, write_direct_act};
 ghost use Rattle.filecalls.specs.Stores.{cut_outcome, cut_left};
@@ -12,36 +12,34 @@ ghost use Rattle.filecalls.specs.CodeFront.{joined, joined_reply};
 
 use crate::{Front, FrontReply};
 use call_answers::Refusal;
+use call_write::Source;
 use disk_geometry::Geometry;
 use disk_held::WORDS;
 
 impl Front {
     // Writes record n, where the tests of what is lent have passed. If it `fills`, a block that it gives is first filled with
-    // zeros. Its bytes are the buffer's, or, if the record is written `again`, those that a read shows, but for the first two.
+    // zeros. Its bytes are the buffer's, or those that a read shows, but for the first two.
     pub(crate) fn write_at(
         self,
         held: &mut [u64; WORDS],
         volume: &mut [u8],
         fcb: &mut [u8],
-        buffer: &[u8],
-        again: bool,
-        low: u8,
-        high: u8,
+        source: Source<'_>,
         n: usize,
         cr: u8,
         fills: bool,
         left: &mut usize,
     ) -> FrontReply
-        requires lent { Lent (joined self []) (length volume.old) (length fcb.old) (length buffer.now) }
+        requires lent { Lent (joined self []) (length volume.old) (length fcb.old) (source_length source) }
         requires n_lt_file_records { n < file_records }
         ensures { cut_left (joined_reply result held.new) volume.new fcb.new
-            (bytes_of self.geometry volume.old self.user (name_of fcb.old) n buffer.now again low high)
+            (bytes_of self.geometry volume.old self.user (name_of fcb.old) n source.entry)
             left.new
             ≡ cut_outcome left.old (joined self held.old) volume.old fcb.old
-            (bytes_of self.geometry volume.old self.user (name_of fcb.old) n buffer.now again low high)
+            (bytes_of self.geometry volume.old self.user (name_of fcb.old) n source.entry)
             (unless (directory_tests (joined self held.old) volume.old fcb.old n)
             (write_done (joined self held.old) volume.old fcb.old n cr fills
-            (bytes_of self.geometry volume.old self.user (name_of fcb.old) n buffer.now again low high))) }
+            (bytes_of self.geometry volume.old self.user (name_of fcb.old) n source.entry))) }
     {
         if self.protected {
             return self.refused(Refusal::Protected);
@@ -51,10 +49,7 @@ impl Front {
             fills,
             volume,
             fcb,
-            buffer,
-            again,
-            low,
-            high,
+            source,
             self.user,
             held,
             n,
@@ -86,10 +81,7 @@ impl Front {
             held,
             volume,
             fcb,
-            buffer,
-            false,
-            0,
-            0,
+            Source::Buffer(buffer),
             n,
             (n % Geometry::EXTENT_RECORDS + 1) as u8,
             false,
@@ -120,10 +112,7 @@ impl Front {
             held,
             volume,
             fcb,
-            buffer,
-            false,
-            0,
-            0,
+            Source::Buffer(buffer),
             n,
             (n % Geometry::EXTENT_RECORDS) as u8,
             fills,

@@ -13,7 +13,7 @@ use Rattle.filecalls.proofs.Front.write_at.Goals as goal
 pub returns-then-self : goal.returns-then-self
 returns-then-self c =
     let a = c.args in
-    let bytes = bytes_of a.self.geometry a.volume.now a.self.user (name_of a.fcb.now) a.n a.buffer.now a.again a.low a.high in
+    let bytes = bytes_of a.self.geometry a.volume.now a.self.user (name_of a.fcb.now) a.n a.source in
     cut_no (joined a.self a.held.now) a.volume.now a.fcb.now bytes a.left.now (stops_here Protected _ _ _ c.if-self.true refl) (c.refused.ensures a.held.now)
 
 pub write_record-why-requires : goal.write_record-why-requires
@@ -27,6 +27,6 @@ write_record-why-requires c =
 pub returns : goal.returns
 returns c =
     let a = c.args in
-    let bytes = bytes_of a.self.geometry a.volume.now a.self.user (name_of a.fcb.now) a.n a.buffer.now a.again a.low a.high in
+    let bytes = bytes_of a.self.geometry a.volume.now a.self.user (name_of a.fcb.now) a.n a.source in
     let w = c.write_record-why.ensures in
     write_decided (joined a.self a.held.now) a.volume.now a.fcb.now a.n a.cr a.fills bytes a.left.now c.if-self.false w (c.answered.ensures _)
