@@ -10,12 +10,6 @@ use Rattle.drive_bytes.proofs.LoadLaws.{at_least, counted}
 use Rattle.drive_bytes.proofs.LayLaws.{three_laid, length_head, length_search, length_placing, placing_word}
 use Rattle.drive_bytes.proofs.lay.put_drive.Goals as goal
 
-pub words-requires : goal.words-requires
-words-requires c =
-    let size = c.out-3-1.given.1 ∙ c.out-2-1.given.1 ∙ c.out-1.given.1 ∙ c.requires in
-    let w = counted (blocks c.args.d.geometry) size c.words_in-n.ensures in
-    (w.fill, w.few)
-
 pub returns : goal.returns
 unfolding encoded front_bytes put
 returns c =

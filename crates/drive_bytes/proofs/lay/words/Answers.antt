@@ -1,10 +1,10 @@
 -- The words below k are laid, and what stood behind them is still there.
-use mathlib.Core.Path.{◌≡◌, ap, ◌∙◌}
+use mathlib.Core.Path.{◌≡◌}
 use Prim.Native.Nat.{◌+◌, ◌*◌, ◌-◌}
 use native.Mathlib.Omega.{arith}
 use native.Mathlib.Numerals.{add-one}
 use Rattle.lists.specs.Bytes.{put}
-use Rattle.drive_bytes.proofs.WordLaws.{laid_to, lay_start, lay_next, lay_end}
+use Rattle.drive_bytes.proofs.WordLaws.{lay_start, lay_next}
 use Rattle.drive_bytes.proofs.lay.words.Goals as goal
 
 pub loop-k-init : goal.loop-k-init
@@ -17,9 +17,3 @@ loop-k-preserved c =
     let a = c.args in
     let z : 32 + 8 * l.k + 8 - (32 + 8 * l.k) ≡ 8 = omega arith in
     rw (z, c.put_eight.ensures, l.invariant, add-one l.k) (lay_next a.out.now a.held.now l.k (omega (arith, c.requires.0)))
-
-pub returns : goal.returns
-returns c =
-    let a = c.args in
-    let e : c.loop-k.k ≡ a.n = omega arith in
-    c.loop-k.invariant ∙ ap (laid_to a.out.now a.held.now) e ∙ lay_end a.out.now a.held.now a.n c.requires.0

@@ -20,8 +20,3 @@ loop-k-preserved c =
     let z : 32 + 8 * l.k + 8 - (32 + 8 * l.k) ≡ 8 = omega arith in
     let e : c.eight_of.result ≡ held_word s l.k = rw z at c.eight_of.ensures in
     rw (l.invariant, e) (read_next s l.k (omega (arith, c.requires.1.0)) ∙ ap (held_at s) (sym (add-one l.k)))
-
-pub returns : goal.returns
-returns c =
-    let e : c.loop-k.k ≡ c.args.n = omega arith in
-    c.loop-k.invariant ∙ ap (held_at c.args.s.now) e
