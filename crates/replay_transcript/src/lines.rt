@@ -1,4 +1,7 @@
 // The lines of a transcript, appended to a lent buffer.
+ghost use Rattle.std.specs.Prelude.{◌++◌};
+ghost use Rattle.text.specs.Decimal.{decimal};
+ghost use Rattle.text.specs.Letters.{line_end};
 ghost use Rattle.text.specs.Writer.{Appends};
 ghost use Rattle.replay_transcript.specs.Lines.{shown, numbers_of, call_line, bad_line, end_line};
 
@@ -42,20 +45,25 @@ pub fn put_call(w: &mut Writer<'_>, function: u8, answer: Answer, fcb: &[u8], bu
     w.byte(b'\n');
 }
 
+// A line of a word and a number.
+fn put_counted(w: &mut Writer<'_>, word: &[u8], n: usize)
+    ensures { Appends w.old (word.now ++ decimal n ++ line_end) w.new }
+{
+    w.bytes(word);
+    w.decimal(n);
+    w.byte(b'\n');
+}
+
 // A script that can't be read on after n calls.
 pub fn put_bad(w: &mut Writer<'_>, n: usize)
     ensures { Appends w.old (bad_line n) w.new }
 {
-    w.bytes(b"BAD SCRIPT ");
-    w.decimal(n);
-    w.byte(b'\n');
+    put_counted(w, b"BAD SCRIPT ", n);
 }
 
 // The end, with the number of calls.
 pub fn put_end(w: &mut Writer<'_>, n: usize)
     ensures { Appends w.old (end_line n) w.new }
 {
-    w.bytes(b"END ");
-    w.decimal(n);
-    w.byte(b'\n');
+    put_counted(w, b"END ", n);
 }
