@@ -10,6 +10,7 @@ ghost use Rattle.gencmd.specs.Said.{line_bytes, refused, too_long};
 use gencmd_file::LONGEST;
 use gencmd_lines::Refusal;
 use std::io::Write;
+use text::Writer;
 
 // A text may have so many bytes: a line for each byte of four full groups, and blanks. One more is room to notice a longer one.
 const TEXT_BYTES: usize = 4194304;
@@ -24,9 +25,11 @@ fn lay_refusal(line: &mut [u8], why: Refusal) -> usize
     ensures { (take result line.new ≡ refused why)
         × (result ≤ length line.new) }
 {
-    let a = text::put_bytes(line, 0, b"REFUSED ");
-    let b = text::put_decimal(line, a, usize::from(gencmd_lines::number_of(why)));
-    text::put_byte(line, b, b'\n')
+    let mut w = Writer::new(line, 0);
+    w.bytes(b"REFUSED ");
+    w.decimal(usize::from(gencmd_lines::number_of(why)));
+    w.byte(b'\n');
+    w.at()
 }
 
 // The line of a text that is too long, in the same way.
@@ -35,9 +38,11 @@ fn lay_too_long(line: &mut [u8]) -> usize
     ensures { (take result line.new ≡ too_long)
         × (result ≤ length line.new) }
 {
-    let a = text::put_bytes(line, 0, b"REFUSED: the text has more than ");
-    let b = text::put_decimal(line, a, TEXT_BYTES);
-    text::put_bytes(line, b, b" bytes\n")
+    let mut w = Writer::new(line, 0);
+    w.bytes(b"REFUSED: the text has more than ");
+    w.decimal(TEXT_BYTES);
+    w.bytes(b" bytes\n");
+    w.at()
 }
 
 // The first n bytes of a line, on standard error.
