@@ -53,7 +53,14 @@ fn plan_in(g: Geometry, volume: &[u8], slot: usize, n: usize) -> Result<ReadPlan
 }
 
 // Record n of the file: the first refusal, or where it lies.
-fn plan(g: Geometry, volume: &[u8], user: u8, name: &[u8], n: usize, missing: Refusal) -> Result<ReadPlan, Refusal>
+fn plan(
+    g: Geometry,
+    volume: &[u8],
+    user: u8,
+    name: &[u8],
+    n: usize,
+    missing: Refusal,
+) -> Result<ReadPlan, Refusal>
     requires volume_and { VolumeAnd g volume.now (IsName name.now) }
     requires missing_value { is_none missing ≡ false }
     ensures { result ≡ read_plan g volume.now user (strip name.now) n missing }
