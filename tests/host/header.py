@@ -150,7 +150,8 @@ def placings_in(source):
 @cache
 def shelved_in(source):
     """the numbers of a shelf's answer"""
-    return [f"{spelled(re.match(r'Shelved::([A-Za-z]+)', case)[1])} = {number}" for case, number in arms(source, "shelved_number")]
+    named = [("Counted" if case.startswith("Ok") else variant_of(case), number) for case, number in arms(source, "shelved_number")]
+    return [f"{spelled(variant)} = {number}" for variant, number in named]
 
 
 @cache
@@ -181,7 +182,7 @@ def halves_in(source):
 @cache
 def told_in(source):
     """the number, which list, and where the name begins, by what these are multiplied with"""
-    (lists,) = map(int, re.findall(r"(?s)const HOUSE: u64 = (\d+);.*Where::House\(\w+\) => HOUSE \+ high", source))
+    (lists,) = map(int, re.findall(r"(?s)const HOUSE: u64 = (\d+);.*Place::House\(\w+\)\) => HOUSE \+ high", source))
     (place,) = map(int, re.findall(r"(?s)const START: u64 = (\d+);.*START \* \(\(i \* LINE_BYTES", source))
     width = place // lists
     return [f"TOLD: >> 0 & {lists - 1}", f"LIST: >> {lists.bit_length() - 1} & {width - 1}", f"NAME_AT: >> {place.bit_length() - 1}"]
