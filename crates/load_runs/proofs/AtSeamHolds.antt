@@ -6,15 +6,14 @@ use Prim.Native.Nat.{ℕ, ◌%◌, ◌<◌}
 use native.Mathlib.Omega.{arith}
 use lib.Dec.{leb, ltb}
 use lib.ListN.{length, drop, get_or}
+use Rattle.std.specs.Prelude.{Ok, Err}
 use Rattle.lists.specs.Bytes.{byte}
 use Rattle.numbers.specs.Numbers.{Bytes}
 use Rattle.filecalls.specs.declared.Drive.{Drive}
 use Rattle.memory_spans.specs.Span.{none}
 use Rattle.memory_calls.specs.declared.Reply.{Reply}
-use Rattle.memory_calls.specs.declared.Answer.{Answer}
-use Rattle.memory_calls.specs.declared.Answer.TheVariants.{Done, Refused}
+use Rattle.memory_calls.specs.Answer.{Answer, number_of}
 use Rattle.memory_calls.specs.Table.{regions_of}
-use Rattle.memory_calls.specs.Answer.{number_of}
 use Rattle.memory_calls.specs.Calls.{ALLOC_MEM, FREE_ALL_MEM, memory_call}
 use Rattle.drive_bytes.specs.Layout.{decoded}
 use Rattle.memory_bytes.specs.TableBytes.{table_of, mcb_of, table_laid, mcb_laid}
@@ -33,8 +32,8 @@ use Rattle.load_runs.proofs.LaysLaws.{read_lays, load_lays, regions_again}
 written : (f : ℕ) (mcb table : List ℕ) (r : Reply) (a : Answer) → (number_of a ≡ 0 → ⊥)
     → (cond (succeeded a && ltb f FREE_ALL_MEM) (mcb_laid r.mcb) mcb ≡ mcb)
     × (cond (succeeded a && leb ALLOC_MEM f) (table_laid r.table) table ≡ table)
-written f mcb table r Done n = absurd (n refl)
-written f mcb table r (Refused why) n = (refl, refl)
+written f mcb table r (Ok done) n = absurd (n refl)
+written f mcb table r (Err why) n = (refl, refl)
 
 left : (f : ℕ) (mcb table : List ℕ) (r : Reply) (t : Bool)
     → ((cond t (over MCB_LENGTH mcb table) (written_back f mcb table r)).number ≡ 0 → ⊥)
