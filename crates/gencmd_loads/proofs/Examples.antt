@@ -6,6 +6,7 @@ use mathlib.Core.List.{List, [], ◌∷◌, ◌++◌}
 use Prim.Native.Nat.{ℕ}
 use lib.ListN.{length, replicate}
 use native.Mathlib.Omega.{arith}
+use Rattle.std.specs.Prelude.{Ok, is_none}
 use Rattle.lists.specs.Bounded.{low_from, any_from, every_from, fold}
 use Rattle.lists.specs.Bytes.{part, put, all}
 use Rattle.numbers.specs.Numbers.{bytes_of, number}
@@ -36,11 +37,9 @@ use Rattle.memory_calls.specs.Table.{within_rules}
 use Rattle.load_header.specs.Header as header
 use Rattle.load_grants.specs.Grants.{followed, grants}
 use Rattle.load_records.specs.Records.{shown, measured, first_from, read_why, image}
-use Rattle.loading.specs.declared.LoadAnswer.TheVariants.{Loaded}
 use Rattle.loading.specs.Page.{region_of, shown_of, last_of, field_of, field, base_page, page_start}
 use Rattle.loading.specs.Laid.{group_laid, laid, with_page}
 use Rattle.loading.specs.Load.{after, loaded, placed, load}
-use Rattle.std.specs.Prelude.{is_none}
 use Rattle.gencmd_lines.specs.Digits.{digit_of, line_byte}
 use Rattle.gencmd_lines.specs.Line.{is_spelled, sum_from, sum_of, group_of_type, data_refusal, line_refusal}
 use Rattle.gencmd_lines.specs.Lines.{lines_in, lines_from, lines_refusal, data_lines}
@@ -106,6 +105,6 @@ has_room_lem = record { rules = refl; left = omega (arith, one); all = refl }
 
 -- ---- what load leaves: the paragraph of the base page, the region, every byte
 loads : load drive volume fcb (table []) memory
-    ≡ after (record { answer = Loaded 0x02; table = table (span 0x02 0x10 ∷ []) }) filled
+    ≡ after (record { answer = Ok 0x02; table = table (span 0x02 0x10 ∷ []) }) filled
 unfolding low_from any_from every_from fold part put all bytes_of number joined lawful bytes start slot_start record_start group_of place_of inside places strip name_at same good_name block_in count_of of_file of_group slot_at find_slot record_slot counted present record_at random set_to with_random first_met read_block read_tests read_bytes entry_end larger size_of is_open outcome unless random_tests read_done read_random_act size_act size_tests covers overlap lies_in any_of all_of most_of rules.apart rules.lawful taken free_in run room has_room lowest_start grant_at grant_of padded within_rules header.groups header.type_at header.good_group header.place_of header.page_place header.good_header header.image_start followed grants shown measured first_from read_why image region_of shown_of last_of field_of field base_page page_start group_laid laid with_page loaded placed load
 loads = refl

@@ -5,16 +5,15 @@ use mathlib.Core.List.{List}
 use Prim.Native.Nat.{ℕ, ◌≤◌, ◌<◌}
 use native.Mathlib.Omega.{arith}
 use lib.ListN.{length}
+use Rattle.std.specs.Prelude.{Ok, Err}
 use Rattle.filecalls.specs.declared.Drive.{Drive}
 use Rattle.memory_spans.specs.Span.{places, paragraphs}
 use Rattle.memory_calls.specs.declared.Table.{Table}
 use Rattle.memory_calls.proofs.CallLaws.{within_facts}
 use Rattle.memory_bytes.specs.TableBytes.{table_bytes, table_of}
 use Rattle.memory_bytes.proofs.BytesLaws.{used_few}
-use Rattle.loading.specs.declared.LoadAnswer.{LoadAnswer}
-use Rattle.loading.specs.declared.LoadAnswer.TheVariants.{Loaded, Refused}
+use Rattle.loading.specs.Load.{LoadAnswer, After, after, value_of, load}
 use Rattle.loading.specs.declared.LoadReply.{LoadReply}
-use Rattle.loading.specs.Load.{After, after, value_of, load}
 use Rattle.load_promises.proofs.Theorem.{loaded_lasting}
 use Rattle.load_bytes.specs.LoadOver.{load_over, is_loaded, table_after, load_bytes}
 
@@ -25,8 +24,8 @@ module _ (d : Drive) (v f table memory : List ℕ) where
   value_low = go (load d v f (table_of table) memory).reply.answer refl
     where
       go : (a : LoadAnswer) → (load d v f (table_of table) memory).reply.answer ≡ a → value_of a < paragraphs
-      go (Loaded p) q = (loaded_lasting d v f (table_of table) memory p q).named
-      go (Refused why) q = omega arith
+      go (Ok p) q = (loaded_lasting d v f (table_of table) memory p q).named
+      go (Err why) q = omega arith
 
   module _ {t : Table} (t-is : t ≡ table_of table) {reply : LoadReply} {m : List ℕ} (r-is : after reply m ≡ load d v f t memory) where
     is : after reply m ≡ load d v f (table_of table) memory
@@ -38,8 +37,8 @@ module _ (d : Drive) (v f table memory : List ℕ) where
       where
         go : (a : LoadAnswer) → reply.answer ≡ a → is_loaded a ≡ true
             → (length table ≡ table_bytes) × ((reply.table.used ≤ places) × (reply.table.granted ≤ places))
-        go (Refused why) q e = absurd (true≢false (sym e))
-        go (Loaded p) q e =
+        go (Err why) q e = absurd (true≢false (sym e))
+        go (Ok p) q e =
             let l = loaded_lasting d v f (table_of table) memory p (ap (λ (x : After). x.reply.answer) (sym is) ∙ q) in
             let w = within_facts (length memory) (table_of table) l.before in
             let k = within_facts (length memory) reply.table (rw (ap (λ (x : After). x.reply.table) is) l.after) in

@@ -8,25 +8,15 @@ ghost use Rattle.memory_bytes.specs.TableBytes.{table_bytes};
 ghost use Rattle.load_bytes.specs.LoadOver.{load_over, is_loaded, table_after, load_bytes};
 
 use filecalls::Front;
-use loading::LoadAnswer;
+use loading::LoadRefusal;
 use memory_calls::Table;
 
-// Was the file loaded?
-fn is_loaded(a: LoadAnswer) -> bool
-    ensures { result ≡ is_loaded a }
-{
-    match a {
-        LoadAnswer::Loaded(_) => true,
-        LoadAnswer::Refused(_) => false,
-    }
-}
-
 // Lays the table where the file was loaded.
-fn lay_table(answer: LoadAnswer, t: Table, table: &mut [u8])
+fn lay_table(answer: Result<usize, LoadRefusal>, t: Table, table: &mut [u8])
     requires { is_loaded answer ≡ true → (length table.old ≡ table_bytes) × ((t.used ≤ places) × (t.granted ≤ places)) }
     ensures { table.new ≡ table_after answer t table.old }
 {
-    if is_loaded(answer) {
+    if answer.is_ok() {
         memory_bytes::put_table(table, t);
     }
 }
@@ -38,7 +28,7 @@ pub fn load(
     fcb: &[u8],
     table: &mut [u8],
     memory: &mut [u8],
-) -> LoadAnswer
+) -> Result<usize, LoadRefusal>
     ensures { (held : List ℕ)
         → load_over result table.new memory.new
         ≡ load_bytes (joined front held) volume.now fcb.now table.old memory.old }

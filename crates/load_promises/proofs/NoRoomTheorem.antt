@@ -7,10 +7,10 @@ use native.Mathlib.Omega.{arith}
 use borrow.Author.Tests.{lt-ltb, le-ltb, ltb-true}
 use lib.Dec.{ltb}
 use lib.ListN.{length}
+use Rattle.std.specs.Prelude.{Option, Some, None, Err}
 use Rattle.filecalls.specs.declared.Drive.{Drive}
 use Rattle.memory_spans.specs.declared.Span.{Span}
 use Rattle.memory_spans.specs.Span.{places}
-use Rattle.std.specs.Prelude.{Option, Some, None}
 use Rattle.memory_calls.specs.declared.Table.{Table}
 use Rattle.memory_calls.specs.Table.{pieces_of, regions_of}
 use Rattle.memory_promises.proofs.GroupTheorem.{nowhere_means_no_room}
@@ -18,7 +18,6 @@ use Rattle.load_header.specs.Header.{groups, base_at, need, most_at}
 use Rattle.load_records.specs.Records.{record_of, image}
 use Rattle.load_grants.specs.Grants.{followed, granted_to, grants}
 use Rattle.loading.specs.declared.LoadRefusal.TheVariants.{NoRoom}
-use Rattle.loading.specs.declared.LoadAnswer.TheVariants.{Refused}
 use Rattle.loading.specs.Load.{refusing, grants_of, loaded, placed, load}
 use Rattle.load_promises.specs.Promises.{NoneFor, Reached, LoadNoRoom}
 
@@ -107,10 +106,10 @@ load_no_room d v f t memory r = (λ e. to (ltb (length (grants_of h t)) (groups 
     h = record_of d v f 0
 
     to : (x : Bool) → ltb (length (grants_of h t)) (groups h) ≡ x
-        → (cond x (refusing true NoRoom t memory (loaded h (grants_of h t) (image d v f) t memory)) (loaded h (grants_of h t) (image d v f) t memory)).reply.answer ≡ Refused NoRoom
+        → (cond x (refusing true NoRoom t memory (loaded h (grants_of h t) (image d v f) t memory)) (loaded h (grants_of h t) (image d v f) t memory)).reply.answer ≡ Err NoRoom
         → NoneFor h t
     to true u e = none_for h t (ends h (pieces_of t) (regions_of t) 0 (groups h) (ltb-true (length (grants_of h t)) (groups h) u))
     to false u e = let z : ◌≡◌ {A = ℕ} 0 1 = cc in absurd (omega arith)
 
-    from : NoneFor h t → (load d v f t memory).reply.answer ≡ Refused NoRoom
+    from : NoneFor h t → (load d v f t memory).reply.answer ≡ Err NoRoom
     from s = rw (reached d v f t memory r, lt-ltb (length (grants_of h t)) (groups h) (stops h t s))

@@ -8,6 +8,7 @@ use borrow.Author.Tests.{not-false, ltb-false}
 use lib.Dec.{ltb}
 use lib.ListN.{length, drop, get_or, length-take, length-append}
 use lib.Seq.{drop_at, get_or-append-add}
+use Rattle.std.specs.Prelude.{Ok, Err}
 use Rattle.lists.specs.Bytes.{byte}
 use Rattle.lists.proofs.PartLaws.{length_put}
 use Rattle.disk_geometry.specs.Geometry.{record_bytes}
@@ -27,7 +28,6 @@ use Rattle.load_records.specs.Records.{record_of, image_records, image, read_why
 use Rattle.load_records.proofs.ImageLaws.{image_length}
 use Rattle.load_grants.proofs.GrantsLaws.{Fits, grants_fit, grants_keep, grants_few}
 use Rattle.loading.specs.declared.LoadRefusal.{LoadRefusal}
-use Rattle.loading.specs.declared.LoadAnswer.TheVariants.{Loaded, Refused}
 use Rattle.loading.specs.Page.{page_bytes, base_page, page_start}
 use Rattle.loading.specs.Laid.{laid, with_page}
 use Rattle.loading.specs.Load.{After, grants_of, image_short, loaded, placed, load}
@@ -46,7 +46,7 @@ pub record Went (h : List ℕ) (records : ℕ) (t : Table) (memory : List ℕ) :
   pub all : ltb (length (grants_of h t)) (groups h) ≡ false
 
 pub data Outcome (h : List ℕ) (records : ℕ) (image : List ℕ) (t : Table) (memory : List ℕ) : After → Type 0 where
-  denied : (why : LoadRefusal) → Outcome h records image t memory (load.after (record { answer = Refused why; table = t }) memory)
+  denied : (why : LoadRefusal) → Outcome h records image t memory (load.after (record { answer = Err why; table = t }) memory)
   went : Went h records t memory → Outcome h records image t memory (loaded h (grants_of h t) image t memory)
 
 split : (P : After → Type 0) (test : Bool) (x y : After) → (test ≡ true → P x) → (test ≡ false → P y) → P (cond test x y)
@@ -78,7 +78,7 @@ pub refused_load_alters_nothing : RefusedLoadAltersNothing
 unfolding loaded
 refused_load_alters_nothing d v f t memory why e = go (outcome d v f t memory) e
   where
-    go : {r : After} → Outcome (record_of d v f 0) (image_records d v f) (image d v f) t memory r → r.reply.answer ≡ Refused why
+    go : {r : After} → Outcome (record_of d v f 0) (image_records d v f) (image d v f) t memory r → r.reply.answer ≡ Err why
         → (r.reply.table ≡ t) × (r.memory ≡ memory)
     go (denied w) q = (refl, refl)
     go (went w) q = let z : ◌≡◌ {A = ℕ} 0 1 = cc in absurd (omega arith)
@@ -165,7 +165,7 @@ pub load_grants_all : LoadGrantsAll
 unfolding loaded
 load_grants_all d v f t memory paragraph e = go (outcome d v f t memory) e
   where
-    go : {r : After} → Outcome (record_of d v f 0) (image_records d v f) (image d v f) t memory r → r.reply.answer ≡ Loaded paragraph
+    go : {r : After} → Outcome (record_of d v f 0) (image_records d v f) (image d v f) t memory r → r.reply.answer ≡ Ok paragraph
         → (length (new_regions t r.reply.table) ≡ groups (record_of d v f 0))
         × ((i : ℕ) → i < groups (record_of d v f 0) → need (record_of d v f 0) i ≤ (get_or (new_regions t r.reply.table) i none).length)
     go (denied w) q = let z : ◌≡◌ {A = ℕ} 0 1 = cc in absurd (omega arith)
@@ -190,12 +190,12 @@ pub record Lasting (d : Drive) (v f : List ℕ) (t : Table) (memory : List ℕ) 
   pub after : within_rules (length memory) (load d v f t memory).reply.table ≡ true
   pub named : p < paragraphs
 
-pub loaded_lasting : (d : Drive) (v f : List ℕ) (t : Table) (memory : List ℕ) (p : ℕ) → (load d v f t memory).reply.answer ≡ Loaded p
+pub loaded_lasting : (d : Drive) (v f : List ℕ) (t : Table) (memory : List ℕ) (p : ℕ) → (load d v f t memory).reply.answer ≡ Ok p
     → Lasting d v f t memory p
 unfolding loaded
 loaded_lasting d v f t memory p e = let g = go (outcome d v f t memory) e in record { before = g.0; after = load_keeps d v f t memory g.0; named = g.1 }
   where
-    go : {r : After} → Outcome (record_of d v f 0) (image_records d v f) (image d v f) t memory r → r.reply.answer ≡ Loaded p
+    go : {r : After} → Outcome (record_of d v f 0) (image_records d v f) (image d v f) t memory r → r.reply.answer ≡ Ok p
         → (within_rules (length memory) t ≡ true) × (p < paragraphs)
     go (denied w) q = let z : ◌≡◌ {A = ℕ} 0 1 = cc in absurd (omega arith)
     go (went w) q =

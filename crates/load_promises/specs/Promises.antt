@@ -1,6 +1,6 @@
 -- The promises of load, and of any run of memory calls and loads. proofs/Theorem proves each statement under its name, but 62, which
 -- stands in proofs/NoRoomTheorem.
-use Rattle.std.specs.Prelude.{◌≡◌, true, false, List, [], ◌∷◌, ◌++◌, ◌⊎◌, ℕ, ◌+◌, ◌*◌, ◌≤◌, ◌<◌, length, drop, get_or}
+use Rattle.std.specs.Prelude.{◌≡◌, true, false, List, [], ◌∷◌, ◌++◌, ◌⊎◌, ℕ, ◌+◌, ◌*◌, ◌≤◌, ◌<◌, length, drop, get_or, Ok, Err}
 use Rattle.lists.specs.Bytes.{byte}
 use Rattle.call_answers.specs.Refusal.{is_none}
 use Rattle.filecalls.specs.declared.Drive.{Drive}
@@ -16,14 +16,13 @@ use Rattle.load_records.specs.Records.{record_of, image_records, read_why}
 use Rattle.load_grants.specs.Grants.{grants}
 use Rattle.loading.specs.declared.LoadRefusal.{LoadRefusal}
 use Rattle.loading.specs.declared.LoadRefusal.TheVariants.{NoRoom}
-use Rattle.loading.specs.declared.LoadAnswer.TheVariants.{Loaded, Refused}
 use Rattle.loading.specs.Load.{image_short, load}
 
 -- ---- "a load grants all groups or none": refused, it leaves the table and every byte of the memory
 abbrev pub RefusedLoadAltersNothing : Type 0
 RefusedLoadAltersNothing =
     (d : Drive) (v f : List ℕ) (t : Table) (memory : List ℕ) (why : LoadRefusal)
-    → (load d v f t memory).reply.answer ≡ Refused why
+    → (load d v f t memory).reply.answer ≡ Err why
     → ((load d v f t memory).reply.table ≡ t) × ((load d v f t memory).memory ≡ memory)
 
 -- what the table has more afterwards
@@ -34,7 +33,7 @@ new_regions before after = drop (length (regions_of before)) (regions_of after)
 abbrev pub LoadGrantsAll : Type 0
 LoadGrantsAll =
     (d : Drive) (v f : List ℕ) (t : Table) (memory : List ℕ) (paragraph : ℕ)
-    → (load d v f t memory).reply.answer ≡ Loaded paragraph
+    → (load d v f t memory).reply.answer ≡ Ok paragraph
     → (length (new_regions t (load d v f t memory).reply.table) ≡ groups (record_of d v f 0))
     × ((i : ℕ) → i < groups (record_of d v f 0)
     → need (record_of d v f 0) i ≤ (get_or (new_regions t (load d v f t memory).reply.table) i none).length)
@@ -98,4 +97,4 @@ abbrev pub LoadNoRoom : Type 0
 LoadNoRoom =
     (d : Drive) (v f : List ℕ) (t : Table) (memory : List ℕ)
     → Reached d v f t memory
-    → Exactly ((load d v f t memory).reply.answer ≡ Refused NoRoom) (NoneFor (record_of d v f 0) t)
+    → Exactly ((load d v f t memory).reply.answer ≡ Err NoRoom) (NoneFor (record_of d v f 0) t)

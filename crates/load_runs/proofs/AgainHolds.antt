@@ -7,18 +7,17 @@ use Prim.Native.Nat.{ℕ, ◌<◌}
 use native.Mathlib.Omega.{arith}
 use borrow.Author.Tests.{ltb-true}
 use lib.Dec.{leb, ltb}
+use Rattle.std.specs.Prelude.{Ok, Err}
 use Rattle.numbers.specs.Numbers.{Bytes, bytes_of}
 use Rattle.memory_spans.specs.Span.{places, paragraphs}
 use Rattle.memory_spans.specs.Room.{has_room}
 use Rattle.memory_room.specs.Starts.{lowest_start}
 use Rattle.memory_calls.specs.declared.Table.{Table}
 use Rattle.memory_calls.specs.declared.Mcb.{Mcb}
-use Rattle.memory_calls.specs.declared.Answer.{Answer}
-use Rattle.memory_calls.specs.declared.Answer.TheVariants.{Done, Refused}
+use Rattle.memory_calls.specs.Answer.{Answer, number_of, refusal_number}
 use Rattle.memory_calls.specs.declared.Refusal.{Refusal}
 use Rattle.memory_calls.specs.declared.Refusal.TheVariants.{NotServed, Rules, NoPlace, NoRoom, BadFree}
 use Rattle.memory_calls.specs.declared.Reply.{Reply}
-use Rattle.memory_calls.specs.Answer.{number_of, refusal_number}
 use Rattle.memory_calls.specs.Table.{pieces_of, regions_of, within_rules}
 use Rattle.memory_calls.specs.Calls.{ALLOC_MEM, ALLOC_ABS_MEM, FREE_MEM, FREE_ALL_MEM, granted, granted_at, serve, memory_call}
 use Rattle.memory_promises.specs.Promises as tables
@@ -43,23 +42,23 @@ not_0 BadFree e = omega arith
 -- its block has five bytes, and the call over the table that was read is done
 record Did (f bytes : ℕ) (mcb table : List ℕ) : Type 0 where
   pub lent : mcb_refused f mcb ≡ false
-  pub done : (memory_call f bytes (table_of table) (mcb_of mcb)).answer ≡ Done
+  pub done : (memory_call f bytes (table_of table) (mcb_of mcb)).answer ≡ Ok tt
 
 module _ (f bytes : ℕ) (mcb table : List ℕ) where
   number_did : (memory_over f mcb table bytes).number ≡ 0 → Did f bytes mcb table
   unfolding memory_over written_back
   number_did = whether (mcb_refused f mcb) refl
     where
-      answered : (a : Answer) → (memory_call f bytes (table_of table) (mcb_of mcb)).answer ≡ a → number_of a ≡ 0 → a ≡ Done
-      answered Done q n = refl
-      answered (Refused why) q n = absurd (not_0 why n)
+      answered : (a : Answer) → (memory_call f bytes (table_of table) (mcb_of mcb)).answer ≡ a → number_of a ≡ 0 → a ≡ Ok tt
+      answered (Ok done) q n = refl
+      answered (Err why) q n = absurd (not_0 why n)
 
       whether : (t : Bool) → mcb_refused f mcb ≡ t
           → (cond t (over MCB_LENGTH mcb table) (written_back f mcb table (memory_call f bytes (table_of table) (mcb_of mcb)))).number ≡ 0 → Did f bytes mcb table
       whether true q n = absurd (omega arith)
       whether false q n = record { lent = q; done = answered (memory_call f bytes (table_of table) (mcb_of mcb)).answer refl n }
 
-  did_leaves : ltb f FREE_ALL_MEM ≡ true → leb ALLOC_MEM f ≡ true → {r : Reply} → memory_call f bytes (table_of table) (mcb_of mcb) ≡ r → r.answer ≡ Done
+  did_leaves : ltb f FREE_ALL_MEM ≡ true → leb ALLOC_MEM f ≡ true → {r : Reply} → memory_call f bytes (table_of table) (mcb_of mcb) ≡ r → r.answer ≡ Ok tt
       → mcb_refused f mcb ≡ false → memory_over f mcb table bytes ≡ over 0 (mcb_laid r.mcb) (table_laid r.table)
   unfolding memory_over written_back
   did_leaves a c e d q = rw (q, e, d, a, c)

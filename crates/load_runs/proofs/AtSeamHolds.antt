@@ -6,22 +6,19 @@ use Prim.Native.Nat.{ℕ, ◌%◌, ◌<◌}
 use native.Mathlib.Omega.{arith}
 use lib.Dec.{leb, ltb}
 use lib.ListN.{length, drop, get_or}
+use Rattle.std.specs.Prelude.{Ok, Err}
 use Rattle.lists.specs.Bytes.{byte}
 use Rattle.numbers.specs.Numbers.{Bytes}
 use Rattle.filecalls.specs.declared.Drive.{Drive}
 use Rattle.memory_spans.specs.Span.{none}
 use Rattle.memory_calls.specs.declared.Reply.{Reply}
-use Rattle.memory_calls.specs.declared.Answer.{Answer}
-use Rattle.memory_calls.specs.declared.Answer.TheVariants.{Done, Refused}
+use Rattle.memory_calls.specs.Answer.{Answer, number_of}
 use Rattle.memory_calls.specs.Table.{regions_of}
-use Rattle.memory_calls.specs.Answer.{number_of}
 use Rattle.memory_calls.specs.Calls.{ALLOC_MEM, FREE_ALL_MEM, memory_call}
 use Rattle.drive_bytes.specs.Layout.{decoded}
 use Rattle.memory_bytes.specs.TableBytes.{table_of, mcb_of, table_laid, mcb_laid}
 use Rattle.memory_bytes.specs.Over.{MCB_LENGTH, over, succeeded, mcb_refused, written_back, memory_over}
-use Rattle.loading.specs.declared.LoadAnswer.{LoadAnswer}
-use Rattle.loading.specs.declared.LoadAnswer.TheVariants as answer
-use Rattle.loading.specs.Load.{load}
+use Rattle.loading.specs.Load.{LoadAnswer, load}
 use Rattle.load_promises.specs.Promises.{OutsideOf, new_regions}
 use Rattle.load_promises.proofs.Theorem.{refused_load_alters_nothing, load_alters_no_other, loaded_lasting}
 use Rattle.load_bytes.specs.LoadOver.{load_bytes, table_after}
@@ -33,8 +30,8 @@ use Rattle.load_runs.proofs.LaysLaws.{read_lays, load_lays, regions_again}
 written : (f : ℕ) (mcb table : List ℕ) (r : Reply) (a : Answer) → (number_of a ≡ 0 → ⊥)
     → (cond (succeeded a && ltb f FREE_ALL_MEM) (mcb_laid r.mcb) mcb ≡ mcb)
     × (cond (succeeded a && leb ALLOC_MEM f) (table_laid r.table) table ≡ table)
-written f mcb table r Done n = absurd (n refl)
-written f mcb table r (Refused why) n = (refl, refl)
+written f mcb table r (Ok done) n = absurd (n refl)
+written f mcb table r (Err why) n = (refl, refl)
 
 left : (f : ℕ) (mcb table : List ℕ) (r : Reply) (t : Bool)
     → ((cond t (over MCB_LENGTH mcb table) (written_back f mcb table r)).number ≡ 0 → ⊥)
@@ -56,8 +53,8 @@ refused_load_leaves_all s v f table memory = go (load (decoded s) v f (table_of 
     go : (a : LoadAnswer) → (load (decoded s) v f (table_of table) memory).reply.answer ≡ a → (load_answered a % 65536 ≡ 0 → ⊥)
         → (table_after a (load (decoded s) v f (table_of table) memory).reply.table table ≡ table)
         × ((load (decoded s) v f (table_of table) memory).memory ≡ memory)
-    go (answer.Loaded p) q n = absurd (n (omega arith))
-    go (answer.Refused why) q n = (refl, (refused_load_alters_nothing (decoded s) v f (table_of table) memory why q).1)
+    go (Ok p) q n = absurd (n (omega arith))
+    go (Err why) q n = (refl, (refused_load_alters_nothing (decoded s) v f (table_of table) memory why q).1)
 
 -- the regions that are read again from the table's bytes are those that were granted
 others : (d : Drive) (v f table memory : List ℕ) → Bytes table → (x : ℕ) (a : LoadAnswer) → (load d v f (table_of table) memory).reply.answer ≡ a
@@ -65,9 +62,9 @@ others : (d : Drive) (v f table memory : List ℕ) → Bytes table → (x : ℕ)
     → i < length (new_regions (table_of table) (table_of (table_after a (load d v f (table_of table) memory).reply.table table)))
     → OutsideOf (get_or (new_regions (table_of table) (table_of (table_after a (load d v f (table_of table) memory).reply.table table))) i none) x)
     → byte (load d v f (table_of table) memory).memory x ≡ byte memory x
-others d v f table memory bytes x (answer.Refused why) q h =
+others d v f table memory bytes x (Err why) q h =
     ap (λ (m : List ℕ). byte m x) (refused_load_alters_nothing d v f (table_of table) memory why q).1
-others d v f table memory bytes x (answer.Loaded p) q h =
+others d v f table memory bytes x (Ok p) q h =
     let r = loaded_lasting d v f (table_of table) memory p q in
     let l = load_lays d v f (table_of table) memory (read_lays table bytes) in
     let e = ap (drop (length (regions_of (table_of table)))) (regions_again (length memory) (load d v f (table_of table) memory).reply.table l r.after) in

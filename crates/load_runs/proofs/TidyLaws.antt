@@ -7,6 +7,7 @@ use native.Mathlib.Omega.{arith}
 use borrow.Author.Tests.{ltb-true}
 use lib.Dec.{leb, ltb, eqb}
 use lib.ListN.{length, length-append}
+use Rattle.std.specs.Prelude.{Ok}
 use Rattle.memory_spans.specs.declared.Span.{Span}
 use Rattle.memory_spans.specs.Span.{places, paragraphs, span}
 use Rattle.memory_spans.specs.Room.{has_room}
@@ -18,7 +19,6 @@ use Rattle.memory_calls.specs.declared.Table.{Table}
 use Rattle.memory_calls.specs.declared.Mcb.{Mcb}
 use Rattle.memory_calls.specs.declared.Reply.{Reply}
 use Rattle.memory_calls.specs.Table.{pieces_of, regions_of, with_regions, within_rules}
-use Rattle.memory_calls.specs.declared.Answer.TheVariants.{Done}
 use Rattle.memory_calls.specs.Calls.{EVERY, done, longest_run_of, tested, granting, granted, granted_at, freeing, freeing_part, free_all, serve, memory_call}
 use Rattle.memory_calls.proofs.CallLaws.{within_facts}
 use Rattle.memory_promises.proofs.RulesKept.{freed_length}
@@ -104,7 +104,7 @@ module _ (bytes : ℕ) (t : Table) (c : Lays t) (rules : within_rules bytes t �
       (λ g. refl)))
 
   all_tidy : free_all (tidy t) b ≡ tidied (free_all t b)
-  all_tidy = ap (λ (x : Table). record { answer = Done; table = x; mcb = b }) clear_tidy
+  all_tidy = ap (λ (x : Table). record { answer = Ok tt; table = x; mcb = b }) clear_tidy
 
   pub call_tidy : (f : ℕ) → memory_call f bytes (tidy t) b ≡ tidied (memory_call f bytes t b)
   unfolding memory_call serve

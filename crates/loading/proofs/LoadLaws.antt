@@ -7,6 +7,7 @@ use native.Mathlib.Omega.{arith}
 use borrow.Author.Tests.{lt-ltb, le-ltb, ltb-true, leb-true}
 use lib.Dec.{leb, ltb}
 use lib.ListN.{length, take, drop, get_or, length-take, length-append}
+use Rattle.std.specs.Prelude.{Ok, Err}
 use Rattle.lists.specs.Bounded.{every, fold}
 use Rattle.lists.specs.Bytes.{put}
 use Rattle.lists.proofs.BoolLaws.{and_parts}
@@ -30,7 +31,6 @@ use Rattle.load_records.proofs.FrontLaws.{reads_as_bare}
 use Rattle.load_grants.specs.Grants.{grants}
 use Rattle.load_grants.proofs.GrantsLaws.{Fits, grants_fit, grants_few}
 use Rattle.loading.specs.declared.LoadRefusal.TheVariants.{File, Rules, Header, Image, NoPlace, NoRoom}
-use Rattle.loading.specs.declared.LoadAnswer.TheVariants.{Loaded, Refused}
 use Rattle.loading.specs.declared.LoadRefusal.{LoadRefusal}
 use Rattle.loading.specs.declared.LoadReply.{LoadReply}
 use Rattle.loading.specs.Page.{page_bytes, base_page, page_start}
@@ -40,7 +40,7 @@ use Rattle.loading.proofs.LaidLaws.{in_use, behind_them, held_in}
 use Rattle.loading.specs.Load.{After, after, refusing, grants_of, image_short, loaded, placed, load}
 
 abbrev no : LoadRefusal → Table → LoadReply
-no why t = record { answer = Refused why; table = t }
+no why t = record { answer = Err why; table = t }
 
 -- ---- the file's own refusals, and then what stands behind them
 module _ (d : Drive) (v f : List ℕ) (t : Table) (memory : List ℕ) {why : Refusal} (e : why ≡ read_why d v f) where
@@ -194,7 +194,7 @@ module _ {d : Drive} {v f h : List ℕ} {n : ℕ} {t : Table} {bytes : ℕ} (w :
         → p ≡ page_start h granted
         → m1 ≡ fold (group_laid h granted image) memory 0 (length granted)
         → m2 ≡ put m1 (paragraph_bytes * p) page_bytes (base_page h granted)
-        → after (record { answer = Loaded p; table = with_places t next }) m2 ≡ loaded h (grants_of h t) image t memory
+        → after (record { answer = Ok p; table = with_places t next }) m2 ≡ loaded h (grants_of h t) image t memory
     unfolding loaded laid with_page
     all_done image memory {p} {m1} {m2} e x y =
         let p' : p ≡ page_start h (grants_to h t n) = e ∙ ap (page_start h) g.is in

@@ -1,7 +1,7 @@
 -- Function 59, load: "Refusals, after those of random reads of record 0 and all records below the file's size, in this order: 65 ..,
 -- 60 .., 61 image shorter than its groups, 63 too few of the eight region places left, 62 no such room exists". Drive, volume and
 -- control block stay as given.
-use Rattle.std.specs.Prelude.{Bool, not, cond, List, ◌++◌, ℕ, ◌+◌, ◌*◌, ltb, length}
+use Rattle.std.specs.Prelude.{Bool, not, cond, List, ◌++◌, ℕ, ◌+◌, ◌*◌, ltb, length, Result, Ok, Err}
 use Rattle.disk_geometry.specs.Geometry.{record_bytes}
 use Rattle.call_answers.specs.Refusal as refusal
 use Rattle.filecalls.specs.declared.Drive.{Drive}
@@ -14,8 +14,6 @@ use Rattle.load_grants.specs.Grants.{grants}
 use Rattle.load_records.specs.Records.{record_of, image_records, image, read_why}
 use Rattle.loading.specs.declared.LoadRefusal.{LoadRefusal}
 use Rattle.loading.specs.declared.LoadRefusal.TheVariants.{File, Rules, Header, Image, NoPlace, NoRoom}
-use Rattle.loading.specs.declared.LoadAnswer.{LoadAnswer}
-use Rattle.loading.specs.declared.LoadAnswer.TheVariants.{Loaded, Refused}
 use Rattle.loading.specs.declared.LoadReply.{LoadReply}
 use Rattle.loading.specs.Page.{page_start}
 use Rattle.loading.specs.Laid.{laid, with_page}
@@ -29,13 +27,17 @@ refusal_number Image = 61
 refusal_number NoPlace = 63
 refusal_number NoRoom = 62
 
+-- the paragraph of the base page, or why it is refused
+abbrev pub LoadAnswer : Type 0
+LoadAnswer = Result ℕ LoadRefusal
+
 abbrev pub number_of : LoadAnswer → ℕ
-number_of (Loaded paragraph) = 0
-number_of (Refused why) = refusal_number why
+number_of (Ok paragraph) = 0
+number_of (Err why) = refusal_number why
 
 abbrev pub value_of : LoadAnswer → ℕ
-value_of (Loaded paragraph) = paragraph
-value_of (Refused why) = 0
+value_of (Ok paragraph) = paragraph
+value_of (Err why) = 0
 
 -- all that a load leaves
 pub record After : Type 0 where
@@ -47,7 +49,7 @@ after reply memory = record { reply = reply; memory = memory }
 
 -- refused, and all as it was, where the test is met
 abbrev pub refusing : Bool → LoadRefusal → Table → List ℕ → After → After
-refusing met why t memory rest = cond met (after (record { answer = Refused why; table = t }) memory) rest
+refusing met why t memory rest = cond met (after (record { answer = Err why; table = t }) memory) rest
 
 -- what the groups of the header are granted
 abbrev pub grants_of : List ℕ → Table → List Span
@@ -61,7 +63,7 @@ image_short h image_records = ltb (record_bytes * image_records) (paragraph_byte
 unfoldable pub loaded : List ℕ → List Span → List ℕ → Table → List ℕ → After
 loaded h granted image t memory =
     after
-    (record { answer = Loaded (page_start h granted); table = with_regions t (regions_of t ++ granted) })
+    (record { answer = Ok (page_start h granted); table = with_regions t (regions_of t ++ granted) })
     (with_page h granted (laid h granted image memory))
 
 -- the tests of the header and of the table, where the file was read: record 0 is h, and so many records follow it

@@ -2,7 +2,7 @@
 ghost use Rattle.std.specs.Prelude.{◌≡◌};
 ghost use Rattle.loading.specs.Load.{refusal_number, number_of, value_of};
 
-use crate::{LoadAnswer, LoadRefusal};
+use crate::LoadRefusal;
 
 // The paper's number of a refusal.
 pub fn load_refusal_number(why: LoadRefusal) -> u8
@@ -19,21 +19,18 @@ pub fn load_refusal_number(why: LoadRefusal) -> u8
 }
 
 // The paper's number of an answer.
-pub fn number(a: LoadAnswer) -> u8
+pub fn number(a: Result<usize, LoadRefusal>) -> u8
     ensures { result ≡ number_of a }
 {
     match a {
-        LoadAnswer::Loaded(_) => 0,
-        LoadAnswer::Refused(why) => load_refusal_number(why),
+        Ok(_) => 0,
+        Err(why) => load_refusal_number(why),
     }
 }
 
 // The paragraph of the base page, 0 for a refusal.
-pub fn value(a: LoadAnswer) -> usize
+pub fn value(a: Result<usize, LoadRefusal>) -> usize
     ensures { result ≡ value_of a }
 {
-    match a {
-        LoadAnswer::Loaded(paragraph) => paragraph,
-        LoadAnswer::Refused(_) => 0,
-    }
+    a.unwrap_or(0)
 }

@@ -21,16 +21,9 @@ pub enum LoadRefusal {
     NoRoom,
 }
 
-// What a load answers: the paragraph of the base page, or a refusal.
-#[derive(Clone, Copy)]
-pub enum LoadAnswer {
-    Loaded(usize),
-    Refused(LoadRefusal),
-}
-
-// What a load hands back.
+// What a load hands back: the paragraph of the base page, or a refusal, and the table.
 #[derive(Clone, Copy)]
 pub struct LoadReply {
-    pub answer: LoadAnswer,
+    pub answer: Result<usize, LoadRefusal>,
     pub table: Table,
 }

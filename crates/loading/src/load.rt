@@ -1,5 +1,5 @@
 // The call: everything is read and tested before anything is granted or laid.
-ghost use Rattle.std.specs.Prelude.{◌≡◌, true, List, ℕ, ◌+◌, ◌-◌, ◌*◌, ◌≤◌, ◌<◌, ltb, length};
+ghost use Rattle.std.specs.Prelude.{◌≡◌, true, List, ℕ, ◌+◌, ◌-◌, ◌*◌, ◌≤◌, ◌<◌, ltb, length, Err};
 ghost use Rattle.disk_geometry.specs.Geometry.{record_bytes};
 ghost use Rattle.call_fcb.specs.Fcb.{fcb_bytes};
 ghost use Rattle.memory_spans.specs.Span.{places, paragraph_bytes};
@@ -11,10 +11,9 @@ ghost use Rattle.load_records.specs.CodeReading.{bare};
 ghost use Rattle.loading.specs.Load.{after, refusing, grants_of, loaded, placed, load};
 ghost use Rattle.loading.specs.CodeLoad.{Tested};
 ghost use Rattle.loading.specs.declared.LoadRefusal.TheVariants.{NoRoom};
-ghost use Rattle.loading.specs.declared.LoadAnswer.TheVariants.{Refused};
 
 use crate::page::PAGE_BYTES;
-use crate::{LoadAnswer, LoadRefusal, LoadReply, lay, page};
+use crate::{LoadRefusal, LoadReply, lay, page};
 use disk_geometry::Geometry;
 use filecalls::Front;
 use memory_calls::Table;
@@ -22,10 +21,10 @@ use memory_spans::{PARAGRAPH_BYTES, PLACES};
 
 // Refused, and the table as it was.
 fn refuse(why: LoadRefusal, t: Table) -> LoadReply
-    ensures { result ≡ record { answer = Refused why; table = t } }
+    ensures { result ≡ record { answer = Err why; table = t } }
 {
     LoadReply {
-        answer: LoadAnswer::Refused(why),
+        answer: Err(why),
         table: t,
     }
 }
@@ -58,7 +57,7 @@ fn grant_and_lay(
     let pieces = t.pieces;
     let regions = next.list;
     LoadReply {
-        answer: LoadAnswer::Loaded(paragraph),
+        answer: Ok(paragraph),
         table: Table {
             pieces,
             used: t.used,

@@ -1,11 +1,9 @@
 -- A memory call over bytes: "31 for another function, then 34 (an mcb that is not five bytes; 58 is lent none and looks at none), then
 -- 65". "Each success of 55 to 58 .. writes the table anew, zeros behind the ends"; each of 53 to 57 writes the control block. A refusal
 -- leaves both.
-use Rattle.std.specs.Prelude.{Bool, true, false, not, cond, ◌&&◌, List, ℕ, leb, ltb, eqb, length}
+use Rattle.std.specs.Prelude.{Bool, not, cond, ◌&&◌, List, ℕ, leb, ltb, eqb, length, is_ok}
 use Rattle.memory_calls.specs.declared.Reply.{Reply}
-use Rattle.memory_calls.specs.declared.Answer.{Answer}
-use Rattle.memory_calls.specs.declared.Answer.TheVariants.{Done, Refused}
-use Rattle.memory_calls.specs.Answer.{number_of}
+use Rattle.memory_calls.specs.Answer.{Answer, number_of}
 use Rattle.memory_calls.specs.Calls.{GET_MAX_MEM, ALLOC_MEM, FREE_ALL_MEM, memory_call}
 use Rattle.memory_bytes.specs.TableBytes.{mcb_bytes, table_of, mcb_of, table_laid, mcb_laid}
 
@@ -23,8 +21,7 @@ abbrev pub over : ℕ → List ℕ → List ℕ → Over
 over number mcb table = record { number = number; mcb = mcb; table = table }
 
 abbrev pub succeeded : Answer → Bool
-succeeded Done = true
-succeeded (Refused why) = false
+succeeded a = is_ok a
 
 -- "an mcb that is not five bytes": 53 to 57 are lent one
 abbrev pub mcb_refused : ℕ → List ℕ → Bool

@@ -5,9 +5,9 @@ ghost use Rattle.std.specs.Prelude.{◌≡◌, true, cond, ◌&&◌, ◌+◌, �
 ghost use Rattle.memory_spans.specs.Span.{places, none};
 ghost use Rattle.memory_calls.specs.Calls.{ALLOC_MEM, FREE_ALL_MEM};
 ghost use Rattle.memory_bytes.specs.TableBytes.{table_bytes, mcb_bytes, span_bytes, span_at, spans_at, used_in, table_of, mcb_of, span_laid, spans_laid, table_laid, mcb_laid};
-ghost use Rattle.memory_bytes.specs.Over.{over, succeeded, mcb_refused, memory_over};
+ghost use Rattle.memory_bytes.specs.Over.{over, mcb_refused, memory_over};
 
-use memory_calls::{ALLOC_MEM, Answer, FREE_ALL_MEM, GET_MAX_MEM, Mcb, Table};
+use memory_calls::{ALLOC_MEM, FREE_ALL_MEM, GET_MAX_MEM, Mcb, Table};
 use memory_spans::{PLACES, Span};
 
 // How many bytes a table, a control block and a span have, and where pieces and regions begin.
@@ -142,16 +142,6 @@ fn is_mcb_refused(function: u8, mcb: &[u8]) -> bool
     (GET_MAX_MEM <= function) & (function < FREE_ALL_MEM) & (mcb.len() != MCB_BYTES)
 }
 
-// Did the call succeed?
-fn has_succeeded(a: Answer) -> bool
-    ensures { result ≡ succeeded a }
-{
-    match a {
-        Answer::Done => true,
-        Answer::Refused(_) => false,
-    }
-}
-
 // Lays the control block where a call other than 58 succeeded.
 fn lay_mcb(done: bool, function: u8, m: Mcb, mcb: &mut [u8])
     requires { (done && ltb function FREE_ALL_MEM) ≡ true → length mcb.old ≡ mcb_bytes }
@@ -183,7 +173,7 @@ pub fn memory_call(function: u8, mcb: &mut [u8], table: &mut [u8], bytes: usize)
     let m = mcb_of(mcb);
     let reply = memory_calls::memory_call(function, bytes, t, m);
     let answer = reply.answer;
-    let done = has_succeeded(answer);
+    let done = answer.is_ok();
     let next = reply.table;
     let block = reply.mcb;
     lay_mcb(done, function, block, mcb);

@@ -5,6 +5,7 @@ use mathlib.Core.Bool.{false}
 use mathlib.Core.List.{List, [], ◌∷◌, ◌++◌}
 use Prim.Native.Nat.{ℕ}
 use lib.ListN.{length}
+use Rattle.std.specs.Prelude.{Ok}
 use Rattle.memory_spans.specs.declared.Span.{Span}
 use Rattle.memory_spans.specs.Span.{span, covers, overlap, lies_in, any_of, all_of, most_of}
 use Rattle.memory_spans.specs.Rules.{apart, lawful}
@@ -17,7 +18,6 @@ use Rattle.memory_regions.specs.Freeing.{edge, freeable, left, freed}
 use Rattle.memory_calls.specs.declared.Table.{Table}
 use Rattle.memory_calls.specs.declared.Mcb.{Mcb}
 use Rattle.memory_calls.specs.declared.Refusal.TheVariants.{NotServed, Rules, NoPlace, NoRoom, BadFree}
-use Rattle.memory_calls.specs.declared.Answer.TheVariants.{Done}
 use Rattle.memory_calls.specs.Table.{within_rules}
 use Rattle.memory_calls.specs.Calls.{refused, longest_run_of, tested, granted, granted_at, freeing, freeing_part, serve, memory_call}
 
@@ -38,17 +38,17 @@ two = span 256 1536 ∷ span 1792 256 ∷ []
 
 -- 57 of the last 200H paragraphs: the region keeps its place, M-Ext becomes 0
 last_part : memory_call 57 32768 (table two) (mcb 1280 512 7)
-    ≡ record { answer = Done; table = table (span 256 1024 ∷ span 1792 256 ∷ []); mcb = mcb 1280 512 0 }
+    ≡ record { answer = Ok tt; table = table (span 256 1024 ∷ span 1792 256 ∷ []); mcb = mcb 1280 512 0 }
 unfolding memory_call serve freeing freeing_part freeable freed left edge padded within_rules lawful apart overlap lies_in any_of all_of
 last_part = refl
 
 -- of its first paragraph; of all of it: the places close up
 first_part : memory_call 57 32768 (table two) (mcb 256 1 0)
-    ≡ record { answer = Done; table = table (span 257 1535 ∷ span 1792 256 ∷ []); mcb = mcb 256 1 0 }
+    ≡ record { answer = Ok tt; table = table (span 257 1535 ∷ span 1792 256 ∷ []); mcb = mcb 256 1 0 }
 unfolding memory_call serve freeing freeing_part freeable freed left edge padded within_rules lawful apart overlap lies_in any_of all_of
 first_part = refl
 
-whole : memory_call 57 32768 (table two) (mcb 256 1536 0) ≡ record { answer = Done; table = table (span 1792 256 ∷ []); mcb = mcb 256 1536 0 }
+whole : memory_call 57 32768 (table two) (mcb 256 1536 0) ≡ record { answer = Ok tt; table = table (span 1792 256 ∷ []); mcb = mcb 256 1536 0 }
 unfolding memory_call serve freeing freeing_part freeable freed left edge padded within_rules lawful apart overlap lies_in any_of all_of
 whole = refl
 
@@ -62,17 +62,17 @@ unfolding memory_call serve freeing freeing_part freeable freed left edge padded
 none_freed = refl
 
 -- M-Ext FFH, and 58: all
-every : memory_call 57 32768 (table two) (mcb 300 10 255) ≡ record { answer = Done; table = table []; mcb = mcb 300 10 0 }
+every : memory_call 57 32768 (table two) (mcb 300 10 255) ≡ record { answer = Ok tt; table = table []; mcb = mcb 300 10 0 }
 unfolding memory_call serve freeing freeing_part freeable freed left edge padded within_rules lawful apart overlap lies_in any_of all_of
 every = refl
 
-all_freed : memory_call 58 32768 (table two) (mcb 300 10 255) ≡ record { answer = Done; table = table []; mcb = mcb 300 10 255 }
+all_freed : memory_call 58 32768 (table two) (mcb 300 10 255) ≡ record { answer = Ok tt; table = table []; mcb = mcb 300 10 255 }
 unfolding memory_call serve padded within_rules lawful apart overlap lies_in any_of all_of
 all_freed = refl
 
 -- 56 straight behind a region; 54 over the last paragraph of one
 beside : memory_call 56 32768 (table (span 256 16 ∷ [])) (mcb 272 8 9)
-    ≡ record { answer = Done; table = table (span 256 16 ∷ span 272 8 ∷ []); mcb = mcb 272 8 0 }
+    ≡ record { answer = Ok tt; table = table (span 256 16 ∷ span 272 8 ∷ []); mcb = mcb 272 8 0 }
 unfolding memory_call serve granted_at has_room room run free_in taken covers most_of padded within_rules lawful apart overlap lies_in any_of all_of
 beside = refl
 
@@ -102,12 +102,12 @@ unfolding lower_of has_room room run free_in taken covers any_of most_of
 longest_at = lowest_by pieces gaps 16
 
 -- 53 asked for 4 paragraphs: the longest run, lowest of equals, and of it just 4; M-Ext becomes 0, and the M-Base asked is not looked at
-longest_4 : memory_call 53 32768 (table gaps) (mcb 5 4 7) ≡ record { answer = Done; table = table gaps; mcb = mcb 296 4 0 }
+longest_4 : memory_call 53 32768 (table gaps) (mcb 5 4 7) ≡ record { answer = Ok tt; table = table gaps; mcb = mcb 296 4 0 }
 unfolding memory_call serve longest_run_of padded within_rules lawful apart overlap lies_in any_of all_of
 longest_4 = rw (longest_gap, longest_at)
 
 -- asked for 40: all of it
-longest_40 : memory_call 53 32768 (table gaps) (mcb 5 40 7) ≡ record { answer = Done; table = table gaps; mcb = mcb 296 16 0 }
+longest_40 : memory_call 53 32768 (table gaps) (mcb 5 40 7) ≡ record { answer = Ok tt; table = table gaps; mcb = mcb 296 16 0 }
 unfolding memory_call serve longest_run_of padded within_rules lawful apart overlap lies_in any_of all_of
 longest_40 = rw (longest_gap, longest_at)
 
@@ -121,12 +121,12 @@ unfolding memory_call serve longest_run_of padded within_rules lawful apart over
 longest_of_none = rw (longest_is pieces pieces)
 
 -- 55 of 4 and of 12 paragraphs: at the lowest start with room, as many as asked, behind the other regions
-lowest_4 : memory_call 55 32768 (table gaps) (mcb 5 4 7) ≡ record { answer = Done; table = table (gaps ++ (span 272 4 ∷ [])); mcb = mcb 272 4 0 }
+lowest_4 : memory_call 55 32768 (table gaps) (mcb 5 4 7) ≡ record { answer = Ok tt; table = table (gaps ++ (span 272 4 ∷ [])); mcb = mcb 272 4 0 }
 unfolding memory_call serve granted padded within_rules lawful apart overlap lies_in any_of all_of lower_of has_room room run free_in taken covers most_of
 lowest_4 = rw (lowest_by pieces gaps 4)
 
 lowest_12 : memory_call 55 32768 (table gaps) (mcb 5 12 7)
-    ≡ record { answer = Done; table = table (gaps ++ (span 296 12 ∷ [])); mcb = mcb 296 12 0 }
+    ≡ record { answer = Ok tt; table = table (gaps ++ (span 296 12 ∷ [])); mcb = mcb 296 12 0 }
 unfolding memory_call serve granted padded within_rules lawful apart overlap lies_in any_of all_of lower_of has_room room run free_in taken covers most_of
 lowest_12 = rw (lowest_by pieces gaps 12)
 
@@ -180,7 +180,7 @@ behind_its_piece = refl
 
 -- the same where they only touch
 all_touch : memory_call 58 32768 (over (span 256 64 ∷ span 320 64 ∷ []) (span 310 10 ∷ span 320 10 ∷ span 330 54 ∷ [])) (mcb 0 0 0)
-    ≡ record { answer = Done; table = over (span 256 64 ∷ span 320 64 ∷ []) []; mcb = mcb 0 0 0 }
+    ≡ record { answer = Ok tt; table = over (span 256 64 ∷ span 320 64 ∷ []) []; mcb = mcb 0 0 0 }
 unfolding memory_call serve padded within_rules lawful apart overlap lies_in any_of all_of
 all_touch = refl
 
@@ -192,7 +192,7 @@ no_place : memory_call 56 32768 full (mcb 256 1 0) ≡ refused NoPlace full (mcb
 unfolding memory_call serve granted_at has_room room run free_in taken covers most_of padded within_rules lawful apart overlap lies_in any_of all_of
 no_place = refl
 
-asks_no_place : memory_call 54 32768 full (mcb 257 1 0) ≡ record { answer = Done; table = full; mcb = mcb 257 1 0 }
+asks_no_place : memory_call 54 32768 full (mcb 257 1 0) ≡ record { answer = Ok tt; table = full; mcb = mcb 257 1 0 }
 unfolding memory_call serve tested has_room room run free_in taken covers most_of padded within_rules lawful apart overlap lies_in any_of all_of
 asks_no_place = refl
 
@@ -206,7 +206,7 @@ abbrev high : ℕ → List Span → Table
 high size l = over (span 65520 size ∷ []) l
 
 to_the_end : memory_call 57 1048832 (high 16 (span 65520 16 ∷ [])) (mcb 65535 1 0)
-    ≡ record { answer = Done; table = high 16 (span 65520 15 ∷ []); mcb = mcb 65535 1 0 }
+    ≡ record { answer = Ok tt; table = high 16 (span 65520 15 ∷ []); mcb = mcb 65535 1 0 }
 unfolding memory_call serve freeing freeing_part freeable freed left edge padded within_rules lawful apart overlap lies_in any_of all_of
 to_the_end = refl
 

@@ -1,9 +1,7 @@
 -- What a memory call answers, and the paper's numbers.
-use Rattle.std.specs.Prelude.{ℕ}
+use Rattle.std.specs.Prelude.{ℕ, Result, Ok, Err}
 use Rattle.memory_calls.specs.declared.Refusal.{Refusal}
 use Rattle.memory_calls.specs.declared.Refusal.TheVariants.{NotServed, Rules, NoPlace, NoRoom, BadFree}
-use Rattle.memory_calls.specs.declared.Answer.{Answer}
-use Rattle.memory_calls.specs.declared.Answer.TheVariants.{Done, Refused}
 
 abbrev pub refusal_number : Refusal → ℕ
 -- a function that is not one of 53 to 58
@@ -17,6 +15,10 @@ refusal_number NoRoom = 62
 -- "64 a free of 0 paragraphs or of anything but one region's start or end"
 refusal_number BadFree = 64
 
+-- done, or why it is refused
+abbrev pub Answer : Type 0
+Answer = Result (Unit {0}) Refusal
+
 abbrev pub number_of : Answer → ℕ
-number_of Done = 0
-number_of (Refused why) = refusal_number why
+number_of (Ok done) = 0
+number_of (Err why) = refusal_number why

@@ -1,6 +1,6 @@
 -- The memory calls over the memory control block: M-Base, M-Length and M-Ext. A refusal leaves table and block as they were; "M-Ext
 -- becomes 0" with a success of 53 to 57.
-use Rattle.std.specs.Prelude.{cond, ◌&&◌, ◌||◌, [], ◌∷◌, ◌++◌, ℕ, min, leb, ltb, eqb}
+use Rattle.std.specs.Prelude.{cond, ◌&&◌, ◌||◌, [], ◌∷◌, ◌++◌, ℕ, min, leb, ltb, eqb, Ok, Err}
 use Rattle.memory_spans.specs.Span.{places, paragraphs, span}
 use Rattle.memory_spans.specs.Room.{has_room}
 use Rattle.memory_room.specs.Starts.{lowest_start, longest}
@@ -9,7 +9,6 @@ use Rattle.memory_calls.specs.declared.Table.{Table}
 use Rattle.memory_calls.specs.declared.Mcb.{Mcb}
 use Rattle.memory_calls.specs.declared.Refusal.{Refusal}
 use Rattle.memory_calls.specs.declared.Refusal.TheVariants.{NotServed, Rules, NoPlace, NoRoom, BadFree}
-use Rattle.memory_calls.specs.declared.Answer.TheVariants.{Done, Refused}
 use Rattle.memory_calls.specs.declared.Reply.{Reply}
 use Rattle.memory_calls.specs.Table.{pieces_of, regions_of, with_regions, within_rules}
 
@@ -38,10 +37,10 @@ EVERY = 0xFF
 
 -- refused, and all as it was; done, with the table, M-Base and M-Length
 abbrev pub refused : Refusal → Table → Mcb → Reply
-refused why t m = record { answer = Refused why; table = t; mcb = m }
+refused why t m = record { answer = Err why; table = t; mcb = m }
 
 abbrev pub done : Table → ℕ → ℕ → Reply
-done t base length = record { answer = Done; table = t; mcb = record { base = base; length = length; ext = 0 } }
+done t base length = record { answer = Ok tt; table = t; mcb = record { base = base; length = length; ext = 0 } }
 
 -- 53: "gives the longest free run, lowest of equals, at most the length asked"
 unfoldable pub longest_run_of : Table → Mcb → Reply
@@ -88,7 +87,7 @@ freeing t m = cond (eqb m.ext EVERY) (done (with_regions t []) m.base m.length) 
 
 -- 58: all regions; it has no control block
 abbrev pub free_all : Table → Mcb → Reply
-free_all t m = record { answer = Done; table = with_regions t []; mcb = m }
+free_all t m = record { answer = Ok tt; table = with_regions t []; mcb = m }
 
 -- the call of that number on a table within the rules
 unfoldable pub serve : ℕ → Table → Mcb → Reply

@@ -46,7 +46,7 @@ pub struct Mcb {
 }
 
 // Why a memory call is refused.
-#[derive(Clone, Copy)]
+#[derive(Clone, Copy, PartialEq, Eq, Debug)]
 pub enum Refusal {
     NotServed,
     Rules,
@@ -55,17 +55,10 @@ pub enum Refusal {
     BadFree,
 }
 
-// What a memory call answers.
-#[derive(Clone, Copy)]
-pub enum Answer {
-    Done,
-    Refused(Refusal),
-}
-
-// All that a memory call leaves.
+// All that a memory call leaves: done or why it is refused, the table and the block.
 #[derive(Clone, Copy)]
 pub struct Reply {
-    pub answer: Answer,
+    pub answer: Result<(), Refusal>,
     pub table: Table,
     pub mcb: Mcb,
 }
@@ -100,12 +93,12 @@ pub fn memory_refusal_number(why: Refusal) -> u8
 }
 
 // The paper's number of an answer.
-pub fn number(a: Answer) -> u8
+pub fn number(a: Result<(), Refusal>) -> u8
     ensures { result ≡ number_of a }
 {
     match a {
-        Answer::Done => 0,
-        Answer::Refused(why) => memory_refusal_number(why),
+        Ok(()) => 0,
+        Err(why) => memory_refusal_number(why),
     }
 }
 
@@ -124,7 +117,7 @@ fn refuse(why: Refusal, t: Table, mcb: Mcb) -> Reply
     ensures { result ≡ refused why t mcb }
 {
     Reply {
-        answer: Answer::Refused(why),
+        answer: Err(why),
         table: t,
         mcb,
     }
@@ -140,7 +133,7 @@ fn done(t: Table, base: u16, length: u16) -> Reply
         ext: 0,
     };
     Reply {
-        answer: Answer::Done,
+        answer: Ok(()),
         table: t,
         mcb,
     }
@@ -275,33 +268,26 @@ fn free_all(t: Table, mcb: Mcb) -> Reply
 {
     let table = with_places(t, memory_regions::empty());
     Reply {
-        answer: Answer::Done,
+        answer: Ok(()),
         table,
         mcb,
     }
 }
 
 // The call of that number on a table within the rules.
+#[tactic(auto, unfolding(crate::specs::Calls::serve))]
 fn serve(function: u8, t: Table, mcb: Mcb) -> Reply
     requires { Ready t }
     ensures { result ≡ serve function t mcb }
 {
-    if function == GET_MAX_MEM {
-        return longest_run(t, mcb);
+    match function {
+        GET_MAX_MEM => longest_run(t, mcb),
+        GET_ABS_MAX => test_region(t, mcb),
+        ALLOC_MEM => grant(t, mcb),
+        ALLOC_ABS_MEM => grant_at(t, mcb),
+        FREE_MEM => free(t, mcb),
+        _ => free_all(t, mcb),
     }
-    if function == GET_ABS_MAX {
-        return test_region(t, mcb);
-    }
-    if function == ALLOC_MEM {
-        return grant(t, mcb);
-    }
-    if function == ALLOC_ABS_MEM {
-        return grant_at(t, mcb);
-    }
-    if function == FREE_MEM {
-        return free(t, mcb);
-    }
-    free_all(t, mcb)
 }
 
 // A memory call in a memory of so many bytes.

@@ -8,6 +8,7 @@ use native.Mathlib.Omega.{arith}
 use borrow.Author.Tests.{ltb-true, ltb-false, lt-ltb, eqb-true, ne_eqb, eqb-false}
 use lib.Dec.{leb, ltb, eqb}
 use lib.ListN.{length, take, length-take, length-append}
+use Rattle.std.specs.Prelude.{Ok, Err}
 use Rattle.memory_spans.specs.declared.Span.{Span}
 use Rattle.memory_spans.specs.Span.{places, paragraphs, span}
 use Rattle.memory_spans.specs.Room.{room, has_room, free}
@@ -23,7 +24,7 @@ use Rattle.memory_calls.specs.declared.Mcb.{Mcb}
 use Rattle.memory_calls.specs.declared.Reply.{Reply}
 use Rattle.memory_calls.specs.declared.Refusal.{Refusal}
 use Rattle.memory_calls.specs.declared.Refusal.TheVariants.{NotServed, Rules, NoPlace, NoRoom, BadFree}
-use Rattle.memory_calls.specs.declared.Answer.TheVariants.{Done, Refused}
+use Rattle.memory_calls.specs.Answer.{Answer}
 use Rattle.memory_calls.specs.Table.{pieces_of, regions_of, with_regions, within_rules}
 use Rattle.memory_calls.specs.Calls.{refused, done, longest_run_of, tested, granting, granted, granted_at, freeing, freeing_part, free_all, serve, memory_call}
 use Rattle.memory_calls.proofs.CallLaws.{Within, within_facts, within_test}
@@ -56,7 +57,7 @@ served P f t b p q r s u v =
 -- ---- a refusal alters nothing
 data Outcome (t : Table) (b : Mcb) : Reply → Type 0 where
   denied : (why : Refusal) → Outcome t b (refused why t b)
-  success : (r : Reply) → r.answer ≡ Done → Outcome t b r
+  success : (r : Reply) → r.answer ≡ Ok tt → Outcome t b r
 
 outcome : (f bytes : ℕ) (t : Table) (b : Mcb) → Outcome t b (memory_call f bytes t b)
 unfolding memory_call longest_run_of tested granted granted_at freeing freeing_part
@@ -83,7 +84,7 @@ outcome f bytes t b =
 pub refusal_alters_nothing : RefusalAltersNothing
 refusal_alters_nothing f bytes t b why e = go (outcome f bytes t b) e
   where
-    go : {r : Reply} → Outcome t b r → r.answer ≡ Refused why → (r.table ≡ t) × (r.mcb ≡ b)
+    go : {r : Reply} → Outcome t b r → r.answer ≡ Err why → (r.table ≡ t) × (r.mcb ≡ b)
     go (denied w) q = (refl, refl)
     go (success r d) q = let z : ◌≡◌ {A = ℕ} 0 1 = cc in absurd (omega arith)
 
@@ -166,11 +167,11 @@ call_is : (f bytes : ℕ) (t : Table) (b : Mcb) → (leb 53 f && leb f 58) ≡ t
 unfolding memory_call
 call_is f bytes t b a e = rw (a, e)
 
-only_true : (test : Bool) (x y : Reply) → y.answer ≡ Done → (cond test x y).answer ≡ Refused NoRoom → test ≡ true
+only_true : (test : Bool) (x y : Reply) → y.answer ≡ Ok tt → (cond test x y).answer ≡ Err NoRoom → test ≡ true
 only_true true x y d e = refl
 only_true false x y d e = let z : ◌≡◌ {A = ℕ} 0 1 = cc in absurd (omega arith)
 
-only_false : (test : Bool) (x y : Reply) → x.answer ≡ Done → (cond test x y).answer ≡ Refused NoRoom → test ≡ false
+only_false : (test : Bool) (x y : Reply) → x.answer ≡ Ok tt → (cond test x y).answer ≡ Err NoRoom → test ≡ false
 only_false false x y d e = refl
 only_false true x y d e = let z : ◌≡◌ {A = ℕ} 0 1 = cc in absurd (omega arith)
 
@@ -223,35 +224,35 @@ module _ (bytes : ℕ) (t : Table) (b : Mcb) (e : within_rules bytes t ≡ true)
   unfolding serve
   answer_56 = call_is 56 bytes t b refl e
 
-  run_refused : (longest_run_of t b).answer ≡ Refused NoRoom → (eqb b.length 0 || eqb (longest (pieces_of t) (regions_of t)) 0) ≡ true
+  run_refused : (longest_run_of t b).answer ≡ Err NoRoom → (eqb b.length 0 || eqb (longest (pieces_of t) (regions_of t)) 0) ≡ true
   unfolding longest_run_of
   run_refused h = only_true (eqb b.length 0 || eqb (longest (pieces_of t) (regions_of t)) 0) _ _ refl h
 
-  refused_run : (eqb b.length 0 || eqb (longest (pieces_of t) (regions_of t)) 0) ≡ true → (longest_run_of t b).answer ≡ Refused NoRoom
+  refused_run : (eqb b.length 0 || eqb (longest (pieces_of t) (regions_of t)) 0) ≡ true → (longest_run_of t b).answer ≡ Err NoRoom
   unfolding longest_run_of
   refused_run h = rw h
 
-  test_refused : (tested t b).answer ≡ Refused NoRoom → has_room (pieces_of t) (regions_of t) b.length b.base ≡ false
+  test_refused : (tested t b).answer ≡ Err NoRoom → has_room (pieces_of t) (regions_of t) b.length b.base ≡ false
   unfolding tested
   test_refused h = only_false (has_room (pieces_of t) (regions_of t) b.length b.base) _ _ refl h
 
-  refused_test : has_room (pieces_of t) (regions_of t) b.length b.base ≡ false → (tested t b).answer ≡ Refused NoRoom
+  refused_test : has_room (pieces_of t) (regions_of t) b.length b.base ≡ false → (tested t b).answer ≡ Err NoRoom
   unfolding tested
   refused_test h = rw h
 
-  grant_refused : t.granted < places → (granted t b).answer ≡ Refused NoRoom → ltb (lowest_start (pieces_of t) (regions_of t) b.length) paragraphs ≡ false
+  grant_refused : t.granted < places → (granted t b).answer ≡ Err NoRoom → ltb (lowest_start (pieces_of t) (regions_of t) b.length) paragraphs ≡ false
   unfolding granted
   grant_refused g h = only_false (ltb (lowest_start (pieces_of t) (regions_of t) b.length) paragraphs) _ _ refl (rw (lt-ltb t.granted places g) at h)
 
-  refused_grant : t.granted < places → ltb (lowest_start (pieces_of t) (regions_of t) b.length) paragraphs ≡ false → (granted t b).answer ≡ Refused NoRoom
+  refused_grant : t.granted < places → ltb (lowest_start (pieces_of t) (regions_of t) b.length) paragraphs ≡ false → (granted t b).answer ≡ Err NoRoom
   unfolding granted
   refused_grant g h = rw (lt-ltb t.granted places g, h)
 
-  at_refused : t.granted < places → (granted_at t b).answer ≡ Refused NoRoom → has_room (pieces_of t) (regions_of t) b.length b.base ≡ false
+  at_refused : t.granted < places → (granted_at t b).answer ≡ Err NoRoom → has_room (pieces_of t) (regions_of t) b.length b.base ≡ false
   unfolding granted_at
   at_refused g h = only_false (has_room (pieces_of t) (regions_of t) b.length b.base) _ _ refl (rw (lt-ltb t.granted places g) at h)
 
-  refused_at : t.granted < places → has_room (pieces_of t) (regions_of t) b.length b.base ≡ false → (granted_at t b).answer ≡ Refused NoRoom
+  refused_at : t.granted < places → has_room (pieces_of t) (regions_of t) b.length b.base ≡ false → (granted_at t b).answer ≡ Err NoRoom
   unfolding granted_at
   refused_at g h = rw (lt-ltb t.granted places g, h)
 
@@ -281,14 +282,14 @@ module _ (bytes : ℕ) (t : Table) (b : Mcb) (e : within_rules bytes t ≡ true)
 pub no_room_means_no_room : NoRoomMeansNoRoom
 no_room_means_no_room bytes t b e = exactly bytes t b e
 
-not_done : {A : Type 0} (why : Refusal) → Refused why ≡ Done → A
+not_done : {A : Type 0} (why : Refusal) → ◌≡◌ {A = Answer} (Err why) (Ok tt) → A
 not_done why e = let z : ◌≡◌ {A = ℕ} 0 1 = cc in absurd (omega arith)
 
-ruled : (f bytes : ℕ) (t : Table) (b : Mcb) → (leb 53 f && leb f 58) ≡ true → (memory_call f bytes t b).answer ≡ Done → within_rules bytes t ≡ true
+ruled : (f bytes : ℕ) (t : Table) (b : Mcb) → (leb 53 f && leb f 58) ≡ true → (memory_call f bytes t b).answer ≡ Ok tt → within_rules bytes t ≡ true
 unfolding memory_call
 ruled f bytes t b a e = go (within_rules bytes t) refl (rw a at e)
   where
-    go : (x : Bool) → within_rules bytes t ≡ x → (cond x (serve f t b) (refused Rules t b)).answer ≡ Done → within_rules bytes t ≡ true
+    go : (x : Bool) → within_rules bytes t ≡ x → (cond x (serve f t b) (refused Rules t b)).answer ≡ Ok tt → within_rules bytes t ≡ true
     go true u v = u
     go false u v = not_done Rules v
 
@@ -297,13 +298,13 @@ not_either : (a b : Bool) → (a || b) ≡ false → (a ≡ false) × (b ≡ fal
 not_either false b e = (refl, e)
 not_either true b e = absurd (true≢false e)
 
-longest_given : (t : Table) (b : Mcb) → (longest_run_of t b).answer ≡ Done → LongestRun t b (longest_run_of t b)
+longest_given : (t : Table) (b : Mcb) → (longest_run_of t b).answer ≡ Ok tt → LongestRun t b (longest_run_of t b)
 unfolding longest_run_of
 longest_given t b d = go (eqb b.length 0 || eqb (longest (pieces_of t) (regions_of t)) 0) refl d
   where
     go : (x : Bool)
         → (eqb b.length 0 || eqb (longest (pieces_of t) (regions_of t)) 0) ≡ x
-        → (cond x (refused NoRoom t b) (done t (lowest_start (pieces_of t) (regions_of t) (longest (pieces_of t) (regions_of t))) (min (longest (pieces_of t) (regions_of t)) b.length))).answer ≡ Done
+        → (cond x (refused NoRoom t b) (done t (lowest_start (pieces_of t) (regions_of t) (longest (pieces_of t) (regions_of t))) (min (longest (pieces_of t) (regions_of t)) b.length))).answer ≡ Ok tt
         → LongestRun t b (cond x (refused NoRoom t b) (done t (lowest_start (pieces_of t) (regions_of t) (longest (pieces_of t) (regions_of t))) (min (longest (pieces_of t) (regions_of t)) b.length)))
     go true u v = not_done NoRoom v
     go false u v =
@@ -335,14 +336,14 @@ record Gave (bytes : ℕ) (t : Table) (b : Mcb) (r : Reply) : Type 0 where
   pub has : has_room (pieces_of t) (regions_of t) b.length start ≡ true
   pub is : r ≡ granting t start b.length
 
-gave_55 : (bytes : ℕ) (t : Table) (b : Mcb) → within_rules bytes t ≡ true → (granted t b).answer ≡ Done → Gave bytes t b (granted t b)
+gave_55 : (bytes : ℕ) (t : Table) (b : Mcb) → within_rules bytes t ≡ true → (granted t b).answer ≡ Ok tt → Gave bytes t b (granted t b)
 unfolding granted
 gave_55 bytes t b w e = go (ltb t.granted places) (ltb (lowest_start (pieces_of t) (regions_of t) b.length) paragraphs) refl refl e
   where
     go : (x y : Bool)
         → ltb t.granted places ≡ x
         → ltb (lowest_start (pieces_of t) (regions_of t) b.length) paragraphs ≡ y
-        → (cond x (cond y (granting t (lowest_start (pieces_of t) (regions_of t) b.length) b.length) (refused NoRoom t b)) (refused NoPlace t b)).answer ≡ Done
+        → (cond x (cond y (granting t (lowest_start (pieces_of t) (regions_of t) b.length) b.length) (refused NoRoom t b)) (refused NoPlace t b)).answer ≡ Ok tt
         → Gave bytes t b (cond x (cond y (granting t (lowest_start (pieces_of t) (regions_of t) b.length) b.length) (refused NoRoom t b)) (refused NoPlace t b))
     go true true u v d =
         record {
@@ -355,14 +356,14 @@ gave_55 bytes t b w e = go (ltb t.granted places) (ltb (lowest_start (pieces_of 
     go true false u v d = not_done NoRoom d
     go false y u v d = not_done NoPlace d
 
-gave_56 : (bytes : ℕ) (t : Table) (b : Mcb) → within_rules bytes t ≡ true → (granted_at t b).answer ≡ Done → Gave bytes t b (granted_at t b)
+gave_56 : (bytes : ℕ) (t : Table) (b : Mcb) → within_rules bytes t ≡ true → (granted_at t b).answer ≡ Ok tt → Gave bytes t b (granted_at t b)
 unfolding granted_at
 gave_56 bytes t b w e = go (ltb t.granted places) (has_room (pieces_of t) (regions_of t) b.length b.base) refl refl e
   where
     go : (x y : Bool)
         → ltb t.granted places ≡ x
         → has_room (pieces_of t) (regions_of t) b.length b.base ≡ y
-        → (cond x (cond y (granting t b.base b.length) (refused NoRoom t b)) (refused NoPlace t b)).answer ≡ Done
+        → (cond x (cond y (granting t b.base b.length) (refused NoRoom t b)) (refused NoPlace t b)).answer ≡ Ok tt
         → Gave bytes t b (cond x (cond y (granting t b.base b.length) (refused NoRoom t b)) (refused NoPlace t b))
     go true true u v d = record { rules = w; place = ltb-true t.granted places u; start = b.base; has = v; is = refl }
     go true false u v d = not_done NoRoom d
@@ -433,7 +434,7 @@ same_56 t u b a =
 module _ (f bytes : ℕ) (t : Table) (b : Mcb) (call : Table → Reply)
     (is : (x : Table) → within_rules bytes x ≡ true → memory_call f bytes x b ≡ call x)
     (same : (u : Table) → Alike t u → SameReply (call u) (call t))
-    (g : Gave bytes t b (call t)) (d : (call t).answer ≡ Done) where
+    (g : Gave bytes t b (call t)) (d : (call t).answer ≡ Ok tt) where
   few : length (regions_of t) < places
   few = omega (arith, used_le t.regions t.granted, g.place)
 
@@ -470,14 +471,14 @@ grant_then_free f bytes t b c d = ⊎_elim (λ e. go_55 e) (λ e. go_56 e) c
   where
     go_55 : f ≡ 55 → Restored f bytes t b (memory_call 57 bytes (memory_call f bytes t b).table (memory_call f bytes t b).mcb)
     go_55 e =
-        let d' : (memory_call 55 bytes t b).answer ≡ Done = rw e at d in
+        let d' : (memory_call 55 bytes t b).answer ≡ Ok tt = rw e at d in
         let w = ruled 55 bytes t b refl d' in
         let a = rw (answer_55 bytes t b w) at d' in
         rw (e, answer_55 bytes t b w) (restored 55 bytes t b (λ x. granted x b) (λ x h. answer_55 bytes x b h) (λ x h. same_55 t x b h) (gave_55 bytes t b w a) a)
 
     go_56 : f ≡ 56 → Restored f bytes t b (memory_call 57 bytes (memory_call f bytes t b).table (memory_call f bytes t b).mcb)
     go_56 e =
-        let d' : (memory_call 56 bytes t b).answer ≡ Done = rw e at d in
+        let d' : (memory_call 56 bytes t b).answer ≡ Ok tt = rw e at d in
         let w = ruled 56 bytes t b refl d' in
         let a = rw (answer_56 bytes t b w) at d' in
         rw (e, answer_56 bytes t b w) (restored 56 bytes t b (λ x. granted_at x b) (λ x h. answer_56 bytes x b h) (λ x h. same_56 t x b h) (gave_56 bytes t b w a) a)

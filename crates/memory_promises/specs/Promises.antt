@@ -1,5 +1,5 @@
 -- The promises of the memory calls and of a group's grant. proofs/Theorem.antt and proofs/GroupTheorem.antt prove each statement under its name.
-use Rattle.std.specs.Prelude.{◌≡◌, Some, None, true, false, List, [], ◌∷◌, ◌++◌, ◌⊎◌, ℕ, ◌+◌, ◌≤◌, ◌<◌, min, length, get_or}
+use Rattle.std.specs.Prelude.{◌≡◌, Some, None, true, false, List, [], ◌∷◌, ◌++◌, ◌⊎◌, ℕ, ◌+◌, ◌≤◌, ◌<◌, min, length, get_or, Ok, Err}
 use Rattle.memory_spans.specs.declared.Span.{Span}
 use Rattle.memory_spans.specs.Span.{places, paragraphs, none, end, covers}
 use Rattle.memory_spans.specs.Room.{free, taken}
@@ -10,7 +10,6 @@ use Rattle.memory_calls.specs.declared.Mcb.{Mcb}
 use Rattle.memory_calls.specs.declared.Reply.{Reply}
 use Rattle.memory_calls.specs.declared.Refusal.{Refusal}
 use Rattle.memory_calls.specs.declared.Refusal.TheVariants.{NoRoom}
-use Rattle.memory_calls.specs.declared.Answer.TheVariants.{Done, Refused}
 use Rattle.memory_calls.specs.Table.{pieces_of, regions_of, within_rules}
 use Rattle.memory_calls.specs.Calls.{memory_call}
 
@@ -18,7 +17,7 @@ use Rattle.memory_calls.specs.Calls.{memory_call}
 abbrev pub RefusalAltersNothing : Type 0
 RefusalAltersNothing =
     (f bytes : ℕ) (t : Table) (b : Mcb) (why : Refusal)
-    → (memory_call f bytes t b).answer ≡ Refused why
+    → (memory_call f bytes t b).answer ≡ Err why
     → ((memory_call f bytes t b).table ≡ t) × ((memory_call f bytes t b).mcb ≡ b)
 
 -- ---- any list of memory calls, each on the table that the one before it left
@@ -63,14 +62,14 @@ Exactly A B = (A → B) × (B → A)
 -- the answer 62 of each call, on a table within the rules; in 55 and 56 where a region place is left
 pub record NoRoomExactly (bytes : ℕ) (t : Table) (b : Mcb) : Type 0 where
   pub longest_run : Exactly
-      ((memory_call 53 bytes t b).answer ≡ Refused NoRoom)
+      ((memory_call 53 bytes t b).answer ≡ Err NoRoom)
       ((s k : ℕ) → s < paragraphs → k ≤ b.length → Room (pieces_of t) (regions_of t) k s → ⊥)
-  pub test : Exactly ((memory_call 54 bytes t b).answer ≡ Refused NoRoom) (Room (pieces_of t) (regions_of t) b.length b.base → ⊥)
+  pub test : Exactly ((memory_call 54 bytes t b).answer ≡ Err NoRoom) (Room (pieces_of t) (regions_of t) b.length b.base → ⊥)
   pub grant : t.granted < places → Exactly
-      ((memory_call 55 bytes t b).answer ≡ Refused NoRoom)
+      ((memory_call 55 bytes t b).answer ≡ Err NoRoom)
       ((s : ℕ) → s < paragraphs → Room (pieces_of t) (regions_of t) b.length s → ⊥)
   pub grant_at_lem : t.granted < places → Exactly
-      ((memory_call 56 bytes t b).answer ≡ Refused NoRoom)
+      ((memory_call 56 bytes t b).answer ≡ Err NoRoom)
       (Room (pieces_of t) (regions_of t) b.length b.base → ⊥)
 
 abbrev pub NoRoomMeansNoRoom : Type 0
@@ -87,22 +86,22 @@ pub record LongestRun (t : Table) (b : Mcb) (r : Reply) : Type 0 where
   pub table : r.table ≡ t
 
 abbrev pub GivesLongestRun : Type 0
-GivesLongestRun = (bytes : ℕ) (t : Table) (b : Mcb) → (memory_call 53 bytes t b).answer ≡ Done → LongestRun t b (memory_call 53 bytes t b)
+GivesLongestRun = (bytes : ℕ) (t : Table) (b : Mcb) → (memory_call 53 bytes t b).answer ≡ Ok tt → LongestRun t b (memory_call 53 bytes t b)
 
 -- ---- "Freed room is granted again": after a grant and the free of the same region, by the control block that the grant left, the regions
 -- are what they were, and so is every free paragraph; the same request is granted again, and the same region
 pub record Restored (f bytes : ℕ) (t : Table) (b : Mcb) (r : Reply) : Type 0 where
-  pub done : r.answer ≡ Done
+  pub done : r.answer ≡ Ok tt
   pub regions : regions_of r.table ≡ regions_of t
   pub same_free : (p : ℕ) → free (pieces_of r.table) (regions_of r.table) p ≡ free (pieces_of t) (regions_of t) p
-  pub again : (memory_call f bytes r.table b).answer ≡ Done
+  pub again : (memory_call f bytes r.table b).answer ≡ Ok tt
   pub same_region : (memory_call f bytes r.table b).mcb ≡ (memory_call f bytes t b).mcb
 
 abbrev pub GrantThenFree : Type 0
 GrantThenFree =
     (f bytes : ℕ) (t : Table) (b : Mcb)
     → (f ≡ 55) ⊎ (f ≡ 56)
-    → (memory_call f bytes t b).answer ≡ Done
+    → (memory_call f bytes t b).answer ≡ Ok tt
     → Restored f bytes t b (memory_call 57 bytes (memory_call f bytes t b).table (memory_call f bytes t b).mcb)
 
 -- ---- a group of a CMD file: what it is granted keeps the rules and is at least what it needs; it is granted nothing exactly where

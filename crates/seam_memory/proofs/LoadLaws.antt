@@ -5,8 +5,7 @@ use Prim.Native.Nat.{ℕ, ◌<◌}
 use Rattle.filecalls.specs.declared.Front.{Front}
 use Rattle.filecalls.specs.CodeFront.{front_of, joined}
 use Rattle.drive_bytes.specs.Layout.{decoded}
-use Rattle.loading.specs.declared.LoadAnswer.{LoadAnswer}
-use Rattle.loading.specs.Load.{value_of}
+use Rattle.loading.specs.Load.{LoadAnswer, value_of}
 use Rattle.load_bytes.specs.LoadOver.{LoadOver, load_over, load_bytes}
 use Rattle.load_bytes.proofs.LoadOverLaws.{value_low}
 use Rattle.seam_memory.specs.Load.{load_answered, started, load_at_seam}

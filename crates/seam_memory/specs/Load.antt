@@ -2,8 +2,7 @@
 -- lent to be read alone.
 use Rattle.std.specs.Prelude.{List, ℕ, ◌+◌, ◌*◌}
 use Rattle.drive_bytes.specs.Layout.{decoded}
-use Rattle.loading.specs.declared.LoadAnswer.{LoadAnswer}
-use Rattle.loading.specs.Load.{number_of, value_of}
+use Rattle.loading.specs.Load.{LoadAnswer, number_of, value_of}
 use Rattle.load_bytes.specs.LoadOver.{LoadOver, load_bytes}
 
 -- "high 16: the paragraph of the base page"

@@ -6,11 +6,11 @@ ghost use Rattle.memory_bytes.specs.Over.{over, memory_over};
 ghost use Rattle.loading.specs.Load.{value_of};
 ghost use Rattle.seam_memory.specs.Load.{load_answered, started, load_at_seam};
 
-use loading::{LoadAnswer, answers};
+use loading::{LoadRefusal, answers};
 use seam_words::wide;
 
 // Load's answer as one number: its number in the low 16 bits, the paragraph of the base page in the high 16.
-fn seal_load(a: LoadAnswer) -> u32
+fn seal_load(a: Result<usize, LoadRefusal>) -> u32
     requires { value_of a < 65536 }
     ensures { result ≡ load_answered a }
 {
