@@ -8,10 +8,8 @@ use Rattle.call_answers.specs.Refusal.{is_none}
 use Rattle.filecalls.specs.declared.Drive.{Drive}
 use Rattle.filecalls.specs.Outcome.{Outcome}
 use Rattle.filecalls.specs.Leaves.{write_random_leaves}
-
 -- the random read of record n into a buffer of zeros, and all that it leaves
 unfoldable pub use Rattle.record_reads.specs.Shown.{shown}
-
 -- why record n can't be read, and its bytes
 pub use Rattle.record_reads.specs.Shown.{unread, record_shown}
 
