@@ -15,9 +15,10 @@ use Rattle.filecalls.specs.Leaves.{size_leaves}
 use Rattle.record_reads.specs.Shown.{record_shown}
 -- the random read of record n into a buffer of zeros, and all that it leaves
 unfoldable pub use Rattle.record_reads.specs.Shown.{shown}
--- why record n can't be read, and its bytes
+-- why record n can't be read
 pub use Rattle.record_reads.specs.Shown.{unread}
 
+-- its bytes
 abbrev pub record_of : Drive → List ℕ → List ℕ → ℕ → List ℕ
 record_of d v f n = record_shown d v f n
 
