@@ -1,35 +1,22 @@
--- What a read and a write of the file calls leave, as the desk asks for it; and what a rewriting stores.
-use mathlib.Core.Path.{◌≡◌, refl, ap, ◌∙◌}
+-- What a write of the file calls leaves, as the desk asks for it; and what a rewriting stores.
+use mathlib.Core.Path.{◌≡◌, refl, ap}
 use mathlib.Core.Bool.{Bool, true, false, cond}
 use mathlib.Core.List.{List}
 use Prim.Native.Nat.{ℕ, ◌/◌, ◌%◌, ◌≤◌}
 use native.Mathlib.Omega.{arith}
-use lib.ListN.{length, replicate}
+use lib.ListN.{length}
 use Rattle.disk_stores.specs.Stores.{laid}
 use Rattle.call_fcb.specs.Fcb.{with_random}
-use Rattle.call_answers.specs.declared.Refusal.{Refusal}
-use Rattle.call_answers.specs.Answer.{why_of}
 use Rattle.filecalls.specs.declared.Drive.{Drive}
-use Rattle.filecalls.specs.declared.Reply.{Reply}
-use Rattle.filecalls.specs.Outcome.{Act, deny, done, act_stores, Outcome, outcome, left}
-use Rattle.filecalls.specs.Leaves.{read_random_leaves}
+use Rattle.filecalls.specs.Outcome.{Act, deny, done, act_stores, outcome}
 use Rattle.filecalls.specs.Write.{write_direct_act, write_random_act}
 use Rattle.filecalls.specs.Stores.{Cut, cut_outcome}
 use Rattle.filecalls.specs.Rewrite.{rewritten_bytes}
 use Rattle.filecalls.proofs.EnoughLaws.{direct_enough}
-use Rattle.desk.specs.Records.{shown, unread, record_shown, with_siglum, written, rewritten}
+use Rattle.desk.specs.Records.{shown, record_shown, with_siglum, written, rewritten}
 use Rattle.desk.specs.Replace.{rewrite_if}
 use Rattle.desk.specs.Stores.{written_stores, rewritten_stores, stores_if}
 use Rattle.desk.specs.CodeDesk.{Stored}
-
-pub shows : (d : Drive) (v f : List ℕ) (n : ℕ) (r : Reply) {why : Refusal} {k : ℕ} {copy b f' b' : List ℕ}
-    → copy ≡ with_random f n → b ≡ replicate k 0 → k ≡ 128 → left r v f' b' ≡ read_random_leaves d v copy b → why ≡ why_of r.answer
-    → (why ≡ unread d v f n) × (b' ≡ record_shown d v f n)
-unfolding shown
-shows d v f n r {why} {k} {copy} {b} {f'} {b'} e z l h w =
-    let y : b ≡ replicate 128 0 = z ∙ ap (λ (m : ℕ). replicate m 0) l in
-    let o : left r v f' b' ≡ read_random_leaves d v (with_random f n) (replicate 128 0) = rw (e, y) at h in
-    (w ∙ ap (λ (x : Outcome). why_of x.answer) o, ap (λ (x : Outcome). x.buffer) o)
 
 -- a record read and written again with another siglum, as long as a store is left
 pub rewrites : (d : Drive) (v f : List ℕ) (n siglum most : ℕ) {low high : ℕ} {copy : List ℕ} {x : Cut} → copy ≡ with_random f n

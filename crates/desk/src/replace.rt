@@ -24,7 +24,7 @@ fn sift(front: Front, volume: &[u8], fcb: &[u8], siglum: u16, k: usize, marks: &
 {
     let mut buffer = [0u8; Geometry::RECORD_BYTES];
     for n in 1..k + 1 {
-        if !call_answers::is_none(records::show(front, volume, fcb, n, &mut buffer)) {
+        if !call_answers::is_none(record_reads::show(front, volume, fcb, n, &mut buffer)) {
             return false;
         }
         marks[n] = numbers::two_at(&buffer, 0) == usize::from(siglum);
@@ -93,7 +93,7 @@ fn plan(
 {
     passed(front.change_why(volume, fcb))?;
     let mut s = [0u8; Geometry::RECORD_BYTES];
-    passed(records::show(front, volume, fcb, 0, &mut s))?;
+    passed(record_reads::show(front, volume, fcb, 0, &mut s))?;
     plan_in(front, volume, fcb, &s, chapter, old, marks)
 }
 

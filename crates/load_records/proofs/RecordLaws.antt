@@ -36,15 +36,6 @@ use Rattle.load_records.specs.CodeReading.{short_why}
 zeros : {k : ℕ} {b : List ℕ} → b ≡ replicate k 0 → k ≡ record_bytes → b ≡ replicate record_bytes 0
 zeros z l = z ∙ ap (λ (m : ℕ). replicate m 0) l
 
-pub shows : (d : Drive) (v f : List ℕ) (n : ℕ) {r : Reply} {why : Refusal} {k : ℕ} {copy b f' b' : List ℕ}
-    → copy ≡ with_random f n → b ≡ replicate k 0 → k ≡ record_bytes → left r v f' b' ≡ read_random_leaves d v copy b → why ≡ why_of r.answer
-    → (why ≡ unread d v f n) × (b' ≡ record_of d v f n)
-unfolding shown
-shows d v f n {r} {why} {k} {copy} {b} {f'} {b'} e z l h w =
-    let y = zeros z l in
-    let o : left r v f' b' ≡ read_random_leaves d v (with_random f n) (replicate record_bytes 0) = rw (e, y) at h in
-    (w ∙ ap (λ (x : Outcome). why_of x.answer) o, ap (λ (x : Outcome). x.buffer) o)
-
 pub sizes : (d : Drive) (v f : List ℕ) {r : Reply} {why : Refusal} {copy f' : List ℕ}
     → copy ≡ f → left r v f' [] ≡ size_leaves d v copy → why ≡ why_of r.answer → (why ≡ unsized d v f) × (f' ≡ (measured d v f).fcb)
 unfolding measured

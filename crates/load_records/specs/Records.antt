@@ -1,29 +1,26 @@
 -- A file as the file calls show it: "after those of random reads of record 0 and all records below the file's size". The control
 -- block f is copied and its r bytes are set to the record's number: "r bytes, ex, s2 and cr of the control block are not looked
 -- at". Record 0 is read first, then the size is asked, then each record below it is read.
-use Rattle.std.specs.Prelude.{List, ℕ, zero, suc, ◌-◌, replicate}
+use Rattle.std.specs.Prelude.{List, ℕ, zero, suc, ◌-◌}
 use Rattle.joined.specs.Joined.{joined}
 use Rattle.numbers.specs.Numbers.{three}
-use Rattle.disk_geometry.specs.Geometry.{record_bytes}
-use Rattle.call_fcb.specs.Fcb.{R0, with_random}
+use Rattle.call_fcb.specs.Fcb.{R0}
 use Rattle.call_answers.specs.declared.Refusal.{Refusal}
 use Rattle.call_answers.specs.declared.Refusal.TheVariants.{None}
 use Rattle.call_answers.specs.Refusal.{first}
 use Rattle.call_answers.specs.Answer.{why_of}
 use Rattle.filecalls.specs.declared.Drive.{Drive}
 use Rattle.filecalls.specs.Outcome.{Outcome}
-use Rattle.filecalls.specs.Leaves.{read_random_leaves, size_leaves}
-
+use Rattle.filecalls.specs.Leaves.{size_leaves}
+use Rattle.record_reads.specs.Shown.{record_shown}
 -- the random read of record n into a buffer of zeros, and all that it leaves
-unfoldable pub shown : Drive → List ℕ → List ℕ → ℕ → Outcome
-shown d v f n = read_random_leaves d v (with_random f n) (replicate record_bytes 0)
+unfoldable pub use Rattle.record_reads.specs.Shown.{shown}
+-- why record n can't be read
+pub use Rattle.record_reads.specs.Shown.{unread}
 
--- why record n can't be read, and its bytes
-abbrev pub unread : Drive → List ℕ → List ℕ → ℕ → Refusal
-unread d v f n = why_of (shown d v f n).answer
-
+-- its bytes
 abbrev pub record_of : Drive → List ℕ → List ℕ → ℕ → List ℕ
-record_of d v f n = (shown d v f n).buffer
+record_of d v f n = record_shown d v f n
 
 -- the file's size by function 35, and why it is refused
 unfoldable pub measured : Drive → List ℕ → List ℕ → Outcome

@@ -5,7 +5,7 @@ ghost use Rattle.std.specs.Prelude.{◌≡◌, ◌+◌, ◌-◌, ◌*◌, ◌≤
 ghost use Rattle.lists.specs.Bytes.{part};
 ghost use Rattle.disk_geometry.specs.Geometry.{record_bytes};
 ghost use Rattle.numbers.specs.Numbers.{three};
-ghost use Rattle.call_fcb.specs.Fcb.{R0, fcb_bytes, with_random};
+ghost use Rattle.call_fcb.specs.Fcb.{R0, fcb_bytes};
 ghost use Rattle.load_records.specs.Records.{unread, record_of, unsized, records, first_from, image_records, image};
 ghost use Rattle.load_records.specs.CodeReading.{bare, short_why, AllRead, RestRead};
 
@@ -49,28 +49,6 @@ struct File<'a> {
 }
 
 impl<'a> File<'a> {
-    // The control block with n as its record, in a copy.
-    fn point(&self, n: usize, copy: &mut [u8])
-        requires { (length copy.old ≡ fcb_bytes) × (n < 16777216) }
-        ensures { copy.new ≡ with_random self.now.fcb.now n }
-    {
-        copy.copy_from_slice(self.fcb);
-        call_fcb::set_random(copy, n);
-    }
-
-    // Reads record n.
-    fn show(&self, n: usize, buffer: &mut [u8]) -> Refusal
-        requires { (n < 16777216) × (length buffer.old ≡ record_bytes) }
-        ensures { (result ≡ unread (bare self.now.front) self.now.volume.now self.now.fcb.now n)
-            × (buffer.new ≡ record_of (bare self.now.front) self.now.volume.now self.now.fcb.now n) }
-    {
-        let mut copy = [0u8; FCB_BYTES];
-        self.point(n, &mut copy);
-        buffer.fill(0);
-        let r = self.front.read_random(self.volume, &mut copy, buffer);
-        call_answers::why_of(r.answer)
-    }
-
     // The file's size in records.
     fn measure(&self) -> Seen
         ensures { (result.why ≡ unsized (bare self.now.front) self.now.volume.now self.now.fcb.now)
@@ -95,7 +73,7 @@ impl<'a> File<'a> {
     {
         let mut buffer = [0u8; Geometry::RECORD_BYTES];
         for n in 1..records {
-            let why = self.show(n, &mut buffer);
+            let why = record_reads::show(self.front, self.volume, self.fcb, n, &mut buffer);
             if !call_answers::is_none(why) {
                 return why;
             }
@@ -124,7 +102,7 @@ impl<'a> File<'a> {
             ≡ part (record_of (bare self.now.front) self.now.volume.now self.now.fcb.now n) from (length out.old) }
     {
         let mut buffer = [0u8; Geometry::RECORD_BYTES];
-        self.show(n, &mut buffer);
+        record_reads::show(self.front, self.volume, self.fcb, n, &mut buffer);
         let to = from + out.len();
         out.copy_from_slice(&buffer[from..to]);
     }
@@ -140,7 +118,7 @@ pub fn read_all(front: Front, volume: &[u8], fcb: &[u8], header: &mut [u8]) -> S
         return Seen { why, records: 0 };
     }
     let file = File { front, volume, fcb };
-    let first = file.show(0, header);
+    let first = record_reads::show(front, volume, fcb, 0, header);
     if !call_answers::is_none(first) {
         return Seen {
             why: first,

@@ -1,6 +1,7 @@
 -- The bytes of the record that are asked for.
 use Rattle.lists.specs.Bytes.{part}
 use native.Mathlib.Omega.{arith}
+use mathlib.Core.List.{[]}
 use lib.ListN.{length}
 use Prim.Native.Nat.{◌+◌, ◌-◌}
 use mathlib.Core.Path.{◌≡◌, ◌∙◌}
@@ -11,4 +12,4 @@ unfolding part
 returns c =
     let a = c.args in
     let z : a.from + length a.out.now - a.from ≡ length a.out.now = omega arith in
-    c.copy_from_slice.ensures.after ∙ rw (z, c.show.ensures.1)
+    c.copy_from_slice.ensures.after ∙ rw (z, (c.show.ensures []).1)

@@ -1,0 +1,2 @@
+-- The law of a record read.
+pub mod ShowLaws

@@ -1,0 +1,2 @@
+-- A record of a file, as the file calls show it.
+pub mod Shown
