@@ -1,5 +1,5 @@
 // A call that is cut off: done over copies of control block and buffer, since the machine that would see them is gone.
-ghost use Rattle.std.specs.Prelude.{◌≡◌, true, ◌+◌, ◌*◌, ◌≤◌, ◌<◌, min, length};
+ghost use Rattle.std.specs.Prelude.{◌≡◌, true, ◌+◌, ◌*◌, ◌≤◌, min, length};
 ghost use Rattle.call_fcb.specs.Fcb.{fcb_bytes};
 ghost use Rattle.call_served.specs.Asked.{asked};
 ghost use Rattle.filecalls.specs.State.{is_open};
@@ -13,6 +13,7 @@ ghost use Rattle.seam_calls.specs.CodeSeam.{refusal_told, CutOpen};
 use crate::{Told, call_most};
 use call_fcb::FCB_BYTES;
 use disk_geometry::Geometry;
+use seam_words::halves;
 
 // The bytes of the longest buffer that a call is lent: sixteen records.
 const BUFFER_BYTES: usize = 16 * Geometry::RECORD_BYTES;
@@ -37,13 +38,13 @@ fn buffer_lent(n: usize) -> usize
 }
 
 // The number of the refusal, 0 where the call is not refused.
-fn refusal_told(told: Told) -> u32
-    ensures { (result ≡ refusal_told told) × (result < 65536) }
+fn refusal_told(told: Told) -> u16
+    ensures { result ≡ refusal_told told }
 {
     if told.done {
         return 0;
     }
-    told.answer % 65536
+    (told.answer % 65536) as u16
 }
 
 // The call as long as a store is left, with copies that are lent to it. Answers the number of its refusal, 0 where it is not
@@ -58,13 +59,12 @@ fn cut_with(
     buffer: &[u8],
     buffer_copy: &mut [u8],
     left: &mut usize,
-) -> u32
+) -> u16
     requires drive_value { is_open (decoded drive.old) ≡ true }
     requires fcb_copy_len { length fcb_copy.old ≡ length fcb.now }
     requires buffer_copy_len { length buffer_copy.old ≡ length buffer.now }
-    ensures cut_open { CutOpen left.old (asked function parameter fcb.now buffer.now)
+    ensures { CutOpen left.old (asked function parameter fcb.now buffer.now)
         (decoded drive.old) volume.old volume.new left.new result }
-    ensures upper_bound { result < 65536 }
 {
     fcb_copy.copy_from_slice(fcb);
     buffer_copy.copy_from_slice(buffer);
@@ -122,6 +122,6 @@ pub(crate) fn cut_open(
         &mut buffer_copy[0..m],
         &mut left,
     );
-    let made = (most - left) as u32;
-    refusal + 65536 * made
+    let made = (most - left) as u16;
+    halves(refusal, made)
 }

@@ -9,13 +9,7 @@ ghost use Rattle.seam_desk.specs.Sigla.{replaced, replace_at_seam, start_of, in_
 use desk_manuscripts::{LINE_BYTES, NAME_AT, Place, Unexplained};
 use disk_held::WORDS;
 use filecalls::Drive;
-
-// One in the high 16 bits of an answer of 32; one in the next 16 bits of an answer of 64, and one in its high 32.
-const VALUE: u32 = 65536;
-
-const HOUSE: u64 = 65536;
-
-const START: u64 = 4294967296;
+use seam_words::{halves, with_high};
 
 // From where on a place in a list has more than 32 bits.
 const PLACES: usize = 4294967296;
@@ -39,14 +33,6 @@ fn state(drive: &[u8]) -> Drive
     }
 }
 
-// A number and the value beside it as one: the number in the low 16 bits, the value in the high 16.
-fn halves(low: u8, high: usize) -> u32
-    requires { high < 65536 }
-    ensures { result ≡ low + 65536 * high }
-{
-    u32::from(low) + VALUE * (high as u32)
-}
-
 // Replaces a siglum by another in one chapter of a collation file. A present record is rewritten in its place, so the drive stays as
 // given.
 pub fn replace_siglum(
@@ -62,7 +48,9 @@ pub fn replace_siglum(
 {
     let d = state(drive);
     let reply = desk::replace::replace(d, volume, fcb, chapter, old, new);
-    halves(desk::number(reply.answer), desk::value(reply.answer))
+    let number = u16::from(desk::number(reply.answer));
+    let matching = desk::value(reply.answer) as u16;
+    halves(number, matching)
 }
 
 // Is the list too long for its places?
@@ -72,12 +60,12 @@ fn is_too_long(list: &[u8]) -> bool
     PLACES <= list.len()
 }
 
-// Where the name begins in line i, in the high 32 bits.
-fn high(i: usize) -> u64
+// Where the name begins in line i.
+fn start(i: usize) -> u32
     requires { i * line_bytes + name_at < in_high }
-    ensures { result ≡ in_high * (i * line_bytes + name_at) }
+    ensures { result ≡ i * line_bytes + name_at }
 {
-    START * ((i * LINE_BYTES + NAME_AT) as u64)
+    (i * LINE_BYTES + NAME_AT) as u32
 }
 
 // Where a siglum is explained as one number: the answer's number, which list, and where the name begins.
@@ -86,8 +74,8 @@ fn told(place: Result<Place, Unexplained>) -> u64
     ensures { result ≡ sealed_where place }
 {
     match place {
-        Ok(Place::Own(i)) => high(i),
-        Ok(Place::House(j)) => HOUSE + high(j),
+        Ok(Place::Own(i)) => with_high(halves(0, 0), start(i)),
+        Ok(Place::House(j)) => with_high(halves(0, 1), start(j)),
         Err(why) => u64::from(u8::from(why)),
     }
 }

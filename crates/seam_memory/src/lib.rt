@@ -7,23 +7,23 @@ ghost use Rattle.loading.specs.Load.{value_of};
 ghost use Rattle.seam_memory.specs.Load.{load_answered, started, load_at_seam};
 
 use loading::{LoadRefusal, answers};
-use seam_words::wide;
+use seam_words::halves;
 
 // Load's answer as one number: its number in the low 16 bits, the paragraph of the base page in the high 16.
 fn seal_load(a: Result<usize, LoadRefusal>) -> u32
     requires { value_of a < 65536 }
     ensures { result ≡ load_answered a }
 {
-    let number = wide(answers::number(a));
-    let value = answers::value(a) as u32;
-    number + 65536 * value
+    let number = u16::from(answers::number(a));
+    let value = answers::value(a) as u16;
+    halves(number, value)
 }
 
 // Does a memory call over control block and table, in a memory of so many bytes.
 pub fn memory_call(function: u8, mcb: &mut [u8], table: &mut [u8], bytes: usize) -> u32
     ensures { over result mcb.new table.new ≡ memory_over function mcb.old table.old bytes }
 {
-    wide(memory_bytes::memory_call(function, mcb, table, bytes))
+    u32::from(memory_bytes::memory_call(function, mcb, table, bytes))
 }
 
 // Loads the CMD file that the control block names into the memory; the paragraph of the base page is the value.

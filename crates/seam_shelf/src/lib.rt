@@ -6,7 +6,7 @@ ghost use Rattle.disk_geometry.specs.Geometry.{geometry_of, with_placing};
 ghost use Rattle.shelf_bytes.specs.Layout.{shelf_bytes};
 ghost use Rattle.seam_shelf.specs.Shelf.{shelved_answer, shelf_sealed, shelved_in, shelf_at_seam};
 
-use seam_words::geometry;
+use seam_words::{geometry, halves};
 use shelf_bytes::SHELF_BYTES;
 use shelf_figures::{Added, ShelfRefusal};
 
@@ -14,7 +14,9 @@ use shelf_figures::{Added, ShelfRefusal};
 fn seal_shelved(a: Result<u8, ShelfRefusal>) -> u32
     ensures { result ≡ shelved_answer a }
 {
-    u32::from(shelf_figures::shelved_number(a)) + 65536 * u32::from(shelf_figures::shelved_value(a))
+    let number = u16::from(shelf_figures::shelved_number(a));
+    let value = u16::from(shelf_figures::shelved_value(a));
+    halves(number, value)
 }
 
 // Lays the shelf back where it counted the volume.

@@ -6,16 +6,12 @@ use Rattle.gencmd_file.proofs.LengthLaws.{answer_within}
 use Rattle.seam_gencmd.specs.Gencmd.{packed, sealed_after, gencmd_at_seam}
 use Rattle.seam_gencmd.proofs.gencmd.Goals as goal
 
-pub overflow_mul-result : goal.overflow_mul-result
-overflow_mul-result c =
-    let a = c.args in
-    omega (arith, c.length_of-length.ensures, ap (λ (x : After). length_of x.answer) c.gencmd-answer.ensures, answer_within a.text.now a.out.now)
-
-pub overflow_add-result : goal.overflow_add-result
-overflow_add-result c =
+pub overflow_cast-length : goal.overflow_cast-length
+overflow_cast-length c =
     let a = c.args in
     omega (arith, c.length_of-length.ensures, ap (λ (x : After). length_of x.answer) c.gencmd-answer.ensures, answer_within a.text.now a.out.now)
 
 pub returns : goal.returns
 unfolding packed gencmd_at_seam
-returns c = rw (c.length_of-length.ensures, c.from-number.ensures, c.number.ensures) (ap sealed_after c.gencmd-answer.ensures)
+returns c =
+    rw (c.with_high.ensures, c.from-number.ensures, c.number.ensures, c.length_of-length.ensures) (ap sealed_after c.gencmd-answer.ensures)

@@ -2,4 +2,4 @@
 use Rattle.seam_memory.proofs.memory_call.Goals as goal
 
 pub returns : goal.returns
-returns c = rw c.wide.ensures.0 c.memory_call.ensures
+returns c = rw c.from.ensures c.memory_call.ensures

@@ -4,4 +4,4 @@ use Rattle.seam_shelf.proofs.seal_shelved.Goals as goal
 
 pub returns : goal.returns
 unfolding shelved_answer
-returns c = rw (c.from.ensures, c.shelved_number.ensures, c.from-2.ensures, c.shelved_value.ensures)
+returns c = rw (c.halves.ensures, c.from-number.ensures, c.shelved_number.ensures, c.from-value.ensures, c.shelved_value.ensures)

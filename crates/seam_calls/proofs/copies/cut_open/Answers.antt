@@ -15,13 +15,7 @@ cut_with-refusal-requires c =
     }
 
 pub overflow_cast-made : goal.overflow_cast-made
-overflow_cast-made c = omega (arith, made_most c.cut_with-refusal.ensures.cut_open)
-
-pub overflow_mul-result : goal.overflow_mul-result
-overflow_mul-result c = omega (arith, made_most c.cut_with-refusal.ensures.cut_open)
-
-pub overflow_add-result : goal.overflow_add-result
-overflow_add-result c = omega (arith, made_most c.cut_with-refusal.ensures.cut_open, c.cut_with-refusal.ensures.upper_bound)
+overflow_cast-made c = omega (arith, made_most c.cut_with-refusal.ensures)
 
 pub returns : goal.returns
 returns c =
@@ -30,9 +24,9 @@ returns c =
     let m = c.buffer_lent-m in
     let x : n.result - 0 ≡ n.result = omega arith in
     let y : m.result - 0 ≡ m.result = omega arith in
-    let lent = rw (x, y, n.ensures.0, m.ensures.0) at c.cut_with-refusal.ensures.cut_open in
+    let lent = rw (x, y, n.ensures.0, m.ensures.0) at c.cut_with-refusal.ensures in
     let cuts = lent_open a.function a.parameter a.fcb.now a.buffer.now lent in
     record {
       volume_after = cuts.volume_is;
-      value = cut_told cuts;
+      value = rw c.halves.ensures (cut_told cuts);
     }

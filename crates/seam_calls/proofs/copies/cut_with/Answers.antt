@@ -3,9 +3,5 @@ use Rattle.seam_calls.proofs.copies.cut_with.Goals as goal
 
 pub returns : goal.returns
 returns c =
-    let told = c.refusal_told.ensures in
     let cuts = rw (c.copy_from_slice.ensures.after, c.copy_from_slice-2.ensures.after) at (c.call_most-told.ensures.cut_open_lem c.requires.drive_value) in
-    record {
-      cut_open = rw told.0 cuts;
-      upper_bound = told.1;
-    }
+    rw c.refusal_told.ensures cuts

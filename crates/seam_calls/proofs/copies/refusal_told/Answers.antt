@@ -1,6 +1,5 @@
 -- The branches are the definition's.
-use native.Mathlib.Omega.{arith}
 use Rattle.seam_calls.proofs.copies.refusal_told.Goals as goal
 
 pub returns : goal.returns
-returns c = (rw c.if-told.false, omega arith)
+returns c = rw c.if-told.false
