@@ -122,6 +122,11 @@ rule_number RcByte = 7
 rule_number (Map rule) = map_rule_number rule
 rule_number Twin = 11
 
+-- and 0 for none
+abbrev pub number_told : Option Rule → ℕ
+number_told None = 0
+number_told (Some rule) = rule_number rule
+
 -- the rules that speak of another slot: "or in a lower slot", "no lower slot"
 abbrev pub map_rule_has_other : MapRule → Bool
 map_rule_has_other Outside = false
@@ -138,6 +143,11 @@ has_other S2Byte = false
 has_other RcByte = false
 has_other (Map rule) = map_rule_has_other rule
 has_other Twin = true
+
+-- none speaks of none
+abbrev pub other_told : Option Rule → Bool
+other_told None = false
+other_told (Some rule) = has_other rule
 
 -- ---- what holds of it
 -- the rules and log-in agree: none is broken exactly where the slot is good

@@ -5,7 +5,7 @@ ghost use Rattle.std.specs.Prelude.{◌≡◌, ◌≤◌, ◌<◌};
 ghost use Rattle.disk_geometry.specs.Geometry.{slots, places};
 ghost use Rattle.disk_volume.specs.CodeLent.{IsVolume, IsEntry};
 ghost use Rattle.disk_rules.specs.GoodSlot.{in_places, names_block};
-ghost use Rattle.disk_faults.specs.Faults.{map_rule_number, rule_number, map_rule_has_other, has_other, alone, breaks_at, place_of, slot_of, other_slot, first_broken};
+ghost use Rattle.disk_faults.specs.Faults.{map_rule_number, number_told, map_rule_has_other, other_told, alone, breaks_at, place_of, slot_of, other_slot, first_broken};
 ghost use Rattle.disk_faults.specs.CodeLadder.{entry_rule, map_fault, twin_fault, found};
 ghost use Rattle.disk_faults.specs.CodeEntryAt.{EntryAt};
 
@@ -54,20 +54,21 @@ fn map_rule_number(rule: MapRule) -> u8
     }
 }
 
-// Answers the number of a rule.
-pub fn rule_number(rule: Rule) -> u8
-    ensures { result ≡ rule_number rule }
+// Answers the number of a rule, 0 for None.
+pub fn rule_number(rule: Option<Rule>) -> u8
+    ensures { result ≡ number_told rule }
 {
     match rule {
-        Rule::UserByte => 1,
-        Rule::NameByte => 2,
-        Rule::TopBit => 3,
-        Rule::ExByte => 4,
-        Rule::S1Byte => 5,
-        Rule::S2Byte => 6,
-        Rule::RcByte => 7,
-        Rule::Map(broken) => map_rule_number(broken),
-        Rule::Twin => 11,
+        None => 0,
+        Some(Rule::UserByte) => 1,
+        Some(Rule::NameByte) => 2,
+        Some(Rule::TopBit) => 3,
+        Some(Rule::ExByte) => 4,
+        Some(Rule::S1Byte) => 5,
+        Some(Rule::S2Byte) => 6,
+        Some(Rule::RcByte) => 7,
+        Some(Rule::Map(broken)) => map_rule_number(broken),
+        Some(Rule::Twin) => 11,
     }
 }
 
@@ -81,20 +82,23 @@ fn map_rule_has_other(rule: MapRule) -> bool
     }
 }
 
-// Does the rule speak of another slot?
-pub fn has_other(rule: Rule) -> bool
-    ensures { result ≡ has_other rule }
+// Does the rule speak of another slot? None does not.
+pub fn has_other(rule: Option<Rule>) -> bool
+    ensures { result ≡ other_told rule }
 {
     match rule {
-        Rule::UserByte
-        | Rule::NameByte
-        | Rule::TopBit
-        | Rule::ExByte
-        | Rule::S1Byte
-        | Rule::S2Byte
-        | Rule::RcByte => false,
-        Rule::Map(broken) => map_rule_has_other(broken),
-        Rule::Twin => true,
+        None
+        | Some(
+            Rule::UserByte
+            | Rule::NameByte
+            | Rule::TopBit
+            | Rule::ExByte
+            | Rule::S1Byte
+            | Rule::S2Byte
+            | Rule::RcByte,
+        ) => false,
+        Some(Rule::Map(broken)) => map_rule_has_other(broken),
+        Some(Rule::Twin) => true,
     }
 }
 

@@ -27,7 +27,7 @@ fn lay_refusal(line: &mut [u8], why: Refusal) -> usize
 {
     let mut w = Writer::new(line, 0);
     w.bytes(b"REFUSED ");
-    w.decimal(usize::from(gencmd_lines::number_of(why)));
+    w.decimal(usize::from(gencmd_lines::number_of(Some(why))));
     w.byte(b'\n');
     w.at()
 }

@@ -1,10 +1,9 @@
 -- What becomes of the texts: whole files, byte by byte, over a buffer full of EEH; and the number of each refusal at its border.
-use Rattle.std.specs.Prelude.{◌≡◌, refl, Option, Some, None, Ok, Err, List, [], ◌∷◌, ◌++◌, ℕ, replicate}
+use Rattle.std.specs.Prelude.{◌≡◌, refl, Ok, Err, List, [], ◌∷◌, ◌++◌, ℕ, replicate}
 use Rattle.lists.specs.Bounded.{every_from}
 use Rattle.numbers.specs.Numbers.{bytes_of}
-use Rattle.gencmd_lines.specs.declared.Refusal.{Refusal}
 use Rattle.gencmd_lines.specs.declared.Refusal.TheVariants.{Room}
-use Rattle.gencmd_lines.specs.Refusal.{refusal_number}
+use Rattle.gencmd_lines.specs.Refusal.{told}
 use Rattle.gencmd_lines.specs.Digits.{digit_of, line_byte}
 use Rattle.gencmd_lines.specs.Line.{is_spelled, sum_from, sum_of, group_of_type, data_refusal, line_refusal}
 use Rattle.gencmd_lines.specs.Lines.{lines_of, lines_in, lines_from, lines_refusal, data_lines}
@@ -41,11 +40,6 @@ four_file =
     ++ (zeros 16 ++ ((0x33 ∷ []) ++ (zeros 15
     ++ (zeros 15 ++ ((0x44 ∷ [])
     ++ zeros 48)))))))))))
-
--- the number of a refusal; 0 where there is none
-abbrev told : Option Refusal → ℕ
-told None = 0
-told (Some why) = refusal_number why
 
 -- the number for a text with a buffer of so many bytes
 abbrev number : List ℕ → ℕ → ℕ

@@ -20,7 +20,7 @@ pub fn number(answer: Result<usize, Refusal>) -> u8
 {
     match answer {
         Ok(_) => 0,
-        Err(why) => gencmd_lines::number_of(why),
+        Err(why) => gencmd_lines::number_of(Some(why)),
     }
 }
 

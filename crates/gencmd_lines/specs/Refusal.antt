@@ -20,6 +20,11 @@ refusal_number NoCode = 75
 -- "output buffer too short"
 refusal_number Room = 76
 
+-- the number of a refusal, 0 where there is none
+abbrev pub told : Option Refusal → ℕ
+told None = 0
+told (Some why) = refusal_number why
+
 -- the first of two refusals
 abbrev pub first : Option Refusal → Option Refusal → Option Refusal
 first a b = cond (is_none a) b a

@@ -3,7 +3,7 @@
 #![tactic(auto)]
 
 ghost use Rattle.std.specs.Prelude.{◌≡◌};
-ghost use Rattle.gencmd_lines.specs.Refusal.{refusal_number};
+ghost use Rattle.gencmd_lines.specs.Refusal.{told};
 
 mod digits;
 pub mod line;
@@ -21,17 +21,18 @@ pub enum Refusal {
     Room,
 }
 
-// The paper's number of a refusal.
-pub fn number_of(why: Refusal) -> u8
-    ensures { result ≡ refusal_number why }
+// The paper's number of a refusal, 0 where there is none.
+pub fn number_of(why: Option<Refusal>) -> u8
+    ensures { result ≡ told why }
 {
     match why {
-        Refusal::Digits => 70,
-        Refusal::Sum => 71,
-        Refusal::OtherType => 72,
-        Refusal::Beyond => 73,
-        Refusal::NoEnd => 74,
-        Refusal::NoCode => 75,
-        Refusal::Room => 76,
+        None => 0,
+        Some(Refusal::Digits) => 70,
+        Some(Refusal::Sum) => 71,
+        Some(Refusal::OtherType) => 72,
+        Some(Refusal::Beyond) => 73,
+        Some(Refusal::NoEnd) => 74,
+        Some(Refusal::NoCode) => 75,
+        Some(Refusal::Room) => 76,
     }
 }

@@ -34,9 +34,10 @@ fn put_rule(out: &mut [u8], broken: Option<Fault>)
 {
     match broken {
         Some(f) => {
-            let block = two_bytes(f.block);
+            let number = disk_faults::rule_number(Some(f.rule));
             let place = (f.place % 256) as u8;
-            out.copy_from_slice(&[disk_faults::rule_number(f.rule), place, block[0], block[1]]);
+            let block = two_bytes(f.block);
+            out.copy_from_slice(&[number, place, block[0], block[1]]);
         }
         None => out.fill(0),
     }
@@ -71,7 +72,7 @@ fn put_other(out: &mut [u8], g: Geometry, volume: &[u8], broken: Option<Fault>)
     ensures { out.new ≡ other_bytes g volume.now broken }
 {
     match broken {
-        Some(f) if disk_faults::has_other(f.rule) => put_owner(out, g, volume, f.other),
+        Some(f) if disk_faults::has_other(Some(f.rule)) => put_owner(out, g, volume, f.other),
         _ => out.fill(0),
     }
 }
