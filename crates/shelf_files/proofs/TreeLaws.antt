@@ -8,7 +8,7 @@ use native.Mathlib.Decide.{ℕ_discrete}
 use native.Mathlib.Numerals.{add-one}
 use native.Mathlib.Omega.{arith}
 use lib.Dec.{eqb, leb, ltb}
-use lib.ListN.{length, set, length-set}
+use lib.ListN.{length, set, length-set, replicate}
 use lib.Seq.{get_or-set_same, get_or-set_other}
 use borrow.Author.Tests.{eqb-true, eq-eqb, ne_eqb, le-leb, leb-true, ltb-true, ltb-false}
 use Rattle.lists.specs.Bytes.{byte}
@@ -16,7 +16,8 @@ use Rattle.lists.proofs.BoolLaws.{and_parts}
 use Rattle.disk_geometry.specs.declared.Geometry.{Geometry}
 use Rattle.disk_volume.specs.Directory.{slot_at}
 use Rattle.files.specs.Files.{is_listed}
-use Rattle.shelf_files.specs.CodeTree.{entry_key, bit_of, alike, is_like, low_between, way, key_word, next_in, with_next, linked_heads, linked_nodes, Heads, Nodes, Ended}
+use Rattle.shelf_files.specs.declared.Tree.{Tree}
+use Rattle.shelf_files.specs.CodeTree.{entry_key, bit_of, alike, is_like, low_between, way, key_word, next_in, with_next, linked_heads, linked_nodes, linked, Heads, Nodes, HoldsFirst, HoldsNone, Ended}
 
 -- ---- keys that begin alike
 pub alike_own : (d k : ℕ) → alike d k k ≡ true
@@ -270,10 +271,10 @@ module _ (g : Geometry) (v : List ℕ) where
     way_still : (k d : ℕ) → way g v (n + 1) k d ≡ way g v n k d
     way_still k d = ap (λ (x : ℕ). way g v x k d) (add-one n) ∙ way_other n k d (λ e l. rw other)
 
-    pub heads_still : {heads : List ℕ} → Heads g v heads n → Heads g v heads (n + 1)
+    heads_still : {heads : List ℕ} → Heads g v heads n → Heads g v heads (n + 1)
     heads_still {heads} h = record { many = h.many; begins = λ k. h.begins k ∙ sym (way_still k 0) }
 
-    pub nodes_still : {nodes : List ℕ} → Nodes g v nodes n → Nodes g v nodes (n + 1)
+    nodes_still : {nodes : List ℕ} → Nodes g v nodes n → Nodes g v nodes (n + 1)
     nodes_still {nodes} h =
         record {
           long = h.long;
@@ -285,6 +286,9 @@ module _ (g : Geometry) (v : List ℕ) where
         below : (j : ℕ) → j < n + 1 → listed j ≡ true → Dec (j ≡ n) → j < n
         below j l f (yes z) = absurd (true≢false (sym f ∙ rw z other))
         below j l f (no k) = omega arith
+
+    pub holds_still : {tree : Tree} → HoldsFirst g v tree n → HoldsFirst g v tree (n + 1)
+    holds_still h = record { begin = heads_still h.begin; go_on = nodes_still h.go_on }
 
   -- a way that begins nowhere is nowhere
   way_none : (n k d : ℕ) → way g v n k 0 ≡ 0 → way g v n k d ≡ 0
@@ -316,7 +320,7 @@ module _ (g : Geometry) (v : List ℕ) where
     way_stay : (k d j : ℕ) → way g v n k d ≡ suc j → alike (suc d) k own ≡ false → way g v (suc n) k (suc d) ≡ way g v n k (suc d)
     way_stay k d j h f = way_on (suc n) k d j (way_more n k d j h) ∙ low_other (is_like g v k (suc d)) (suc j) n (rw (new, f)) ∙ sym (way_on n k d j h)
 
-    pub heads_new : {heads : List ℕ} → Heads g v heads n → way g v n own 0 ≡ 0 → Heads g v (set heads (own % 256) (n + 1)) (n + 1)
+    heads_new : {heads : List ℕ} → Heads g v heads n → way g v n own 0 ≡ 0 → Heads g v (set heads (own % 256) (n + 1)) (n + 1)
     unfolding way alike
     heads_new {heads} h e = record { many = length-set heads (own % 256) (n + 1) ∙ h.many; begins = λ k. rw (add-one n) (at k (ℕ_discrete (k % 256) (own % 256))) }
       where
@@ -329,7 +333,7 @@ module _ (g : Geometry) (v : List ℕ) where
             get_or-set_other heads (own % 256) (k % 256) (suc n) 0 q ∙ h.begins k
             ∙ sym (low_other (is_like g v k 0) 0 n (rw (new, ne_eqb (k % 256) (own % 256) q)))
 
-    pub heads_kept : {heads : List ℕ} → Heads g v heads n → (d l : ℕ) → way g v n own d ≡ suc l → Heads g v heads (n + 1)
+    heads_kept : {heads : List ℕ} → Heads g v heads n → (d l : ℕ) → way g v n own d ≡ suc l → Heads g v heads (n + 1)
     unfolding way alike
     heads_kept {heads} h d l e = record { many = h.many; begins = λ k. h.begins k ∙ rw (add-one n) (at k (ℕ_discrete (k % 256) (own % 256)) (way g v n own 0) refl) }
       where
@@ -406,7 +410,7 @@ module _ (g : Geometry) (v : List ℕ) where
               rw (there j (sym z)) (next_other (bit_of d k) bit (n + 1) (byte nodes j) (omega arith) (omega (arith, turns)) apart (omega arith) none)
               ∙ old.goes_on k d j h ∙ sym (way_stay k d j h (rw (begin, e)))
 
-      pub nodes_new : length after ≡ 2048 → Nodes g v after (n + 1)
+      nodes_new : length after ≡ 2048 → Nodes g v after (n + 1)
       nodes_new long = record { long = long; goes_on = λ k d j e. rw (add-one n) (on k d j (rw (add-one n) at e)); keyed = λ j l f. key j l f (ℕ_discrete j n) (ℕ_discrete (suc j) last); unset = λ j l. blank j l (ℕ_discrete (suc j) last) }
         where
           on : (k d j : ℕ) → way g v (suc n) k d ≡ suc j → next_in (bit_of d k) (byte after j) ≡ way g v (suc n) k (suc d)
@@ -451,14 +455,14 @@ module _ (g : Geometry) (v : List ℕ) where
           let z : last ≡ suc (last - 1) = omega arith in
           rw (end.turn some) (old.goes_on own end.depth (last - 1) (end.at some ∙ z) ∙ end.none some)
 
-      pub linked_heads_lem : {heads : List ℕ} → Heads g v heads n → Heads g v (linked_heads heads own last n) (n + 1)
+      linked_heads_lem : {heads : List ℕ} → Heads g v heads n → Heads g v (linked_heads heads own last n) (n + 1)
       linked_heads_lem {heads} h = go last refl
         where
           go : (l : ℕ) → last ≡ l → Heads g v (linked_heads heads own last n) (n + 1)
           go zero z = rw z (heads_new h (end.bare z))
           go (suc l) z = rw (ne_eqb last 0 (omega arith)) (heads_kept h end.depth l (end.at (omega arith) ∙ z))
 
-      pub linked_nodes_lem : {nodes : List ℕ} → Nodes g v nodes n → Nodes g v (set (linked_nodes nodes last bit n) n (key_word own)) (n + 1)
+      linked_nodes_lem : {nodes : List ℕ} → Nodes g v nodes n → Nodes g v (set (linked_nodes nodes last bit n) n (key_word own)) (n + 1)
       linked_nodes_lem {nodes} old = nodes_new nodes (set linked n (key_word own)) last bit old end own_word there others (length-set linked n (key_word own) ∙ long)
         where
           linked : List ℕ
@@ -488,10 +492,25 @@ module _ (g : Geometry) (v : List ℕ) where
               go (yes z) = rw z
               go (no z) = rw (ne_eqb last 0 z) (get_or-set_other nodes (last - 1) j (with_next bit (n + 1) (byte nodes (last - 1))) 0 (omega arith))
 
-  -- ---- nothing passed yet
-  pub no_heads : (heads : List ℕ) → length heads ≡ 256 → ((c : ℕ) → byte heads c ≡ 0) → Heads g v heads 0
-  unfolding way low_between
-  no_heads heads l z = record { many = l; begins = λ k. z (k % 256) }
+      pub holds_linked : {tree : Tree} → HoldsFirst g v tree n
+          → (let t = linked tree own last bit n in HoldsFirst g v (record { heads = t.heads; nodes = set t.nodes n (key_word own) }) (n + 1))
+      holds_linked h = record { begin = linked_heads_lem h.begin; go_on = linked_nodes_lem h.go_on }
 
-  pub no_nodes : (nodes : List ℕ) → length nodes ≡ 2048 → ((c : ℕ) → byte nodes c ≡ 0) → Nodes g v nodes 0
-  no_nodes nodes l z = record { long = l; goes_on = λ k d j e. absurd (omega (arith, (on_way 0 k d j e).below)); keyed = λ j h f. absurd (omega arith); unset = λ j h. z j }
+-- ---- nothing passed yet
+all_zero : (n c : ℕ) → byte (replicate n 0) c ≡ 0
+all_zero zero c = refl
+all_zero (suc n) zero = refl
+all_zero (suc n) (suc c) = all_zero n c
+
+pub holds_none : HoldsNone (record { heads = replicate 256 0; nodes = replicate 2048 0 })
+unfolding way low_between
+holds_none g v =
+    record {
+      begin = record { many = refl; begins = λ k. all_zero 256 (k % 256) };
+      go_on = record {
+        long = refl;
+        goes_on = λ k d j e. absurd (omega (arith, (on_way g v 0 k d j e).below));
+        keyed = λ j h f. absurd (omega arith);
+        unset = λ j h. all_zero 2048 j;
+      };
+    }

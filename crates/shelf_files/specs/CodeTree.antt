@@ -9,6 +9,7 @@ use Rattle.disk_volume.specs.Name.{name_of}
 use Rattle.disk_volume.specs.Entry.{Entry}
 use Rattle.disk_volume.specs.Directory.{slot_at}
 use Rattle.files.specs.Files.{is_listed}
+use Rattle.shelf_files.specs.declared.Tree.{Tree}
 
 -- how many chains there are, slots of the largest directory, and keys
 abbrev pub CHAINS : ℕ
@@ -97,6 +98,14 @@ pub record Nodes (g : Geometry) (v nodes : List ℕ) (n : ℕ) : Type 0 where
   pub keyed : (j : ℕ) → j < n → is_listed g v (slot_at g v j) j ≡ true → byte nodes j / KEYED ≡ entry_key (slot_at g v j) / WORDS
   pub unset : (j : ℕ) → n ≤ j → byte nodes j ≡ 0
 
+-- the tree of the slots below n, and one in which no slot is yet
+pub record HoldsFirst (g : Geometry) (v : List ℕ) (tree : Tree) (n : ℕ) : Type 0 where
+  pub begin : Heads g v tree.heads n
+  pub go_on : Nodes g v tree.nodes n
+
+abbrev pub HoldsNone : Tree → Type 0
+HoldsNone tree = (g : Geometry) (v : List ℕ) → HoldsFirst g v tree 0
+
 -- the way of key k ends: at no slot, or at `last` (1 and the slot), behind which it would go on by `bit`
 pub record Ended (g : Geometry) (v : List ℕ) (n k last bit : ℕ) : Type 0 where
   pub bare : last ≡ 0 → way g v n k 0 ≡ 0
@@ -111,3 +120,6 @@ linked_heads heads k last n = cond (eqb last 0) (set heads (k % CHAINS) (n + 1))
 
 abbrev pub linked_nodes : List ℕ → ℕ → ℕ → ℕ → List ℕ
 linked_nodes nodes last bit n = cond (eqb last 0) nodes (set nodes (last - 1) (with_next bit (n + 1) (byte nodes (last - 1))))
+
+abbrev pub linked : Tree → ℕ → ℕ → ℕ → ℕ → Tree
+linked tree k last bit n = record { heads = linked_heads tree.heads k last n; nodes = linked_nodes tree.nodes last bit n }

@@ -12,15 +12,15 @@ ghost use Rattle.disk_volume.specs.Entry.{is_empty, of_file};
 ghost use Rattle.disk_volume.specs.Directory.{slot_at};
 ghost use Rattle.disk_volume.specs.CodeLent.{IsVolume, IsName, IsEntry};
 ghost use Rattle.files.specs.Files.{is_listed};
-ghost use Rattle.shelf_files.specs.CodeTree.{CHAINS, most_slots, KEYS, KEYED, NEXT, WORDS, key_of, entry_key, way, next_in, with_next, linked_heads, linked_nodes, Heads, Nodes, Ended};
+ghost use Rattle.shelf_files.specs.CodeTree.{CHAINS, most_slots, KEYS, KEYED, NEXT, WORDS, key_of, entry_key, way, next_in, with_next, linked, HoldsFirst, HoldsNone, Ended};
 
 use disk_geometry::Geometry;
 use disk_volume::{Wanted, entry, fields, names};
 
 // How many chains there are, slots of the largest directory, and keys.
-pub const CHAINS: usize = 256;
+const CHAINS: usize = 256;
 
-pub const SLOTS: usize = 2048;
+const SLOTS: usize = 2048;
 
 const KEYS: usize = 1 << 40;
 
@@ -106,92 +106,92 @@ fn is_here(
     )
 }
 
-// Looks for an entry of this user's file of this name in the i lowest slots, along the way of its key, which begins at `first`. Nothing,
-// where it is seen; else where the way ends.
-fn follow(
-    g: Geometry,
-    volume: &[u8],
-    i: usize,
-    first: usize,
-    user: u8,
-    name: &[u8],
-    key: usize,
-    nodes: &[u32],
-) -> Option<End>
-    requires volume { IsVolume g volume.now }
-    requires i_bound { (i < slots g) × (IsName name.now × (eqb user EMPTY ≡ false)) }
-    requires key_value { (key ≡ key_of user (strip name.now)) × (first ≡ way g volume.now i key 0) }
-    requires nodes { Nodes g volume.now nodes.now i }
-    ensures { MatchOption result
-        (any i (λ j. of_file user (strip name.now) (slot_at g volume.now j)) ≡ true)
-        (λ end. (any i (λ j. of_file user (strip name.now) (slot_at g volume.now j)) ≡ false)
-        × Ended g volume.now i key end.last end.bit) }
-{
-    // A `while`, since it walks a chain of slots.
-    let mut s = first;
-    let mut rest = key / MIXED;
-    let mut last = 0;
-    let mut bit = 0;
-    while 0 < s {
-        let node = nodes[s - 1] as usize;
-        if is_here(g, volume, s - 1, node, user, name, key) {
-            return None;
+// The files of the slots passed so far: where the ways of each chain begin, and the words of the slots.
+#[derive(Drop)]
+pub struct Tree {
+    heads: [u16; CHAINS],
+    nodes: [u32; SLOTS],
+}
+
+impl Tree {
+    // No file.
+    pub fn new() -> Tree
+        ensures { HoldsNone result }
+    {
+        Tree {
+            heads: [0; CHAINS],
+            nodes: [0; SLOTS],
         }
-        last = s;
-        bit = rest % 2;
-        rest = rest / 2;
-        s = next_in(node, bit);
     }
-    Some(End { last, bit })
-}
 
-// Slot i is where a way goes on that ended: at no slot of its chain, or at `last` by `bit`.
-fn link(i: usize, key: usize, last: usize, bit: usize, heads: &mut [u16], nodes: &mut [u32])
-    requires heads_len { (length heads.old ≡ CHAINS) × (length nodes.old ≡ most_slots) }
-    requires i_lt_most_slots { (i < most_slots) × ((last ≤ i) × (0 < last → next_in bit (byte nodes.old (last - 1)) ≡ 0)) }
-    ensures heads_after { heads.new ≡ linked_heads heads.old key last i }
-    ensures nodes_after { nodes.new ≡ linked_nodes nodes.old last bit i }
-{
-    if last == 0 {
-        heads[key % CHAINS] = (i + 1) as u16;
-        return;
+    // Looks for an entry of this user's file of this name in the i lowest slots, along the way of its key. Nothing, where it is seen;
+    // else where the way ends.
+    fn follow(
+        &self,
+        g: Geometry,
+        volume: &[u8],
+        i: usize,
+        user: u8,
+        name: &[u8],
+        key: usize,
+    ) -> Option<End>
+        requires volume { IsVolume g volume.now }
+        requires i_bound { (i < slots g) × (IsName name.now × (eqb user EMPTY ≡ false)) }
+        requires key_value { key ≡ key_of user (strip name.now) }
+        requires tree { HoldsFirst g volume.now self.now i }
+        ensures { MatchOption result
+            (any i (λ j. of_file user (strip name.now) (slot_at g volume.now j)) ≡ true)
+            (λ end. (any i (λ j. of_file user (strip name.now) (slot_at g volume.now j)) ≡ false)
+            × Ended g volume.now i key end.last end.bit) }
+    {
+        // A `while`, since it walks a chain of slots.
+        let mut s = usize::from(self.heads[key % CHAINS]);
+        let mut rest = key / MIXED;
+        let mut last = 0;
+        let mut bit = 0;
+        while 0 < s {
+            let node = self.nodes[s - 1] as usize;
+            if is_here(g, volume, s - 1, node, user, name, key) {
+                return None;
+            }
+            last = s;
+            bit = rest % 2;
+            rest = rest / 2;
+            s = next_in(node, bit);
+        }
+        Some(End { last, bit })
     }
-    let node = nodes[last - 1] as usize;
-    nodes[last - 1] = with_next(node, bit, i + 1) as u32;
-}
 
-// Is the entry e, which stands in slot i, the first of its file? Then it is put where the way of its key ended.
-pub fn is_first(
-    g: Geometry,
-    volume: &[u8],
-    i: usize,
-    e: &[u8],
-    heads: &mut [u16],
-    nodes: &mut [u32],
-) -> bool
-    requires volume { IsVolume g volume.now }
-    requires i_bound { (i < slots g) × (IsEntry e.now × (e.now ≡ slot_at g volume.now i)) }
-    requires e_value { (is_empty e.now ≡ false) × (Heads g volume.now heads.old i × Nodes g volume.now nodes.old i) }
-    ensures value { result ≡ is_listed g volume.now e.now i }
-    ensures heads { Heads g volume.now heads.new (i + 1)
-        × Nodes g volume.now nodes.new (i + 1) }
-{
-    let user = e[fields::USER];
-    let key = key_of(user, &e[fields::NAME..fields::NAME_END]);
-    let first = usize::from(heads[key % CHAINS]);
-    let Some(end) = follow(
-        g,
-        volume,
-        i,
-        first,
-        user,
-        &e[fields::NAME..fields::NAME_END],
-        key,
-        nodes,
-    ) else {
-        return false;
-    };
-    link(i, key, end.last, end.bit, heads, nodes);
-    nodes[i] = (key / WORDS * KEYED) as u32;
-    true
+    // Slot i is where a way goes on that ended: at no slot of its chain, or at `last` by `bit`.
+    fn link(&mut self, i: usize, key: usize, last: usize, bit: usize)
+        requires { (i < most_slots) × ((last ≤ i) × (0 < last → next_in bit (byte self.old.nodes (last - 1)) ≡ 0)) }
+        ensures { self.new ≡ linked self.old key last bit i }
+    {
+        if last == 0 {
+            self.heads[key % CHAINS] = (i + 1) as u16;
+            return;
+        }
+        let node = self.nodes[last - 1] as usize;
+        self.nodes[last - 1] = with_next(node, bit, i + 1) as u32;
+    }
+
+    // Is the entry e, which stands in slot i, the first of its file? Then it is put where the way of its key ended.
+    pub fn is_first(&mut self, g: Geometry, volume: &[u8], i: usize, e: &[u8]) -> bool
+        requires volume { IsVolume g volume.now }
+        requires i_bound { (i < slots g) × (IsEntry e.now × (e.now ≡ slot_at g volume.now i)) }
+        requires e_value { is_empty e.now ≡ false }
+        requires tree { HoldsFirst g volume.now self.old i }
+        ensures value { result ≡ is_listed g volume.now e.now i }
+        ensures tree { HoldsFirst g volume.now self.new (i + 1) }
+    {
+        let user = e[fields::USER];
+        let name = &e[fields::NAME..fields::NAME_END];
+        let key = key_of(user, name);
+        let Some(end) = self.follow(g, volume, i, user, name, key) else {
+            return false;
+        };
+        self.link(i, key, end.last, end.bit);
+        self.nodes[i] = (key / WORDS * KEYED) as u32;
+        true
+    }
 }

@@ -6,12 +6,13 @@ ghost use Rattle.disk_geometry.specs.Geometry.{lawful, slots, records, places};
 ghost use Rattle.disk_volume.specs.CodeLent.{IsVolume, IsEntry};
 ghost use Rattle.disk_rules.specs.GoodSlot.{lowest_bad};
 ghost use Rattle.disk_rules.specs.Named.{free_of};
-ghost use Rattle.shelf_files.specs.CodeTree.{Heads, Nodes};
+ghost use Rattle.shelf_files.specs.CodeTree.{HoldsFirst};
 ghost use Rattle.shelf_holdings.specs.Holdings.{is_entry, entries, is_file, files, holdings};
 ghost use Rattle.shelf_holdings.specs.CodeEntries.{run, place_records, entry_records, slot_records, records_by_entries};
 
 use disk_geometry::Geometry;
 use disk_volume::{entry, fields};
+use shelf_files::Tree;
 
 // The figures of one volume.
 #[derive(Clone, Copy)]
@@ -68,30 +69,22 @@ fn entry_records(g: Geometry, e: &[u8]) -> usize
 }
 
 // The counts with what slot i has.
-fn add_slot(
-    g: Geometry,
-    volume: &[u8],
-    i: usize,
-    c: Counts,
-    heads: &mut [u16],
-    nodes: &mut [u32],
-) -> Counts
+fn add_slot(g: Geometry, volume: &[u8], i: usize, c: Counts, tree: &mut Tree) -> Counts
     requires volume { IsVolume g volume.now }
     requires i_bound { (i < slots g) × ((c.files ≤ i) × ((c.entries ≤ i) × (c.records ≤ 512 * i))) }
-    requires heads { Heads g volume.now heads.old i × Nodes g volume.now nodes.old i }
+    requires tree { HoldsFirst g volume.now tree.old i }
     ensures files_value { result.files ≡ c.files + cond (is_file g volume.now i) 1 0 }
     ensures entries_value { result.entries ≡ c.entries + cond (is_entry g volume.now i) 1 0 }
     ensures records_value { result.records ≡ c.records + slot_records g volume.now i }
     ensures files_bound { (result.files ≤ i + 1) × ((result.entries ≤ i + 1) × (result.records ≤ 512 * (i + 1))) }
-    ensures heads_2 { Heads g volume.now heads.new (i + 1)
-        × Nodes g volume.now nodes.new (i + 1) }
+    ensures tree_after { HoldsFirst g volume.now tree.new (i + 1) }
 {
     let at = g.slot_start(i);
     if volume[at] == fields::EMPTY {
         return c;
     }
     let e = &volume[at..at + Geometry::ENTRY_BYTES];
-    let first = shelf_files::is_first(g, volume, i, e, heads, nodes);
+    let first = tree.is_first(g, volume, i, e);
     let files = c.files + usize::from(first);
     let entries = c.entries + 1;
     let records = c.records + entry_records(g, e);
@@ -109,15 +102,14 @@ fn count(g: Geometry, volume: &[u8]) -> Counts
     ensures entries_value { result.entries ≡ entries g volume.now }
     ensures records_value { result.records ≡ records_by_entries g volume.now }
 {
-    let mut heads = [0u16; shelf_files::CHAINS];
-    let mut nodes = [0u32; shelf_files::SLOTS];
+    let mut tree = Tree::new();
     let mut c = Counts {
         files: 0,
         entries: 0,
         records: 0,
     };
     for i in 0..g.slots() {
-        c = add_slot(g, volume, i, c, &mut heads, &mut nodes);
+        c = add_slot(g, volume, i, c, &mut tree);
     }
     c
 }

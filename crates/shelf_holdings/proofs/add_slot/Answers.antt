@@ -9,7 +9,7 @@ use Rattle.disk_volume.specs.Directory.{slot_at}
 use Rattle.disk_volume.proofs.EntryLaws.{lent_slot}
 use Rattle.disk_inspection.proofs.SlotLaws.{slot_empty, slot_used}
 use Rattle.files.specs.Files.{is_listed}
-use Rattle.shelf_files.proofs.TreeLaws.{heads_still, nodes_still}
+use Rattle.shelf_files.proofs.TreeLaws.{holds_still}
 use Rattle.shelf_holdings.specs.CodeEntries.{entry_records}
 use Rattle.shelf_holdings.proofs.SlotLaws.{not_listed, no_file, no_entry_lem, no_records, one_entry, its_records, one_if}
 use borrow.Author.Rules.{rules}
@@ -25,7 +25,7 @@ returns-then-volume-at c =
       entries_value = no_entry_lem a.g a.volume.now a.i a.c.entries e;
       records_value = no_records a.g a.volume.now a.i a.c.records e;
       files_bound = (omega (arith, c.requires.i_bound), (omega (arith, c.requires.i_bound), omega (arith, c.requires.i_bound)));
-      heads_2 = (heads_still a.g a.volume.now a.i (not_listed a.g a.volume.now a.i e) c.requires.heads.0, nodes_still a.g a.volume.now a.i (not_listed a.g a.volume.now a.i e) c.requires.heads.1);
+      tree_after = holds_still a.g a.volume.now a.i (not_listed a.g a.volume.now a.i e) c.requires.tree;
     }
 
 pub is_first-first-requires : goal.is_first-first-requires
@@ -39,7 +39,8 @@ is_first-first-requires c =
     record {
       volume = c.requires.volume;
       i_bound = (c.requires.i_bound.0, (search rules, e));
-      e_value = (rw e used, (c.requires.heads.0, c.requires.heads.1));
+      e_value = rw e used;
+      tree = c.requires.tree;
     }
 
 pub overflow_add-files : goal.overflow_add-files
@@ -67,5 +68,5 @@ returns c =
       entries_value = one_entry a.g a.volume.now a.i a.c.entries used;
       records_value = ap (λ (x : ℕ). a.c.records + x) (some.0 ∙ ap (λ (x : Entry). entry_records a.g x) e ∙ its_records a.g a.volume.now a.i 0 used);
       files_bound = (omega (arith, c.requires.i_bound, (one_if c.is_first-first.result).1), (omega (arith, c.requires.i_bound), omega (arith, c.requires.i_bound, some.1)));
-      heads_2 = c.is_first-first.ensures.heads;
+      tree_after = c.is_first-first.ensures.tree;
     }

@@ -9,56 +9,50 @@ use Rattle.disk_volume.specs.Name.{name_at}
 use Rattle.disk_volume.specs.Directory.{slot_at}
 use Rattle.files.specs.Files.{is_listed}
 use Rattle.shelf_files.specs.CodeTree.{entry_key, Ended}
-use Rattle.shelf_files.proofs.TreeLaws.{heads_still, nodes_still, last_low, last_open, linked_heads_lem, linked_nodes_lem}
+use Rattle.shelf_files.proofs.TreeLaws.{holds_still, last_low, last_open, holds_linked}
 use Rattle.shelf_files.proofs.WalkLaws.{first_is}
-use Rattle.shelf_files.proofs.is_first.Goals as goal
+use Rattle.shelf_files.proofs.Tree.is_first.Goals as goal
 
 pub returns-in_default : goal.returns-in_default
 unfolding name_at part
 returns-in_default c =
     let a = c.args in
-    let seen = first_is a.g a.volume.now a.i a.e.now c.requires.i_bound.1.1 c.requires.i_bound.0 c.requires.e_value.0 ∙ ap not c.in_default.ensures in
+    let seen = first_is a.g a.volume.now a.i a.e.now c.requires.i_bound.1.1 c.requires.i_bound.0 c.requires.e_value ∙ ap not c.in_default.ensures in
     let other : is_listed a.g a.volume.now (slot_at a.g a.volume.now a.i) a.i ≡ false = rw (← c.requires.i_bound.1.1) seen in
-    record {
-      value = sym seen;
-      heads = (heads_still a.g a.volume.now a.i other c.requires.e_value.1.0, nodes_still a.g a.volume.now a.i other c.requires.e_value.1.1);
-    }
+    record { value = sym seen; tree = holds_still a.g a.volume.now a.i other c.requires.tree }
 
-pub link-requires-clause-i_lt_most_slots : goal.link-requires-clause-i_lt_most_slots
+pub link-requires : goal.link-requires
 unfolding name_at part
-link-requires-clause-i_lt_most_slots c =
+link-requires c =
     let a = c.args in
     let own : c.key_of-key.result ≡ entry_key (slot_at a.g a.volume.now a.i) = rw (← c.requires.i_bound.1.1) c.key_of-key.ensures.0 in
-    let listed : is_listed a.g a.volume.now (slot_at a.g a.volume.now a.i) a.i ≡ true = rw (← c.requires.i_bound.1.1) (first_is a.g a.volume.now a.i a.e.now c.requires.i_bound.1.1 c.requires.i_bound.0 c.requires.e_value.0 ∙ ap not c.in-Some.ensures.0) in
+    let listed : is_listed a.g a.volume.now (slot_at a.g a.volume.now a.i) a.i ≡ true = rw (← c.requires.i_bound.1.1) (first_is a.g a.volume.now a.i a.e.now c.requires.i_bound.1.1 c.requires.i_bound.0 c.requires.e_value ∙ ap not c.in-Some.ensures.0) in
     let ended : Ended a.g a.volume.now a.i (entry_key (slot_at a.g a.volume.now a.i)) c.in-Some.end.last c.in-Some.end.bit = rw own at c.in-Some.ensures.1 in
     let few : c.args.i < 2048 = omega (arith, (bounds _ c.requires.volume.0).slots_high, c.requires.i_bound.0) in
     let end = c.in-Some.end in (
       few,
       (
         last_low a.g a.volume.now a.i few listed end.last end.bit ended,
-        last_open a.g a.volume.now a.i few listed end.last end.bit ended c.requires.e_value.1.1,
+        last_open a.g a.volume.now a.i few listed end.last end.bit ended c.requires.tree.go_on,
       ),
     )
 
-pub offset_bounds-nodes-i : goal.offset_bounds-nodes-i
-offset_bounds-nodes-i c = omega (arith, (bounds _ c.requires.volume.0).slots_high, c.requires.i_bound.0)
+pub offset_bounds-self-i : goal.offset_bounds-self-i
+offset_bounds-self-i c = omega (arith, (bounds _ c.requires.volume.0).slots_high, c.requires.i_bound.0)
 
-pub bounds-nodes-i : goal.bounds-nodes-i
-bounds-nodes-i c = omega (arith, (bounds _ c.requires.volume.0).slots_high, c.requires.i_bound.0, c.requires.e_value.1.1.long)
+pub bounds-self-i : goal.bounds-self-i
+bounds-self-i c = omega (arith, (bounds _ c.requires.volume.0).slots_high, c.requires.i_bound.0)
 
 pub returns : goal.returns
 unfolding name_at part
 returns c =
     let a = c.args in
     let own : c.key_of-key.result ≡ entry_key (slot_at a.g a.volume.now a.i) = rw (← c.requires.i_bound.1.1) c.key_of-key.ensures.0 in
-    let listed : is_listed a.g a.volume.now (slot_at a.g a.volume.now a.i) a.i ≡ true = rw (← c.requires.i_bound.1.1) (first_is a.g a.volume.now a.i a.e.now c.requires.i_bound.1.1 c.requires.i_bound.0 c.requires.e_value.0 ∙ ap not c.in-Some.ensures.0) in
+    let listed : is_listed a.g a.volume.now (slot_at a.g a.volume.now a.i) a.i ≡ true = rw (← c.requires.i_bound.1.1) (first_is a.g a.volume.now a.i a.e.now c.requires.i_bound.1.1 c.requires.i_bound.0 c.requires.e_value ∙ ap not c.in-Some.ensures.0) in
     let ended : Ended a.g a.volume.now a.i (entry_key (slot_at a.g a.volume.now a.i)) c.in-Some.end.last c.in-Some.end.bit = rw own at c.in-Some.ensures.1 in
     let few : c.args.i < 2048 = omega (arith, (bounds _ c.requires.volume.0).slots_high, c.requires.i_bound.0) in
     let end = c.in-Some.end in
     record {
       value = rw c.requires.i_bound.1.1 (sym listed);
-      heads = (
-        rw (c.link.ensures.heads_after, own) (linked_heads_lem a.g a.volume.now a.i few listed end.last end.bit ended c.requires.e_value.1.0),
-        rw (c.link.ensures.nodes_after, own) (linked_nodes_lem a.g a.volume.now a.i few listed end.last end.bit ended c.requires.e_value.1.1),
-      );
+      tree = rw (c.link.ensures, own) (holds_linked a.g a.volume.now a.i few listed end.last end.bit ended c.requires.tree);
     }

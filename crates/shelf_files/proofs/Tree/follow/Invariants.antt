@@ -1,7 +1,7 @@
 -- No slot that was passed has an entry of the file; the walk goes up, so it ends.
 use Rattle.disk_volume.specs.Name.{strip}
 use Rattle.shelf_files.proofs.WalkLaws.{Walk, behind}
-use Rattle.shelf_files.proofs.follow.Given as goal
+use Rattle.shelf_files.proofs.Tree.follow.Given as goal
 
 abbrev pub invariant-loop-s : goal.invariant-loop-s
 invariant-loop-s l = Walk l.g l.volume l.user (strip l.name) l.i l.s l.rest l.last l.bit
