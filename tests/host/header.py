@@ -169,12 +169,16 @@ def memory_refusals_in(source):
     return [line for line in dict.fromkeys(lines) if not line.startswith("NOT_SERVED")]
 
 
+def multiplied(source, function, width):
+    """what the value is multiplied with, in the function that puts a number and a value together"""
+    (step,) = map(int, re.findall(rf"(?s)\bfn {function}\(number: u\d+, value.*?u{width}::from\(number\) \+ (\d+) \* u{width}::from\(value\)", source))
+    return step
+
+
 @cache
 def halves_in(source):
     """the mask of the number and the shifts of value and length, by what these are multiplied with"""
-    named = re.findall(r"(?s)const VALUE: u32 = (\d+);.*number \+ VALUE \* value", source)
-    (value,) = set(map(int, re.findall(r"number \+ (\d+) \* value", source) + named))
-    (length,) = map(int, re.findall(r"(?s)const HIGH: u64 = (\d+);.*number \+ HIGH \* \(length as u64\)", source))
+    value, length = multiplied(source, "halves", 32), multiplied(source, "with_high", 64)
     shifts = [f"{name}: >> {step.bit_length() - 1}" for name, step in (("VALUE", value), ("LENGTH", length))]
     return [f"NUMBER: & {value - 1}"] + shifts
 
@@ -182,8 +186,8 @@ def halves_in(source):
 @cache
 def told_in(source):
     """the number, which list, and where the name begins, by what these are multiplied with"""
-    (lists,) = map(int, re.findall(r"(?s)const HOUSE: u64 = (\d+);.*Place::House\(\w+\)\) => HOUSE \+ high", source))
-    (place,) = map(int, re.findall(r"(?s)const START: u64 = (\d+);.*START \* \(\(i \* LINE_BYTES", source))
+    assert re.search(r"Place::House\(\w+\)\) => with_high\(halves\(0, 1\), start", source), "the house list is told otherwise"
+    lists, place = multiplied(source, "halves", 32), multiplied(source, "with_high", 64)
     width = place // lists
     return [f"TOLD: >> 0 & {lists - 1}", f"LIST: >> {lists.bit_length() - 1} & {width - 1}", f"NAME_AT: >> {place.bit_length() - 1}"]
 
