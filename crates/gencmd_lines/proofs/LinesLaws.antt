@@ -1,12 +1,12 @@
 -- The lines of a text place by place: what a walk over the text sees. A walk stands on a colon or at the text's end.
-use Rattle.std.proofs.Common.{◌≡◌, ℕ, zero, suc, ◌+◌, ◌-◌, ◌<◌, ◌≤◌, min, Bool, true, false, cond, eqb, List, [], ◌∷◌, length, take, drop, sym, refl, ap, ◌∙◌, add-one, arith, length-drop, drop_of_length-le, take_all, drop-cons, drop-drop}
+use Rattle.std.proofs.Common.{◌≡◌, ℕ, zero, suc, ◌+◌, ◌-◌, ◌<◌, ◌≤◌, min, Bool, true, false, cond, eqb, Some, List, [], ◌∷◌, length, take, drop, sym, refl, ap, ◌∙◌, add-one, arith, length-drop, drop_of_length-le, take_all, drop-cons, drop-drop}
 use native.Mathlib.Decide.{dec_lt}
 use Rattle.lists.specs.Bytes.{byte}
 use Rattle.lists.specs.Bounded.{low_from}
 use Rattle.lists.proofs.BoundedLaws.{low_le, low_hit}
 use Rattle.gencmd_lines.specs.Line.{Line, digits_in}
 use Rattle.gencmd_lines.specs.Lines.{colon, lines_from}
-use Rattle.gencmd_lines.specs.CodeWalk.{is_colon, next_colon, next_line, lines_at}
+use Rattle.gencmd_lines.specs.CodeWalk.{is_colon, next_colon, next_line, behind, lines_at}
 
 -- a line as the code lends it: the text behind place p
 abbrev pub lent_line : List ℕ → ℕ → Line
@@ -91,6 +91,16 @@ module _ (t : List ℕ) (at : ℕ) (w : Walk t at) (h : at < length t) where
       here t at h (w.stands h)
       ∙ ap (λ (ls : List Line). drop (at + 1) t ∷ ls) (cut t (at + 1 + digits_in (drop (at + 1) t)) ∙ lines_next_colon t _ (omega arith))
       ∙ ap (λ (l : Line). l ∷ lines_at t (next_line t at)) (sym (lent t at))
+
+-- where the text ends, so does the search
+pub next_colon_end : (t : List ℕ) → next_colon t (length t) ≡ length t
+unfolding next_colon low_from
+next_colon_end t = let z : length t - length t ≡ 0 = omega arith in rw z
+
+-- behind a line stand the lines from the next colon on
+pub lines_behind : (t : List ℕ) (at : ℕ) → lines_at t (behind t (Some at)) ≡ lines_at t (next_line t at)
+unfolding next_line
+lines_behind t at = lines_next_colon t (behind t (Some at)) (omega arith)
 
 -- the next line's place, as the code works it out
 pub next_line_by : (t : List ℕ) (at n from : ℕ) → n ≡ digits_in (lent_line t at) → from ≡ min (at + 1 + n) (length t) → next_colon t from ≡ next_line t at

@@ -1,5 +1,5 @@
 -- Where a walk over a text stands: on a colon, or at the text's end.
-use Rattle.std.specs.Prelude.{ℕ, ◌+◌, ◌-◌, min, Bool, List, length, drop, ◌==◌}
+use Rattle.std.specs.Prelude.{ℕ, ◌+◌, ◌-◌, min, Bool, Option, Some, None, List, length, drop, ◌==◌}
 use Rattle.lists.specs.Bytes.{byte}
 use Rattle.lists.specs.Bounded.{low_from}
 use Rattle.gencmd_lines.specs.declared.walk.Lines.{Lines}
@@ -25,6 +25,11 @@ next_line text at = next_colon text (min (at + 1 + digits_in (drop (at + 1) text
 abbrev pub lines_at : List ℕ → ℕ → List Line
 lines_at t p = lines_from 0 (drop p t)
 
+-- the place behind the line that was taken last, the text's start where none was
+abbrev pub behind : List ℕ → Option ℕ → ℕ
+behind text None = 0
+behind text (Some at) = min (at + 1 + digits_in (drop (at + 1) text)) (length text)
+
 -- those that are still to come
 abbrev pub left : Lines → List Line
-left w = lines_at w.text.now w.at
+left w = lines_at w.text.now (behind w.text.now w.at)

@@ -2,16 +2,17 @@
 ghost use Rattle.std.specs.Prelude.{◌≡◌, ◌<◌, length};
 ghost use Rattle.std.specs.Iterator.{YieldsFirstRef, item_count};
 ghost use Rattle.gencmd_lines.specs.Lines.{lines_of};
-ghost use Rattle.gencmd_lines.specs.CodeWalk.{next_colon, next_line, left};
+ghost use Rattle.gencmd_lines.specs.CodeWalk.{next_colon, next_line, behind, left};
 
 use crate::line::digits_in;
 
-// The lines of a text that are still to come: those whose colons stand from a place on. Each is lent from behind its colon to the
+// The lines of a text that are still to come: those behind the line that was taken last. Each is lent from behind its colon to the
 // end of the text.
 #[derive(Clone, Copy)]
 pub struct Lines<'a> {
     text: &'a [u8],
-    at: usize,
+    // The colon of the line taken last, or the end of the text behind the last line; None before the first.
+    at: Option<usize>,
 }
 
 impl<'a> Lines<'a> {
@@ -19,7 +20,18 @@ impl<'a> Lines<'a> {
     pub fn new(text: &'a [u8]) -> Lines<'a>
         ensures { left result ≡ lines_of text.now }
     {
-        Lines { text, at: 0 }
+        Lines { text, at: None }
+    }
+
+    // Where the next line's colon stands; the end of the text where no line is left.
+    fn place(&self) -> usize
+        ensures { result ≡ next_colon self.now.text.now (behind self.now.text.now self.now.at) }
+    {
+        match self.at {
+            None => next_colon(self.text, 0),
+            Some(at) if at < self.text.len() => next_line(self.text, at),
+            Some(_) => self.text.len(),
+        }
     }
 }
 
@@ -31,11 +43,11 @@ impl<'a> Iterator for Lines<'a> {
     ghost remaining = { item_count left };
 
     fn next(&mut self) -> Option<&'a [u8]> {
-        let at = next_colon(self.text, self.at);
+        let at = self.place();
+        self.at = Some(at);
         if self.text.len() <= at {
             return None;
         }
-        self.at = next_line(self.text, at);
         Some(&self.text[at + 1..])
     }
 }
