@@ -45,15 +45,8 @@ fn hit(g: Geometry, volume: &[u8], buffer: &mut [u8], search: KeptSearch, from: 
     ensures value { result ≡ hit g volume.now search from }
     ensures buffer_after { buffer.new ≡ hit_buffer g volume.now result buffer.old }
 {
-    call_search::search::search_from(
-        g,
-        volume,
-        buffer,
-        search.kind,
-        search.user,
-        &search.pattern,
-        from,
-    )
+    let pattern = search.pattern;
+    call_search::search::search_from(g, volume, buffer, search.kind, search.user, &pattern, from)
 }
 
 impl Front {
@@ -86,10 +79,8 @@ impl Front {
             ≡ outcome (joined self held) v fcb b (search_on_act (joined self held) v fcb search from) }
     {
         if slot < self.geometry.slots() {
-            let front = Front {
-                search: kept_at(search, slot),
-                ..self
-            };
+            let mut front = self;
+            front.search = kept_at(search, slot);
             return front.done((slot % Geometry::RECORD_SLOTS) as u8);
         }
         self.refused(Refusal::NoMatch)

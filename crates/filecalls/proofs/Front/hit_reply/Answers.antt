@@ -12,7 +12,7 @@ pub returns-then-slot-slots : goal.returns-then-slot-slots
 returns-then-slot-slots c = λ (held v fcb b after : List ℕ) (from : ℕ) i e.
     let a = c.args in
     let h : a.slot < slots a.self.geometry = omega (arith, c.if-slot-slots.true, c.slots.ensures.0) in
-    hits (joined a.self held) v fcb b a.search (hit a.self.geometry v a.search from) i h e c.kept_at.ensures (c.done.ensures held)
+    hits (joined a.self held) v fcb b a.search (hit a.self.geometry v a.search from) i h e c.kept_at-front.ensures (c.done.ensures held)
 
 pub returns : goal.returns
 returns c = λ (held v fcb b after : List ℕ) (from : ℕ) i e.
