@@ -12,6 +12,11 @@ ghost use Rattle.disk_faults.specs.CodeEntryAt.{EntryAt};
 use disk_geometry::Geometry;
 use disk_volume::{Wanted, directory, entry, fields, names};
 
+// The highest user, and the records of a full extent: the most that an entry has in its bytes for them.
+const LAST_USER: u8 = 15;
+
+const FULL_EXTENT: u8 = 128;
+
 // The rules of a map's places: a block outside D to T-1, a block twice in the entry, a block in a lower slot.
 #[derive(Clone, Copy)]
 pub enum MapRule {
@@ -107,7 +112,7 @@ fn entry_rule(e: &[u8]) -> Option<Rule>
     requires { IsEntry e.now }
     ensures { result ≡ entry_rule e.now }
 {
-    if e[fields::USER] > 15 {
+    if e[fields::USER] > LAST_USER {
         return Some(Rule::UserByte);
     }
     if !names::good_name(false, &e[fields::NAME..fields::NAME_END]) {
@@ -125,7 +130,7 @@ fn entry_rule(e: &[u8]) -> Option<Rule>
     if e[fields::S2] > 15 {
         return Some(Rule::S2Byte);
     }
-    if e[fields::RC] > 128 {
+    if e[fields::RC] > FULL_EXTENT {
         return Some(Rule::RcByte);
     }
     None
@@ -281,10 +286,16 @@ impl Slot<'_> {
         if let Some(rule) = entry_rule(self.entry) {
             return Some(alone(rule));
         }
-        self.map_fault(MapRule::Outside)
-            .or(self.map_fault(MapRule::Twice))
-            .or(self.map_fault(MapRule::Lower))
-            .or(self.twin_fault())
+        if let Some(fault) = self.map_fault(MapRule::Outside) {
+            return Some(fault);
+        }
+        if let Some(fault) = self.map_fault(MapRule::Twice) {
+            return Some(fault);
+        }
+        if let Some(fault) = self.map_fault(MapRule::Lower) {
+            return Some(fault);
+        }
+        self.twin_fault()
     }
 }
 
