@@ -107,9 +107,9 @@ pub fn number(a: Result<(), Refusal>) -> u8
 pub fn is_within_rules(bytes: usize, t: Table) -> bool
     ensures { result ≡ within_rules bytes t }
 {
-    (t.used <= PLACES)
-        & (t.granted <= PLACES)
-        & memory_spans::is_lawful(bytes, t.pieces(), t.regions())
+    t.used <= PLACES
+        && t.granted <= PLACES
+        && memory_spans::is_lawful(bytes, t.pieces(), t.regions())
 }
 
 // Refused, and all as it was.

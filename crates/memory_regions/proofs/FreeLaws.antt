@@ -8,7 +8,8 @@ use native.Mathlib.Omega.{arith}
 use borrow.Author.Tests.{eqb-true, eq-eqb, ltb-true, ltb-false}
 use lib.Dec.{ltb, eqb}
 use lib.ListN.{length, get_or, take, drop}
-use Rattle.std.specs.Prelude.{Some, None}
+use Rattle.std.specs.Prelude.{Option, Some, None}
+use Rattle.std.specs.Option.{MatchOption}
 use Rattle.std.specs.List.{position_or_len}
 use Rattle.std.proofs.lemmas.List.Sums.{position_or_len_is}
 use Rattle.lists.specs.Bounded.{low_from}
@@ -117,6 +118,18 @@ pub first_found : (part : Span) (l : List Span)
     → cond (ltb (position_or_len (edge part) l) (length l)) (Some (position_or_len (edge part) l)) None
     ≡ cond (any_of (edge part) l) (Some (first_edge part l)) None
 first_found part l = rw (position_is part l, first_any part l)
+
+-- a place that is found is one of the regions; where none is, the first edge lies behind them
+pub first_place : (part : Span) (l : List Span) (o : Option ℕ) → o ≡ cond (any_of (edge part) l) (Some (first_edge part l)) None
+    → MatchOption o (length l ≤ first_edge part l) (λ at. at < length l)
+first_place part l o e = go (any_of (edge part) l) (first_any part l) o e
+  where
+    go : (t : Bool) → t ≡ ltb (first_edge part l) (length l) → (o : Option ℕ) → o ≡ cond t (Some (first_edge part l)) None
+        → MatchOption o (length l ≤ first_edge part l) (λ at. at < length l)
+    go true u (Some at) f = let g : at ≡ first_edge part l = (cc) in rw g (ltb-true (first_edge part l) (length l) (sym u))
+    go true u None f = (cc)
+    go false u (Some at) f = (cc)
+    go false u None f = ltb-false (first_edge part l) (length l) (sym u)
 
 -- all of the region is freed, or a part of it
 pub freed_whole : (part : Span) (l : List Span) (at : ℕ) → First part l at → part.length ≡ (get_or l at none).length → freed part l ≡ take at l ++ drop (suc at) l

@@ -1,7 +1,7 @@
 // The regions of a table: one added behind the others, and a part of one freed.
 #![tactic(auto)]
 
-ghost use Rattle.std.specs.Prelude.{◌≡◌, Option, Some, None, true, cond, [], ◌∷◌, ◌++◌, ◌+◌, ◌≤◌, ◌<◌, length, take, get_or};
+ghost use Rattle.std.specs.Prelude.{◌≡◌, Option, Some, None, MatchOption, true, cond, [], ◌∷◌, ◌++◌, ◌+◌, ◌≤◌, ◌<◌, length, take, get_or};
 ghost use Rattle.memory_spans.specs.Span.{places, paragraphs, none, end, any_of};
 ghost use Rattle.memory_regions.specs.Places.{places_of};
 ghost use Rattle.memory_regions.specs.Freeing.{edge, left, freed};
@@ -84,7 +84,8 @@ fn is_edge(part: Span, region: Span) -> bool
 
 // The place of the first region whose start or end the part is.
 pub fn first_edge(regions: &[Span], part: Span) -> Option<usize>
-    ensures { result ≡ cond (any_of (edge part) regions.now) (Some (first_edge part regions.now)) None }
+    ensures value { result ≡ cond (any_of (edge part) regions.now) (Some (first_edge part regions.now)) None }
+    ensures place { MatchOption result (length regions.now ≤ first_edge part regions.now) (λ at. at < length regions.now) }
 {
     regions.iter().position(|region| is_edge(part, *region))
 }

@@ -15,18 +15,18 @@ pub returns-in_default : goal.returns-in_default
 unfolding freeing_part freeable
 returns-in_default c =
     let a = c.args in
-    let e = not_found (span a.mcb.base a.mcb.length) (regions_of a.t) (rw c.regions.ensures at c.in_default.ensures) in
+    let e = not_found (span a.mcb.base a.mcb.length) (regions_of a.t) (rw c.regions.ensures at c.in_default.ensures.value) in
     rw (ne_eqb a.mcb.length 0 c.if-mcb-eq0.false, e) c.refuse-in_default.ensures
 
 pub free_at-requires : goal.free_at-requires
 free_at-requires c =
     let a = c.args in
-    let f : FreeAt (span a.mcb.base a.mcb.length) a.t c.in-Some.at = found (span a.mcb.base a.mcb.length) a.t c.in-Some.at c.requires (rw c.regions.ensures at c.in-Some.ensures) in
+    let f : FreeAt (span a.mcb.base a.mcb.length) a.t c.in-Some.at = found (span a.mcb.base a.mcb.length) a.t c.in-Some.at c.requires (rw c.regions.ensures at c.in-Some.ensures.value) in
     rw c.regions-2.ensures (f.few, (f.first, (f.below, f.named)))
 
 pub returns : goal.returns
 unfolding freeing_part freeable
 returns c =
     let a = c.args in
-    let e = (found_edge (span a.mcb.base a.mcb.length) (regions_of a.t) c.in-Some.at (rw c.regions.ensures at c.in-Some.ensures)).0 in
+    let e = (found_edge (span a.mcb.base a.mcb.length) (regions_of a.t) c.in-Some.at (rw c.regions.ensures at c.in-Some.ensures.value)).0 in
     rw (ne_eqb a.mcb.length 0 c.if-mcb-eq0.false, e, c.done.ensures, c.with_places-table.ensures, c.free_at.ensures, c.regions-2.ensures)
