@@ -271,10 +271,10 @@ module _ (g : Geometry) (v : List ℕ) where
     way_still : (k d : ℕ) → way g v (n + 1) k d ≡ way g v n k d
     way_still k d = ap (λ (x : ℕ). way g v x k d) (add-one n) ∙ way_other n k d (λ e l. rw other)
 
-    heads_still : {heads : List ℕ} → Heads g v heads n → Heads g v heads (n + 1)
+    pub heads_still : {heads : List ℕ} → Heads g v heads n → Heads g v heads (n + 1)
     heads_still {heads} h = record { many = h.many; begins = λ k. h.begins k ∙ sym (way_still k 0) }
 
-    nodes_still : {nodes : List ℕ} → Nodes g v nodes n → Nodes g v nodes (n + 1)
+    pub nodes_still : {nodes : List ℕ} → Nodes g v nodes n → Nodes g v nodes (n + 1)
     nodes_still {nodes} h =
         record {
           long = h.long;
@@ -320,7 +320,7 @@ module _ (g : Geometry) (v : List ℕ) where
     way_stay : (k d j : ℕ) → way g v n k d ≡ suc j → alike (suc d) k own ≡ false → way g v (suc n) k (suc d) ≡ way g v n k (suc d)
     way_stay k d j h f = way_on (suc n) k d j (way_more n k d j h) ∙ low_other (is_like g v k (suc d)) (suc j) n (rw (new, f)) ∙ sym (way_on n k d j h)
 
-    heads_new : {heads : List ℕ} → Heads g v heads n → way g v n own 0 ≡ 0 → Heads g v (set heads (own % 256) (n + 1)) (n + 1)
+    pub heads_new : {heads : List ℕ} → Heads g v heads n → way g v n own 0 ≡ 0 → Heads g v (set heads (own % 256) (n + 1)) (n + 1)
     unfolding way alike
     heads_new {heads} h e = record { many = length-set heads (own % 256) (n + 1) ∙ h.many; begins = λ k. rw (add-one n) (at k (ℕ_discrete (k % 256) (own % 256))) }
       where
@@ -333,7 +333,7 @@ module _ (g : Geometry) (v : List ℕ) where
             get_or-set_other heads (own % 256) (k % 256) (suc n) 0 q ∙ h.begins k
             ∙ sym (low_other (is_like g v k 0) 0 n (rw (new, ne_eqb (k % 256) (own % 256) q)))
 
-    heads_kept : {heads : List ℕ} → Heads g v heads n → (d l : ℕ) → way g v n own d ≡ suc l → Heads g v heads (n + 1)
+    pub heads_kept : {heads : List ℕ} → Heads g v heads n → (d l : ℕ) → way g v n own d ≡ suc l → Heads g v heads (n + 1)
     unfolding way alike
     heads_kept {heads} h d l e = record { many = h.many; begins = λ k. h.begins k ∙ rw (add-one n) (at k (ℕ_discrete (k % 256) (own % 256)) (way g v n own 0) refl) }
       where
@@ -410,7 +410,7 @@ module _ (g : Geometry) (v : List ℕ) where
               rw (there j (sym z)) (next_other (bit_of d k) bit (n + 1) (byte nodes j) (omega arith) (omega (arith, turns)) apart (omega arith) none)
               ∙ old.goes_on k d j h ∙ sym (way_stay k d j h (rw (begin, e)))
 
-      nodes_new : length after ≡ 2048 → Nodes g v after (n + 1)
+      pub nodes_new : length after ≡ 2048 → Nodes g v after (n + 1)
       nodes_new long = record { long = long; goes_on = λ k d j e. rw (add-one n) (on k d j (rw (add-one n) at e)); keyed = λ j l f. key j l f (ℕ_discrete j n) (ℕ_discrete (suc j) last); unset = λ j l. blank j l (ℕ_discrete (suc j) last) }
         where
           on : (k d j : ℕ) → way g v (suc n) k d ≡ suc j → next_in (bit_of d k) (byte after j) ≡ way g v (suc n) k (suc d)
@@ -455,14 +455,14 @@ module _ (g : Geometry) (v : List ℕ) where
           let z : last ≡ suc (last - 1) = omega arith in
           rw (end.turn some) (old.goes_on own end.depth (last - 1) (end.at some ∙ z) ∙ end.none some)
 
-      linked_heads_lem : {heads : List ℕ} → Heads g v heads n → Heads g v (linked_heads heads own last n) (n + 1)
+      pub linked_heads_lem : {heads : List ℕ} → Heads g v heads n → Heads g v (linked_heads heads own last n) (n + 1)
       linked_heads_lem {heads} h = go last refl
         where
           go : (l : ℕ) → last ≡ l → Heads g v (linked_heads heads own last n) (n + 1)
           go zero z = rw z (heads_new h (end.bare z))
           go (suc l) z = rw (ne_eqb last 0 (omega arith)) (heads_kept h end.depth l (end.at (omega arith) ∙ z))
 
-      linked_nodes_lem : {nodes : List ℕ} → Nodes g v nodes n → Nodes g v (set (linked_nodes nodes last bit n) n (key_word own)) (n + 1)
+      pub linked_nodes_lem : {nodes : List ℕ} → Nodes g v nodes n → Nodes g v (set (linked_nodes nodes last bit n) n (key_word own)) (n + 1)
       linked_nodes_lem {nodes} old = nodes_new nodes (set linked n (key_word own)) last bit old end own_word there others (length-set linked n (key_word own) ∙ long)
         where
           linked : List ℕ
