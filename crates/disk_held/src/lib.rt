@@ -59,7 +59,9 @@ pub fn lowest_free(held: &[u64], d: usize, t: usize) -> usize
     b
 }
 
-// The first block behind b's word, t at most.
+// The first block behind b's word, t at most. A function of its own in the machine's code too, so that a search which passes over no full
+// word does not wait for it.
+#[inline(never)]
 fn word_end(b: usize, t: usize) -> usize
     requires { b < t }
     ensures { result ≡ min (b / word_bits * word_bits + word_bits) t }

@@ -42,7 +42,9 @@ fn take_slot(g: Geometry, volume: &[u8], i: usize, held: &mut [u64], marks: &mut
     !disk_marks::is_seen(g, volume, i, &volume[at..at + Geometry::ENTRY_BYTES], marks)
 }
 
-// The lowest bad slot; where none is bad, the words hold the blocks that the entries name.
+// The lowest bad slot; where none is bad, the words hold the blocks that the entries name. A function of its own in the machine's code too,
+// so that the loop's slot stays in a register.
+#[inline(never)]
 fn look(g: Geometry, volume: &[u8], held: &mut [u64]) -> usize
     requires volume { IsVolume g volume.now }
     requires held_value { held.old ≡ none_held }
