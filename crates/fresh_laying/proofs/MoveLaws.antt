@@ -2,7 +2,7 @@
 use mathlib.Core.Path.{◌≡◌, refl, sym, ap, ◌∙◌}
 use mathlib.Core.Bool.{Bool, true, false, cond}
 use mathlib.Core.List.{List, ◌++◌}
-use Prim.Native.Nat.{ℕ, suc, ◌+◌, ◌-◌, ◌≤◌, ◌<◌}
+use Prim.Native.Nat.{ℕ, suc, ◌+◌, ◌-◌, ◌*◌, ◌≤◌, ◌<◌}
 use native.Mathlib.Numerals.{add-one}
 use native.Mathlib.Omega.{arith}
 use lib.ListN.{length, take, drop, replicate}
@@ -11,7 +11,9 @@ use Rattle.lists.specs.Bounded.{fold}
 use Rattle.lists.specs.Bytes.{part}
 use Rattle.lists.proofs.FoldLaws.{Folded, folded_start, folded_next, folded_end}
 use Rattle.disk_geometry.specs.declared.Geometry.{Geometry}
-use Rattle.disk_geometry.specs.Geometry.{slot_start, record_start, places}
+use Rattle.disk_geometry.specs.Geometry.{lawful, blocks, records, slot_start, start, record_of, record_start, places}
+use Rattle.disk_geometry.proofs.GeometryLaws.{record_below}
+use Rattle.std.proofs.Math.Nat.{zero-mod, mod-eq_of_lt}
 use Rattle.disk_volume.specs.Entry.{Entry, block_in, with_block}
 use Rattle.disk_volume.specs.Directory.{slot_at}
 use Rattle.disk_volume.specs.Record.{record_at}
@@ -20,6 +22,19 @@ use Rattle.files.specs.Files.{is_used}
 use Rattle.fresh_volume.specs.Copy.{blocks_below, number_place, numbered, put_block}
 use Rattle.fresh_volume.proofs.NumberedLaws.{count_used, count_unused}
 use Rattle.fresh_laying.specs.CodeLaying.{move_place, move_blocks}
+
+-- record k of a block is the k-th from its first
+pub in_block : (g : Geometry) → lawful g ≡ true → (b k from : ℕ) → b < blocks g → k < records g → from ≡ record_of g b 0
+    → (from + k ≡ record_of g b k) × (from + k < blocks g * records g)
+in_block g good b k from below small e =
+    let z : record_of g b 0 + k ≡ record_of g b k = rw (zero-mod (records g), mod-eq_of_lt small) (omega arith) in
+    let s : from + k ≡ record_of g b k = ap (λ (x : ℕ). x + k) e ∙ z in
+    (s, rw s (record_below g good b k below))
+
+-- where it begins
+pub starts_in_block : (g : Geometry) → lawful g ≡ true → (b k from at : ℕ) → b < blocks g → k < records g → from ≡ record_of g b 0 → at ≡ start g (from + k) → at ≡ record_start g b k
+unfolding record_start
+starts_in_block g good b k from at below small e f = f ∙ ap (start g) (in_block g good b k from below small e).0
 
 -- `&first[at..at + 128]`, where at is the start of a record, and `&first[at..at + 16]`, where at is the start of a slot
 pub lent_record : (g : Geometry) (v : List ℕ) (b n at : ℕ) → at ≡ record_start g b n → take (at + 128 - at) (drop at v) ≡ record_at g v b n

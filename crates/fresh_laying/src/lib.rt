@@ -45,9 +45,14 @@ fn copy_block(g: Geometry, first: &[u8], b: usize, second: &mut [u8], c: usize)
     requires b_bound { (b < blocks g) × (c < blocks g) }
     ensures { second.new ≡ put_block g second.old c (record_at g first.now b) }
 {
+    let from = g.record_of(b, 0);
+    let to = g.record_of(c, 0);
     for k in 0..g.records() {
-        let at = g.record_start(b, k);
-        lay_record(g, second, c, k, &first[at..at + Geometry::RECORD_BYTES]);
+        let old = g.start(from + k);
+        let new = g.start(to + k);
+        second[new..new + Geometry::RECORD_BYTES].copy_from_slice(
+            &first[old..old + Geometry::RECORD_BYTES],
+        );
     }
 }
 
