@@ -1,23 +1,28 @@
--- The bytes passed so far were appended.
-use native.Mathlib.Omega.{arith}
-use Rattle.replay_transcript.proofs.HexLaws.{hex_more}
-use Rattle.replay_transcript.specs.Hex.{hex}
+-- The bytes of the pieces passed so far were appended, and the others are left.
+use Rattle.std.proofs.Common.{◌≡◌, ◌*◌, [], ◌++◌, length, take, sym, ◌∙◌, rules, append_assoc, append-nil}
+use Rattle.std.proofs.lemmas.List.{nil_from_length}
 use Rattle.text.proofs.WriterLaws.{none, then}
-use lib.Seq.{take_all}
-use borrow.Author.Rules.{rules}
+use Rattle.replay_transcript.specs.Hex.{hex}
+use Rattle.replay_transcript.proofs.HexLaws.{hex_append}
 use Rattle.replay_transcript.proofs.hex.put_hex.Goals as goal
 
-pub loop-b-init : goal.loop-b-init
+pub loop-piece-init : goal.loop-piece-init
 unfolding hex
-loop-b-init c = none _
+loop-piece-init c = (search rules, ([], none _, search rules))
 
-pub digit-requires : goal.digit-requires
-digit-requires c = omega (arith, c.type_inv.s c.loop-b.b-index)
-
-pub loop-b-preserved : goal.loop-b-preserved
-loop-b-preserved c =
-    rw (hex_more c.args.s.now c.loop-b.b-index (search rules))
-    (then c.loop-b.invariant (then (rw c.digit.ensures at c.byte.ensures) (rw c.digit-in-loop-b.ensures at c.byte-in-loop-b.ensures)))
+pub loop-piece-preserved : goal.loop-piece-preserved
+loop-piece-preserved c =
+    let piece = c.in-Some.piece.now in
+    let steps = c.in-Some.ensures.steps in
+    let so_far = c.loop-piece.invariant.1 in
+    let laid : take (2 * length piece) c.lay_digits.new.digits ≡ hex piece = c.lay_digits.ensures.laid in (
+      steps.0 ∙ c.loop-piece.invariant.0,
+      (so_far.0 ++ piece, rw hex_append (then so_far.1 (rw laid at c.bytes.ensures)), rw (append_assoc, ← steps.1.0) so_far.2),
+    )
 
 pub returns : goal.returns
-returns c = rw (take_all c.loop-b.b-index c.args.s.now (search rules)) at c.loop-b.invariant
+returns c =
+    let so_far = c.loop-piece.invariant.1 in
+    let end = nil_from_length _ c.in-None.ensures.steps.1.0 in
+    let all : so_far.0 ≡ c.args.s.now = sym (append-nil so_far.0) ∙ rw end at so_far.2 in
+    rw all at so_far.1

@@ -1,13 +1,18 @@
--- The bytes passed so far were appended.
-use Rattle.text.proofs.WriterLaws.{none, next, all}
+-- As many bytes as there is room for are laid at the place.
+use mathlib.Core.Path.{◌≡◌, refl, sym}
+use Prim.Native.Nat.{◌+◌, ◌-◌}
+use native.Mathlib.Omega.{arith}
 use borrow.Author.Rules.{rules}
+use lib.Seq.{drop-drop}
+use Rattle.text.proofs.TextLaws.{puts_laid}
 use Rattle.text.proofs.Writer.bytes.Goals as goal
 
-pub loop-b-init : goal.loop-b-init
-loop-b-init c = none _
-
-pub loop-b-preserved : goal.loop-b-preserved
-loop-b-preserved c = next c.args.s.now c.loop-b.b-index (search rules) c.loop-b.invariant c.byte.ensures
-
 pub returns : goal.returns
-returns c = all c.args.s.now c.loop-b.b-index (search rules) c.loop-b.invariant
+returns c =
+    let b = c.min-start.result in
+    let n = c.min-n.result in
+    let z : b + n - b ≡ n = omega arith in
+    record {
+      buffer = refl;
+      text_is = rw (z, drop-drop, c.copy_from_slice.ensures.after) (sym (puts_laid c.args.s.now c.args.self.now.out.now c.args.self.now.at b n (search rules) (search rules)));
+    }
