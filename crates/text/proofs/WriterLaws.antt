@@ -1,11 +1,9 @@
--- Laws of writers: runs of bytes in a row, a loop over bytes, a number's digits, and what a writer leaves in the buffer.
+-- Laws of writers: runs of bytes in a row, a number's digits, and what a writer leaves in the buffer.
 use mathlib.Core.Path.{◌≡◌, refl, sym, ap, ◌∙◌}
 use mathlib.Core.List.{List, [], ◌∷◌, ◌++◌}
 use Prim.Native.Nat.{ℕ, ◌+◌, ◌/◌, ◌%◌, ◌<◌, ◌≤◌}
 use native.Mathlib.Omega.{arith}
-use lib.ListN.{get_or, length, take}
-use lib.Seq.{take_all}
-use Rattle.std.proofs.lemmas.List.{take_more}
+use lib.ListN.{length}
 use Rattle.text.specs.Text.{Text, text, puts}
 use Rattle.text.specs.Decimal.{decimal}
 use Rattle.text.specs.Writer.{written, Appends}
@@ -27,13 +25,6 @@ then {u} {v} {w} {l} {m} a b = record {
 -- a number that is known by an equation, in decimal
 pub number : {v w : Writer} {m : ℕ} (n : ℕ) → m ≡ n → Appends v (decimal m) w → Appends v (decimal n) w
 number n e a = rw e at a
-
--- a loop over the bytes of s: the next byte, and the end
-pub next : {u v w : Writer} (s : List ℕ) (i : ℕ) → i < length s → Appends u (take i s) v → Appends v (get_or s i 0 ∷ []) w → Appends u (take (i + 1) s) w
-next s i h a b = rw (take_more s i 0 h) (then a b)
-
-pub all : {u v : Writer} (s : List ℕ) (i : ℕ) → length s ≤ i → Appends u (take i s) v → Appends u s v
-all s i h a = rw (take_all i s h) at a
 
 -- a number's digits: those of the number divided by ten, and the last one
 pub digits : {u v w x : Writer} {b : ℕ} (n : ℕ) → 10 ≤ n → x ≡ v → Appends u (decimal (n / 10)) v → b ≡ 48 + n % 10 → Appends x (b ∷ []) w → Appends u (decimal n) w
